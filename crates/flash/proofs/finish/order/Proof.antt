@@ -1,0 +1,69 @@
+use borrow.Author.Needs.{needs}
+use borrow.Author.Tests.{ne-eqb}
+use Rattle.flash.proofs.finish.order.Statement.{statement}
+use Rattle.flash.proofs.finish.order.Tie as tie
+
+allow-requires : tie.Need-allow-requires
+allow-requires c κs = search needs
+
+allow-requires-2 : tie.Need-allow-requires-2
+allow-requires-2 c κs = search needs
+
+allow-requires-3 : tie.Need-allow-requires-3
+allow-requires-3 c κs = search needs
+
+allow-requires-4 : tie.Need-allow-requires-4
+allow-requires-4 c κs = search needs
+
+allow-requires-5 : tie.Need-allow-requires-5
+allow-requires-5 c κs = search needs
+
+allow-requires-6 : tie.Need-allow-requires-6
+allow-requires-6 c κs = search needs
+
+returns : tie.Need-returns
+returns c = simp (c .match .keys1)
+
+returns-2 : tie.Need-returns-2
+returns-2 c = simp (c .match .keys2)
+
+returns-3 : tie.Need-returns-3
+returns-3 c = simp (c .allow .ensures, c .before .match .keys3)
+
+returns-4 : tie.Need-returns-4
+returns-4 c = simp (c .allow2 .ensures, c .before .match .keys4)
+
+returns-5 : tie.Need-returns-5
+returns-5 c = simp (c .allow3 .ensures, c .before .match .keys5)
+
+returns-6 : tie.Need-returns-6
+returns-6 c = simp (c .allow4 .ensures, c .before .match .keys6)
+
+returns-7 : tie.Need-returns-7
+returns-7 c = simp (c .allow5 .ensures, c .before .match .keys7)
+
+returns-8 : tie.Need-returns-8
+returns-8 c = simp (c .allow6 .ensures, c .before .match .keys8)
+
+returns-9 : tie.Need-returns-9
+returns-9 c = simp (ne-eqb _ _ (c .match .rest .0 .0 .0 .0 .0 .0 .0 .1), ne-eqb _ _ (c .match .rest .0 .0 .0 .0 .0 .0 .1), ne-eqb _ _ (c .match .rest .0 .0 .0 .0 .0 .1), ne-eqb _ _ (c .match .rest .0 .0 .0 .0 .1), ne-eqb _ _ (c .match .rest .0 .0 .0 .1), ne-eqb _ _ (c .match .rest .0 .0 .1), ne-eqb _ _ (c .match .rest .0 .1), ne-eqb _ _ (c .match .rest .1))
+
+pub order-spec : {M : Type 1} → statement M
+order-spec =
+    tie.close
+    (tie.spec
+    allow-requires
+    allow-requires-2
+    allow-requires-3
+    allow-requires-4
+    allow-requires-5
+    allow-requires-6
+    returns
+    returns-2
+    returns-3
+    returns-4
+    returns-5
+    returns-6
+    returns-7
+    returns-8
+    returns-9)

@@ -1,0 +1,70 @@
+use borrow.Author.Needs.{needs}
+use mathlib.Core.Path.{_≡_, sym, _∙_}
+use mathlib.Core.Bool.{Bool, true, false, not}
+use mathlib.Core.List.{List}
+use Prim.Native.Nat.{ℕ, _<_, _≤_}
+use native.Mathlib.Omega.{arith}
+use lib.ListN.{length}
+use borrow.Author.Tests.{not-true, not-false}
+use Rattle.flash.specs.Board.{Board, board, outcome, goodSize, refusing, giving, Sized}
+use Rattle.flash.specs.Buf.{gathered}
+use Rattle.flash.specs.Flash.{transferred, replied, sentChip}
+use Rattle.flash.specs.declared.Reply.{Reply}
+use Rattle.flash.proofs.Laws.{good-sized}
+use Rattle.flash.proofs.Cases.{transfer-done, transfer-refused}
+use Rattle.flash.proofs.transfer.Statement.{statement}
+use Rattle.flash.proofs.transfer.Tie as tie
+
+bad : (w : Board) (b : ℕ) (g : Bool) {r : Reply} → g ≡ goodSize (length (w .array)) → not g ≡ true → r ≡ refusing (w .chip) → outcome r (w .page) (w .array) ≡ transferred w b
+bad w b g e f h = rw h (sym (transfer-refused w b (sym e ∙ not-true g f)))
+
+fine : (w : Board) (b : ℕ) (g : Bool) {r : Reply} {p : List ℕ} → g ≡ goodSize (length (w .array)) → not g ≡ false → r ≡ giving (replied w) (sentChip w b) → p ≡ gathered (w .chip .tx) (w .page) b
+    → outcome r p (w .array) ≡ transferred w b
+fine w b g e f h k = rw (h, k) (sym (transfer-done w b (sym e ∙ not-false g f)))
+
+bounds : (n : ℕ) → Sized n → (0 < n) × (n ≤ 8388608)
+bounds n s = omega arith
+
+sized : (n : ℕ) (g : Bool) → g ≡ goodSize n → not g ≡ false → Sized n
+sized n g e f = good-sized n (sym e ∙ not-false g f)
+
+good-requires : tie.Need-good-requires
+good-requires c κs = search needs
+
+refuse-requires : tie.Need-refuse-requires
+refuse-requires c κs = search needs
+
+returns : tie.Need-returns
+returns c =
+    let a = (c .before .before .before .before .args) in
+    bad (board (a .chip) (a .page .now) (a .array .now)) (a .byte) _ (c .before .before .good2 .ensures) (c .before .if1 .taken) (c .refuse .ensures)
+
+answer-requires : tie.Need-answer-requires
+answer-requires c κs = bounds _ (sized _ _ ((c .before .good2 .ensures)) ((c .if1 .left)))
+
+push-requires : tie.Need-push-requires
+push-requires c κs = sized _ _ ((c .before .before .good2 .ensures)) ((c .before .if1 .left)) .most
+
+gather-requires : tie.Need-gather-requires
+gather-requires c κs = search needs
+
+give-requires : tie.Need-give-requires
+give-requires c κs = search needs
+
+returns-2 : tie.Need-returns-2
+returns-2 c =
+    let a = (c .before .before .before .before .before .before .before .before .args) in
+    fine (board (a .chip) (a .page .now) (a .array .now)) (a .byte) _ (c .before .before .before .before .before .before .good2 .ensures) (c .before .before .before .before .before .if1 .left) ((c .give .ensures) ∙ rw ((c .before .before .before .before .answer .ensures), (c .before .before .before .push .ensures))) (c .before .gather .ensures)
+
+pub transfer-spec : {M : Type 1} → statement M
+transfer-spec =
+    tie.close
+    (tie.spec
+    good-requires
+    refuse-requires
+    returns
+    answer-requires
+    push-requires
+    gather-requires
+    give-requires
+    returns-2)

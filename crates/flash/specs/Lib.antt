@@ -1,0 +1,14 @@
+pub mod Pick
+pub mod Board
+pub mod Buf
+pub mod Xfer
+pub mod Finish
+pub mod Flash
+pub mod Steps
+pub mod Run
+pub mod Rust
+pub mod Alike
+pub mod Table
+pub mod Sheet
+pub mod Departures
+pub mod Session
