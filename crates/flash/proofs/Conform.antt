@@ -3,7 +3,7 @@ use mathlib.Core.Path.{_≡_, refl, sym, ap, ap₂, _∙_, subst}
 use mathlib.Core.Bool.{Bool, true, false}
 use mathlib.Core.List.{List, [], _∷_, _++_, append-assoc}
 use Prim.Native.Nat.{ℕ, zero, suc, _+_, _-_, _*_, _%_, _≤_, _<_}
-use native.Mathlib.Nat.{mod-lt, mod-eq-of-lt, mod-mod-of-dvd, dvd-of-mod-eq-zero}
+use native.Mathlib.Nat.{not-suc-le-zero, mod-lt, mod-eq-of-lt, mod-mod-of-dvd, dvd-of-mod-eq-zero}
 use native.Mathlib.Omega.{arith}
 use lib.ListN.{length, take, drop, set, getD, replicate, length-drop, length-set, getD-replicate}
 use lib.Seq.{length-take-le, getD-take, getD-drop, getD-set-other}
@@ -30,7 +30,7 @@ use Rattle.flash.specs.declared.Block.the-variants.{Sector, Half, Full}
 use Rattle.flash.proofs.Bools.{either-first, both-first}
 use Rattle.flash.proofs.Place.{split}
 use Rattle.flash.proofs.Page.{program-is}
-use Rattle.flash.proofs.Laws.{good-sized, page-in, part-long}
+use Rattle.flash.proofs.Laws.{good-sized, page-in, part-long, size-2, regroup, not-empty}
 use Rattle.flash.proofs.Forget.{after-cs}
 use Rattle.flash.proofs.Runs.{after-good, select-keeps, step-view, run-view, answers-view}
 use Rattle.flash.proofs.Codes.{Unlisted, by-code}
@@ -57,9 +57,6 @@ addr-header c bs i n h = rw (at-header c bs i 0 (omega arith), at-header c bs i 
 nth-agrees : (l : List ℕ) (j b : ℕ) → (j < length l → b ≡ getD l j 0) → Agrees (nth l j) b
 nth-agrees l j b f = split j (length l) (λ h. rw (lt-ltb j (length l) h) (f h)) (λ h. rw (le-ltb j (length l) h) tt)
 
-regroup : (a i k : ℕ) → k ≤ i → a + i - k ≡ a + (i - k)
-regroup a i k h = omega arith
-
 -- the memory from the address on, after h bytes
 memory-agrees : (m : List ℕ) (w : Bool) (c : ℕ) (bs : List ℕ) (h i : ℕ) → 4 ≤ h → h ≤ i
     → Agrees (answer memory unit (state m w) (c ∷ bs) (i - h)) (getD m ((addrW (c ∷ take i bs) (length m) + i - h) % length m) 0)
@@ -80,9 +77,6 @@ jedec-agrees j = nth-agrees (0xEF ∷ 0x40 ∷ 0x17 ∷ []) j _ λ l. three j l
         let e : j ≡ 2 = omega arith in rw e
 
 -- from an even address the maker comes first, from an odd one the device
-size-2 : (n : ℕ) → Sized n → n % 2 ≡ 0
-size-2 n s = omega arith
-
 low-bit : (a b c : ℕ) → (a * 65536 + b * 256 + c) % 2 ≡ c % 2
 low-bit a b c = omega arith
 
@@ -181,8 +175,8 @@ abbrev Within : Mode → ℕ → ℕ → Type 0
 Within Rust k q = k ≤ q
 Within Strict k q = Unit {0}
 
-abbrev pub done : Mode → Bool → List ℕ → List ℕ → Act → State
-done e w m b a = state (finishArrayW a b m) (welAfter a w)
+abbrev pub done : Bool → List ℕ → List ℕ → Act → State
+done w m b a = state (finishArrayW a b m) (welAfter a w)
 
 abbrev pub whole : Mode → Bool → List ℕ → Whole
 whole e w b = record { mode = e; cs = true; wel = w; writes = 0; rx = 0; buf = b }
@@ -218,10 +212,7 @@ just-1 w Strict k l h = refl
 -- ---- the program
 burnt-is : (xs ys : List ℕ) → length xs ≡ length ys → ands xs ys ≡ burnt xs ys
 burnt-is [] ys h = refl
-burnt-is (x ∷ xs) [] h = absurd (no h)
-  where
-    no : suc (length xs) ≡ 0 → ⊥
-    no h = omega arith
+burnt-is (x ∷ xs) [] h = absurd (not-empty h)
 burnt-is (x ∷ xs) (y ∷ ys) h = ap (λ (r : List ℕ). bitAnd x y ∷ r) (burnt-is xs ys (omega arith))
 
 latched-long : (bs p : List ℕ) (off : ℕ) → length (latched p off bs) ≡ length p
@@ -290,25 +281,13 @@ module _ (e : Mode) (n : ℕ) (bs : List ℕ) where
   in-rust : (c : ℕ) → departs e n (c ∷ bs) ≡ false → Rusts e → departs Rust n (c ∷ bs) ≡ false
   in-rust c h z = subst (λ (e : Mode). departs e n (c ∷ bs) ≡ false) z h
 
-  within-20 : departs e n (0x20 ∷ bs) ≡ false → Within e (suc (length bs)) 4
-  unfolding others
-  within-20 h = within e _ 4 λ z. either-first _ _ (either-first _ _ (in-rust 0x20 h z))
+  -- of an erase, and of a chip erase
+  within-4 : (c : ℕ) → member c others ≡ false → member c (0x20 ∷ 0x52 ∷ 0xD8 ∷ []) ≡ true → departs e n (c ∷ bs) ≡ false → Within e (suc (length bs)) 4
+  within-4 c p q h = within e _ 4 λ z. either-first _ _ (either-first _ _ (rw (p, q) at (in-rust c h z)))
 
-  within-52 : departs e n (0x52 ∷ bs) ≡ false → Within e (suc (length bs)) 4
-  unfolding others
-  within-52 h = within e _ 4 λ z. either-first _ _ (either-first _ _ (in-rust 0x52 h z))
-
-  within-D8 : departs e n (0xD8 ∷ bs) ≡ false → Within e (suc (length bs)) 4
-  unfolding others
-  within-D8 h = within e _ 4 λ z. either-first _ _ (either-first _ _ (in-rust 0xD8 h z))
-
-  within-C7 : departs e n (0xC7 ∷ bs) ≡ false → Within e (suc (length bs)) 1
-  unfolding others
-  within-C7 h = within e _ 1 λ z. either-first _ _ (in-rust 0xC7 h z)
-
-  within-60 : departs e n (0x60 ∷ bs) ≡ false → Within e (suc (length bs)) 1
-  unfolding others
-  within-60 h = within e _ 1 λ z. either-first _ _ (in-rust 0x60 h z)
+  within-1 : (c : ℕ) → member c others ≡ false → member c (0x20 ∷ 0x52 ∷ 0xD8 ∷ []) ≡ false → member c (0xC7 ∷ 0x60 ∷ []) ≡ true → departs e n (c ∷ bs) ≡ false
+      → Within e (suc (length bs)) 1
+  within-1 c p q r h = within e _ 1 λ z. either-first _ _ (rw (p, q, r) at (in-rust c h z))
 
 within-02 : (e : Mode) (n : ℕ) (bs : List ℕ) → departs e n (0x02 ∷ bs) ≡ false → suc (length bs) ≤ 260
 unfolding others
@@ -320,17 +299,17 @@ maybe true x = refl
 maybe false x = tt
 
 runs : (t : Bool) (e : Mode) (w : Bool) (m b : List ℕ) (a : Act) (x : List ℕ) → finishArrayW a b m ≡ x → welAfter a w ≡ false
-    → Left (executed t x (state m w)) (done e w m b (pick t a Nothing))
+    → Left (executed t x (state m w)) (done w m b (pick t a Nothing))
 runs true e w m b a x p q = ap₂ state p q
 runs false e w m b a x p q = refl
 
 abbrev EndsAt : Mode → Bool → List ℕ → List ℕ → ℕ → Type 0
-EndsAt e w m bs c = departs e (length m) (c ∷ bs) ≡ false → Left (afterwards (state m w) (c ∷ bs)) (done e w m (c ∷ bs) (actW (whole e w (c ∷ bs))))
+EndsAt e w m bs c = departs e (length m) (c ∷ bs) ≡ false → Left (afterwards (state m w) (c ∷ bs)) (done w m (c ∷ bs) (actW (whole e w (c ∷ bs))))
 
 module _ (e : Mode) (w : Bool) (m : List ℕ) (s : Sized (length m)) (y : Bytes m) (bs : List ℕ) where
   -- the sheet's instruction is d, and the chip's order is a
-  ends : (c : ℕ) (d : Instruction) (a : Act) → instruction c ≡ d → actW (whole e w (c ∷ bs)) ≡ a → Left (afterOf d (state m w) (c ∷ bs)) (done e w m (c ∷ bs) a)
-      → Left (afterwards (state m w) (c ∷ bs)) (done e w m (c ∷ bs) (actW (whole e w (c ∷ bs))))
+  ends : (c : ℕ) (d : Instruction) (a : Act) → instruction c ≡ d → actW (whole e w (c ∷ bs)) ≡ a → Left (afterOf d (state m w) (c ∷ bs)) (done w m (c ∷ bs) a)
+      → Left (afterwards (state m w) (c ∷ bs)) (done w m (c ∷ bs) (actW (whole e w (c ∷ bs))))
   ends c d a p q h = rw (p, q) h
 
   quiet : (c : ℕ) (h : ℕ) (a : Answer) → instruction c ≡ answering h a → actW (whole e w (c ∷ bs)) ≡ Nothing → EndsAt e w m bs c
@@ -338,19 +317,19 @@ module _ (e : Mode) (w : Bool) (m : List ℕ) (s : Sized (length m)) (y : Bytes 
 
   erases : (c k : ℕ) (b : Act) → instruction c ≡ erase k → actW (whole e w (c ∷ bs)) ≡ pick (mayErase e w (suc (length bs))) b Nothing
       → finishArrayW b (c ∷ bs) m ≡ erased m (address (c ∷ bs) (length m)) k → welAfter b w ≡ false → Within e (suc (length bs)) 4
-      → Left (afterwards (state m w) (c ∷ bs)) (done e w m (c ∷ bs) (actW (whole e w (c ∷ bs))))
+      → Left (afterwards (state m w) (c ∷ bs)) (done w m (c ∷ bs) (actW (whole e w (c ∷ bs))))
   erases c k b p q x z h =
       ends c (erase k) _ p (q ∙ ap (λ (t : Bool). pick t b Nothing) (just-4 w e (suc (length bs)) h))
       (runs (both w (eqb (suc (length bs)) 4)) e w m (c ∷ bs) b (erased m (address (c ∷ bs) (length m)) k) x z)
 
   wipes : (c : ℕ) → instruction c ≡ chipErase → actW (whole e w (c ∷ bs)) ≡ pick (mayWipe e w (suc (length bs))) EraseAll Nothing
       → Within e (suc (length bs)) 1
-      → Left (afterwards (state m w) (c ∷ bs)) (done e w m (c ∷ bs) (actW (whole e w (c ∷ bs))))
+      → Left (afterwards (state m w) (c ∷ bs)) (done w m (c ∷ bs) (actW (whole e w (c ∷ bs))))
   wipes c p q h =
       ends c chipErase _ p (q ∙ ap (λ (t : Bool). pick t EraseAll Nothing) (just-1 w e (suc (length bs)) (omega arith) h))
       (runs (both w (eqb (suc (length bs)) 1)) e w m (c ∷ bs) EraseAll (replicate (length m) 255) refl refl)
 
-  no-change : (t : Bool) (c : ℕ) → t ≡ false → Left (afterOf (pick t undescribed noInstruction) (state m w) (c ∷ bs)) (done e w m (c ∷ bs) Nothing)
+  no-change : (t : Bool) (c : ℕ) → t ≡ false → Left (afterOf (pick t undescribed noInstruction) (state m w) (c ∷ bs)) (done w m (c ∷ bs) Nothing)
   no-change t c h = rw h tt
 
   pub not-other : (e : Mode) (c : ℕ) → departs e (length m) (c ∷ bs) ≡ false → member c others ≡ false
@@ -361,7 +340,7 @@ module _ (e : Mode) (w : Bool) (m : List ℕ) (s : Sized (length m)) (y : Bytes 
   idle c u = act-cons e w c bs ∙ u .order (mayProgram e w (suc (length bs))) (mayErase e w (suc (length bs))) (mayWipe e w (suc (length bs)))
 
   pub ends-agree : Bytes bs → (c : ℕ) → c < 256 → EndsAt e w m bs c
-  unfolding instruction table
+  unfolding instruction table others
   ends-agree z c₀ l₀ = by-code (λ (c : ℕ). c < 256 → EndsAt e w m bs c)
       (λ l h. ends 0x06 writeEnable Enable refl (act-cons e w 0x06 bs) (maybe (eqb (suc (length bs)) 1) (state m true)))
       (λ l h. ends 0x04 writeDisable Disable refl (act-cons e w 0x04 bs) (maybe (eqb (suc (length bs)) 1) (state m false)))
@@ -371,11 +350,11 @@ module _ (e : Mode) (w : Bool) (m : List ℕ) (s : Sized (length m)) (y : Bytes 
       (λ l. quiet 0x0B 5 memory refl (act-cons e w 0x0B bs))
       (λ l h. ends 0x02 pageProgram _ refl (act-cons e w 0x02 bs ∙ ap (λ (t : Bool). pick t Program Nothing) (just-260 w e (suc (length bs)) (within-02 e (length m) bs h)))
       (runs (both w (leb 5 (suc (length bs)))) e w m (0x02 ∷ bs) Program _ (program-agrees (0x02 ∷ bs) m s y (cons-bytes 0x02 l) (within-02 e (length m) bs h)) refl))
-      (λ l h. erases 0x20 4096 (Erase Sector) refl (act-cons e w 0x20 bs) refl refl (within-20 e (length m) bs h))
-      (λ l h. erases 0x52 32768 (Erase Half) refl (act-cons e w 0x52 bs) refl refl (within-52 e (length m) bs h))
-      (λ l h. erases 0xD8 65536 (Erase Full) refl (act-cons e w 0xD8 bs) refl refl (within-D8 e (length m) bs h))
-      (λ l h. wipes 0xC7 refl (act-cons e w 0xC7 bs) (within-C7 e (length m) bs h))
-      (λ l h. wipes 0x60 refl (act-cons e w 0x60 bs) (within-60 e (length m) bs h))
+      (λ l h. erases 0x20 4096 (Erase Sector) refl (act-cons e w 0x20 bs) refl refl (within-4 e (length m) bs 0x20 refl refl h))
+      (λ l h. erases 0x52 32768 (Erase Half) refl (act-cons e w 0x52 bs) refl refl (within-4 e (length m) bs 0x52 refl refl h))
+      (λ l h. erases 0xD8 65536 (Erase Full) refl (act-cons e w 0xD8 bs) refl refl (within-4 e (length m) bs 0xD8 refl refl h))
+      (λ l h. wipes 0xC7 refl (act-cons e w 0xC7 bs) (within-1 e (length m) bs 0xC7 refl refl refl h))
+      (λ l h. wipes 0x60 refl (act-cons e w 0x60 bs) (within-1 e (length m) bs 0x60 refl refl refl h))
       (λ l. quiet 0x9F 1 jedecId refl (act-cons e w 0x9F bs))
       (λ l. quiet 0x90 4 manufacturerDevice refl (act-cons e w 0x90 bs))
       (λ l. quiet 0xAB 4 deviceId refl (act-cons e w 0xAB bs))
@@ -394,10 +373,7 @@ append-nil (x ∷ b) = ap (λ (r : List ℕ). x ∷ r) (append-nil b)
 
 answers-at : (bs : List ℕ) (w : BoardW) (i : ℕ) → i < length bs
     → getD (answersW w (sends bs)) i 0 ≡ answerW (w .chip .mode) (w .chip .wel) (w .chip .buf ++ take (suc i) bs) (w .array)
-answers-at [] w i h = absurd (none h)
-  where
-    none : suc i ≤ 0 → ⊥
-    none h = omega arith
+answers-at [] w i h = absurd (not-suc-le-zero h)
 answers-at (b ∷ bs) w zero h = refl
 answers-at (b ∷ bs) w (suc i) h =
     answers-at bs (afterW w (byte b)) i (omega arith)
@@ -406,11 +382,11 @@ answers-at (b ∷ bs) w (suc i) h =
 ended : (bs : List ℕ) (w : BoardW) → w .chip .cs ≡ true
     → _≡_ {A = State}
     (state (afterW (runW w (sends bs)) (cs false) .array) (afterW (runW w (sends bs)) (cs false) .chip .wel))
-    (done (w .chip .mode) (w .chip .wel) (w .array) (w .chip .buf ++ bs) (actW (whole (w .chip .mode) (w .chip .wel) (w .chip .buf ++ bs))))
+    (done (w .chip .wel) (w .array) (w .chip .buf ++ bs) (actW (whole (w .chip .mode) (w .chip .wel) (w .chip .buf ++ bs))))
 ended [] w h = rw (h, append-nil (w .chip .buf))
 ended (b ∷ bs) w h =
     ended bs (afterW w (byte b)) h
-    ∙ ap (λ (l : List ℕ). done (w .chip .mode) (w .chip .wel) (w .array) l (actW (whole (w .chip .mode) (w .chip .wel) l))) (append-assoc (w .chip .buf) (b ∷ []) bs)
+    ∙ ap (λ (l : List ℕ). done (w .chip .wel) (w .array) l (actW (whole (w .chip .mode) (w .chip .wel) l))) (append-assoc (w .chip .buf) (b ∷ []) bs)
 
 ended-writes : (bs : List ℕ) (w : BoardW) → w .chip .cs ≡ true
     → afterW (runW w (sends bs)) (cs false) .chip .writes ≡ writesAfter (actW (whole (w .chip .mode) (w .chip .wel) (w .chip .buf ++ bs))) (w .chip .writes)
@@ -439,7 +415,7 @@ closes w bs g c =
     ∙ step-view (runW v (sends bs)) (cs false) (subst Good (sym (sent-array bs v)) g)
 
 pub ends-whole : (w : Board) (bs : List ℕ) → Good (w .array) → w .chip .cs ≡ false
-    → stateOf (transaction w bs) ≡ done (w .chip .mode) (w .chip .wel) (w .array) bs (actW (whole (w .chip .mode) (w .chip .wel) bs))
+    → stateOf (transaction w bs) ≡ done (w .chip .wel) (w .array) bs (actW (whole (w .chip .mode) (w .chip .wel) bs))
 ends-whole w bs g c = ap stateOf (closes w bs g c) ∙ ended bs (opening w) refl
 
 -- an instruction leaves the chip in its mode, not selected, over an array of the same kind
@@ -482,10 +458,7 @@ no-byte w = tt
 
 -- Every instruction that is not a listed departure: its answers, the array and WEL are the data sheet's.
 pub conforms : (w : Board) (bs : List ℕ) → Good (w .array) → Bytes bs → w .chip .cs ≡ false → departs (w .chip .mode) (length (w .array)) bs ≡ false → Conforms w bs
-conforms w [] g y c h = record { replies = λ i l. absurd (none i l); ends = no-byte w }
-  where
-    none : (i : ℕ) → suc i ≤ 0 → ⊥
-    none i l = omega arith
+conforms w [] g y c h = record { replies = λ i l. absurd (not-suc-le-zero l); ends = no-byte w }
 conforms w (b ∷ bs) g y c h =
     let m : List ℕ = w .array in
     let s : Sized (length m) = good-sized (length m) (g .size) in

@@ -3,7 +3,7 @@ use mathlib.Core.Path.{_≡_, refl, sym, ap, ap₂, _∙_, subst}
 use mathlib.Core.Bool.{Bool, true, false}
 use mathlib.Core.List.{List, [], _∷_, _++_}
 use Prim.Native.Nat.{ℕ, zero, suc, _+_, _-_, _%_, _≤_, _<_}
-use native.Mathlib.Nat.{mod-eq-of-lt, zero-mod}
+use native.Mathlib.Nat.{not-suc-le-zero, mod-eq-of-lt, zero-mod}
 use native.Mathlib.Omega.{arith}
 use lib.ListN.{length, take, drop, getD}
 use lib.Dec.{eqb, leb, ltb}
@@ -127,17 +127,11 @@ deviceFirst-differs w g s r (c ∷ bs) h k =
 
 -- ---- 257 bytes, the first 00 and the last FF at the same place: the Rust's leaves 00 there, the sheet's what was
 head-ands : (x : ℕ) (xs q r : List ℕ) → 0 < length q → getD (ands (x ∷ xs) q ++ r) 0 0 ≡ bitAnd x (getD q 0 0)
-head-ands x xs [] r h = absurd (none h)
-  where
-    none : 1 ≤ 0 → ⊥
-    none h = omega arith
+head-ands x xs [] r h = absurd (not-suc-le-zero h)
 head-ands x xs (y ∷ q) r h = refl
 
 head-burnt : (x : ℕ) (xs q r : List ℕ) → 0 < length q → getD (burnt (x ∷ xs) q ++ r) 0 0 ≡ bitAnd x (getD q 0 0)
-head-burnt x xs [] r h = absurd (none h)
-  where
-    none : 1 ≤ 0 → ⊥
-    none h = omega arith
+head-burnt x xs [] r h = absurd (not-suc-le-zero h)
 head-burnt x xs (y ∷ q) r h = refl
 
 rust-page : getD (andsFrom blank 0 twice) 0 0 ≡ 0
@@ -157,10 +151,7 @@ unfolding ones twice
 sheet-long = omega arith
 
 arrays-differ : (m : List ℕ) → 256 ≤ length m → Bytes m → (getD m 0 0 ≡ 0 → ⊥) → programW m 0 0 twice ≡ programmed m 0 twice → ⊥
-arrays-differ [] l y h e = absurd (none l)
-  where
-    none : 256 ≤ 0 → ⊥
-    none h = omega arith
+arrays-differ [] l y h e = absurd (not-suc-le-zero l)
 arrays-differ (x ∷ m) l y h e =
     h
     (sym (and-mask x 8 ∙ mod-eq-of-lt (y 0))
@@ -182,8 +173,8 @@ leaves-rust : (w : Board) (ds : List ℕ) → Good (w .array) → w .chip .cs �
     → stateOf (transaction w (from-0 ds)) ≡ state (programW (w .array) 0 0 ds) false
 leaves-rust w ds g s r v h =
     ends-whole w (from-0 ds) g s
-    ∙ ap₂ (λ (e : Mode) (v : Bool). done e v (w .array) (from-0 ds) (actW (whole e v (from-0 ds)))) r v
-    ∙ ap (done Rust true (w .array) (from-0 ds)) (act-0 ds h)
+    ∙ ap₂ (λ (e : Mode) (v : Bool). done v (w .array) (from-0 ds) (actW (whole e v (from-0 ds)))) r v
+    ∙ ap (done true (w .array) (from-0 ds)) (act-0 ds h)
     ∙ ap (λ (a : ℕ). state (programW (w .array) (a - a % 256) (a % 256) ds) false) (zero-mod (length (w .array)))
 
 leaves-sheet : (w : Board) (ds : List ℕ) → w .chip .wel ≡ true → 0 < length ds → afterwards (stateOf w) (from-0 ds) ≡ leaves (state (programmed (w .array) 0 ds) false)

@@ -1,21 +1,16 @@
 -- Each example of the table holds, over every array that is accepted.
 use mathlib.Core.Path.{_≡_, refl, _∙_}
-use mathlib.Core.Bool.{false}
 use mathlib.Core.List.{List, [], _∷_}
 use Prim.Native.Nat.{ℕ}
 use Rattle.flash.specs.Xfer.{kindOf}
 use Rattle.flash.specs.Run.{Good, answers}
-use Rattle.flash.proofs.Whole.{BoardW, answersW}
+use Rattle.flash.proofs.Whole.{madeW, answersW}
 use Rattle.flash.specs.Table.{made, Example, steps, table}
-use Rattle.flash.specs.declared.Mode.the-variants.{Rust}
 use Rattle.flash.proofs.Runs.{answers-view}
 
 abbrev All : {A : Type 0} → (A → Type 0) → List A → Type 0
 All P [] = Unit {0}
 All P (x ∷ xs) = P x × All P xs
-
-abbrev madeW : List ℕ → BoardW
-madeW m = record { chip = record { mode = Rust; cs = false; wel = false; writes = 0; rx = 0; buf = [] }; array = m }
 
 whole : (m : List ℕ) → All (λ (e : Example). answersW (madeW m) (steps e) ≡ e .answered) table
 unfolding kindOf

@@ -2,7 +2,7 @@
 use mathlib.Core.Path.{_≡_, refl, sym, subst}
 use mathlib.Core.Bool.{Bool, true, false}
 use mathlib.Core.List.{List}
-use Prim.Native.Nat.{ℕ, _+_, _-_, _%_, _≤_, _<_}
+use Prim.Native.Nat.{ℕ, suc, _+_, _-_, _%_, _≤_, _<_}
 use native.Mathlib.Nat.{add-sub-cancel-left}
 use native.Mathlib.Omega.{arith}
 use lib.ListN.{length, take, drop, length-drop}
@@ -54,3 +54,17 @@ came-back a k xs ys f e = rw (e, add-sub-cancel-left a k, drop-drop)
 
 pub part-long : (a k : ℕ) (xs : List ℕ) → a + k ≤ length xs → length (take k (drop a xs)) ≡ k
 part-long a k xs h = length-take-le k (drop a xs) (rw length-drop (omega arith))
+
+-- every size is even, and a whole number of pages
+pub size-2 : (n : ℕ) → Sized n → n % 2 ≡ 0
+size-2 n s = omega arith
+
+pub size-256 : (n : ℕ) → Sized n → n % 256 ≡ 0
+size-256 n s = omega arith
+
+pub regroup : (a i k : ℕ) → k ≤ i → a + i - k ≡ a + (i - k)
+regroup a i k h = omega arith
+
+-- no list of so many elements is empty
+pub not-empty : {n : ℕ} → suc n ≡ 0 → ⊥
+not-empty h = omega arith

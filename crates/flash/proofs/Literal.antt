@@ -1,9 +1,10 @@
 -- sys.rs word for word, and the chip: every run in the Rust's mode is the Rust's.
-use mathlib.Core.Path.{_≡_, refl, sym, ap, ap₂, _∙_}
+use mathlib.Core.Path.{_≡_, refl, sym, subst, ap, ap₂, _∙_}
 use mathlib.Core.Bool.{Bool, true, false, not}
 use mathlib.Core.List.{List, [], _∷_, _++_}
-use Prim.Native.Nat.{ℕ, zero, suc, _+_, _-_, _*_, _%_, _^_, _<_}
-use native.Mathlib.Nat.{mod-lt}
+use Prim.Native.Nat.{ℕ, zero, suc, _+_, _-_, _*_, _/_, _%_, _^_, _<_}
+use lib.Pow.{pow-pos, pow-add}
+use native.Mathlib.Nat.{div-lt-iff-lt-mul, div-add-mod', mod-eq-of-lt, mod-lt}
 use native.Mathlib.Omega.{arith}
 use lib.ListN.{length, drop, set, getD}
 use lib.Dec.{eqb, leb, ltb}
@@ -15,7 +16,7 @@ use Rattle.flash.specs.Xfer.{kindOf}
 use Rattle.flash.specs.Finish.{blockSize}
 use Rattle.flash.specs.Steps.{Step, cs, byte, ByteSteps}
 use Rattle.flash.specs.Run.{Bytes, Good}
-use Rattle.flash.proofs.Whole.{at, addrW, replyW, answerW, xferW, programW, actW, finishArrayW, welAfter, writesAfter, BoardW, afterW, runW, answersW}
+use Rattle.flash.proofs.Whole.{madeW, at, addrW, replyW, answerW, xferW, programW, actW, finishArrayW, welAfter, writesAfter, BoardW, afterW, runW, answersW}
 use Rattle.flash.specs.Rust.{Sys, notBelow, flashAddr, matchCmd, flashXfer, programLoop, filled, Touched, touched, finishCmd, flashFinish, flashSelect, ran, rxs}
 use Rattle.flash.specs.Alike.{seenOf, seen, AsRust}
 use Rattle.flash.specs.declared.Mode.{Mode}
@@ -45,19 +46,16 @@ addr-is b n y = ap (λ (k : ℕ). k % n) (shifts (getD b 1 0) (getD b 2 0) (getD
 low-is : (a : ℕ) → bitAnd a 0xFF ≡ a % 256
 low-is a = and-mask a 8
 
-page-is : (a : ℕ) → a < 16777216 → bitAnd a (notBelow 0x100) ≡ a - a % 256
-page-is a h = and-high a 56 8 ∙ omega arith
+-- a & !(2^k - 1) of a usize is where the part of 2^k bytes that a lies in starts
+start-is : (a j k : ℕ) → a < 2 ^ (j + k) → bitAnd a (2 ^ (j + k) - 2 ^ k) ≡ a - a % 2 ^ k
+start-is a j k h =
+    let l : a / 2 ^ k < 2 ^ j = div-lt-iff-lt-mul (pow-pos k) .1 (subst (λ (n : ℕ). a < n) (pow-add 2 j k) h) in
+    and-high a j k ∙ ap (_* 2 ^ k) (mod-eq-of-lt l) ∙ less (a / 2 ^ k * 2 ^ k) (a % 2 ^ k) a (div-add-mod' a (2 ^ k))
+  where
+    less : (x y z : ℕ) → x + y ≡ z → x ≡ z - y
+    less x y z e = omega arith
 
-sector-is : (a : ℕ) → a < 16777216 → bitAnd a (notBelow 0x1000) ≡ a - a % 4096
-sector-is a h = and-high a 52 12 ∙ omega arith
-
-half-is : (a : ℕ) → a < 16777216 → bitAnd a (notBelow 0x8000) ≡ a - a % 32768
-half-is a h = and-high a 49 15 ∙ omega arith
-
-full-is : (a : ℕ) → a < 16777216 → bitAnd a (notBelow 0x10000) ≡ a - a % 65536
-full-is a h = and-high a 48 16 ∙ omega arith
-
-addr-lt : (b : List ℕ) (n : ℕ) → Sized n → addrW b n < 16777216
+addr-lt : (b : List ℕ) (n : ℕ) → Sized n → addrW b n < 2 ^ 64
 addr-lt b n s = let h : addrW b n < n = mod-lt _ (omega arith) in omega arith
 
 loop-is : (bs m : List ℕ) (page off : ℕ) → programLoop m page off bs ≡ programW m page off bs
@@ -126,7 +124,7 @@ module _ (w : Bool) (n : ℕ) (m : List ℕ) (s : Sized (length m)) (bs : List �
       let a : ℕ = addrW (c ∷ bs) (length m) in
       ap (touched false ((n + 1) % 2 ^ 64))
       (ap (λ (a : ℕ). programLoop m (bitAnd a (notBelow 0x100)) (bitAnd a 0xFF) (drop 4 (c ∷ bs))) (addr-is (c ∷ bs) (length m) y)
-      ∙ ap₂ (λ (p o : ℕ). programLoop m p o (drop 4 (c ∷ bs))) (page-is a (addr-lt (c ∷ bs) (length m) s)) (low-is a)
+      ∙ ap₂ (λ (p o : ℕ). programLoop m p o (drop 4 (c ∷ bs))) (start-is a 56 8 (addr-lt (c ∷ bs) (length m) s)) (low-is a)
       ∙ loop-is (drop 4 (c ∷ bs)) m (a - a % 256) (a % 256))
 
   erase-is : (c : ℕ) (b : Block) (z : ℕ) → Bytes (c ∷ bs) → blockSize b ≡ z → bitAnd (addrW (c ∷ bs) (length m)) (notBelow z) ≡ addrW (c ∷ bs) (length m) - addrW (c ∷ bs) (length m) % z
@@ -156,11 +154,11 @@ module _ (w : Bool) (n : ℕ) (m : List ℕ) (s : Sized (length m)) (bs : List �
       is Finishes c 0x04 (λ y. acts 0x04 Disable (act-cons Rust w 0x04 bs) refl) λ h04.
       is Finishes c 0x02 (λ y. acts 0x02 _ (act-cons Rust w 0x02 bs) (allows _ (mayProgram Rust w (suc (length bs))) 0x02 Program _ program-test (program-is 0x02 y))) λ h02.
       is Finishes c 0x20 (λ y. acts 0x20 _ (act-cons Rust w 0x20 bs) (allows _ (mayErase Rust w (suc (length bs))) 0x20 (Erase Sector) _ erase-test
-      (erase-is 0x20 Sector 0x1000 y refl (sector-is _ (addr-lt (0x20 ∷ bs) (length m) s))))) λ h20.
+      (erase-is 0x20 Sector 0x1000 y refl (start-is _ 52 12 (addr-lt (0x20 ∷ bs) (length m) s))))) λ h20.
       is Finishes c 0x52 (λ y. acts 0x52 _ (act-cons Rust w 0x52 bs) (allows _ (mayErase Rust w (suc (length bs))) 0x52 (Erase Half) _ erase-test
-      (erase-is 0x52 Half 0x8000 y refl (half-is _ (addr-lt (0x52 ∷ bs) (length m) s))))) λ h52.
+      (erase-is 0x52 Half 0x8000 y refl (start-is _ 49 15 (addr-lt (0x52 ∷ bs) (length m) s))))) λ h52.
       is Finishes c 0xD8 (λ y. acts 0xD8 _ (act-cons Rust w 0xD8 bs) (allows _ (mayErase Rust w (suc (length bs))) 0xD8 (Erase Full) _ erase-test
-      (erase-is 0xD8 Full 0x10000 y refl (full-is _ (addr-lt (0xD8 ∷ bs) (length m) s))))) λ hD8.
+      (erase-is 0xD8 Full 0x10000 y refl (start-is _ 48 16 (addr-lt (0xD8 ∷ bs) (length m) s))))) λ hD8.
       is Finishes c 0xC7 (λ y. acts 0xC7 _ (act-cons Rust w 0xC7 bs) (allows _ (mayWipe Rust w (suc (length bs))) 0xC7 EraseAll _ wipe-test refl)) λ hC7.
       is Finishes c 0x60 (λ y. acts 0x60 _ (act-cons Rust w 0x60 bs) (allows _ (mayWipe Rust w (suc (length bs))) 0x60 EraseAll _ wipe-test refl)) λ h60.
       no-order c h06 h04 h02 h20 h52 hD8 hC7 h60
@@ -235,9 +233,6 @@ rxs-is [] w f y = refl
 rxs-is (cs on ∷ xs) w f y = ap (λ (s : Sys). rxs s xs) (select-is w on f) ∙ rxs-is xs (afterW w (cs on)) (fit-cs w on f) y
 rxs-is (byte b ∷ xs) w f y =
     ap (λ (s : Sys). s .rx ∷ rxs s xs) (xfer-is w b f (y .0)) ∙ ap (λ (l : List ℕ). xferW (w .chip) (w .array) b .rx ∷ l) (rxs-is xs (afterW w (byte b)) (fit-byte w b (y .0) f) (y .1))
-
-abbrev madeW : List ℕ → BoardW
-madeW m = record { chip = record { mode = Rust; cs = false; wel = false; writes = 0; rx = 0; buf = [] }; array = m }
 
 no-bytes : Bytes []
 no-bytes k = omega arith

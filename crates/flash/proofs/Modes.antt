@@ -3,20 +3,20 @@ use mathlib.Core.Path.{_≡_, refl, sym, ap, _∙_}
 use mathlib.Core.Bool.{Bool, true, false}
 use mathlib.Core.List.{List, [], _∷_}
 use Prim.Native.Nat.{ℕ, zero, suc, _-_, _%_, _≤_, _<_}
-use native.Mathlib.Nat.{mod-lt}
+use native.Mathlib.Nat.{not-suc-le-zero, mod-lt}
 use native.Mathlib.Omega.{arith}
 use lib.ListN.{length, take}
-use lib.Dec.{eqb, leb}
+use lib.Dec.{eqb}
 use borrow.Author.Tests.{lt-ltb, le-ltb, eqb-false, ltb-false}
-use Rattle.flash.specs.Pick.{pick, both}
-use Rattle.flash.specs.Board.{Board, Sized}
+use Rattle.flash.specs.Pick.{pick}
+use Rattle.flash.specs.Board.{Board}
 use Rattle.flash.specs.Xfer.{kindOf}
-use Rattle.flash.specs.Finish.{orderOf}
 use Rattle.flash.specs.Steps.{cs}
-use Rattle.flash.specs.Run.{Bytes, Good}
+use Rattle.flash.specs.Run.{Good}
 use Rattle.flash.proofs.Whole.{at, replyW, answerW, actW, writesAfter}
 use Rattle.flash.specs.Sheet.{others, member}
 use Rattle.flash.specs.Departures.{shaped, lacking, named, inMode, Keeps}
+use Rattle.flash.specs.declared.Mode.{Mode}
 use Rattle.flash.specs.declared.Mode.the-variants.{Rust, Strict}
 use Rattle.flash.specs.declared.Kind.{Kind}
 use Rattle.flash.specs.declared.Kind.the-variants.{Identity, Maker, Device, Status, Zero, Read, FastRead, Unique, Other}
@@ -24,7 +24,6 @@ use Rattle.flash.specs.declared.Act.{Act}
 use Rattle.flash.specs.declared.Act.the-variants.{Nothing, Enable, Disable, Program, Erase, EraseAll}
 use Rattle.flash.specs.declared.Block.the-variants.{Sector, Half, Full}
 use Rattle.flash.proofs.Bools.{no-way, either-first}
-use Rattle.flash.proofs.Laws.{good-sized}
 use Rattle.flash.proofs.Place.{split}
 use Rattle.flash.proofs.Codes.{is, by-code}
 use Rattle.flash.proofs.Conform.{done, whole, act-cons, mayProgram, mayErase, mayWipe, just-4, just-1, maker-0, just-260, answer-at, at-header, ends-whole, writes-whole, replies-whole}
@@ -96,92 +95,66 @@ answer-same : (w : Bool) (m : List ℕ) (c : ℕ) (bs : List ℕ) (i : ℕ) → 
 answer-same w m c bs zero l h = refl
 answer-same w m c bs (suc i) l h = later-same w m bs (suc i) (omega arith) l c h
 
--- ---- what is left
-module _ (w : Bool) (m : List ℕ) (s : Sized (length m)) (y : Bytes m) (bs : List ℕ) where
-  -- the two orders, and what they leave
+-- ---- what is left: the two orders
+module _ (w : Bool) (bs : List ℕ) where
   abbrev Same : ℕ → Type 0
-  Same c =
-      (actW (whole Strict w (c ∷ bs)) ≡ actW (whole Rust w (c ∷ bs)))
-      × (done Strict w m (c ∷ bs) (actW (whole Rust w (c ∷ bs))) ≡ done Rust w m (c ∷ bs) (actW (whole Rust w (c ∷ bs))))
+  Same c = actW (whole Strict w (c ∷ bs)) ≡ actW (whole Rust w (c ∷ bs))
 
-  -- an order that is the same in both modes
-  by-order : (c : ℕ) (a : Act) → actW (whole Strict w (c ∷ bs)) ≡ a → actW (whole Rust w (c ∷ bs)) ≡ a → done Strict w m (c ∷ bs) a ≡ done Rust w m (c ∷ bs) a → Same c
-  by-order c a p q h = (p ∙ sym q, ap (done Strict w m (c ∷ bs)) q ∙ h ∙ ap (done Rust w m (c ∷ bs)) (sym q))
+  -- an order that looks at no length, and one that goes by a test
+  calm : (c : ℕ) (a : Act) → ((e : Mode) → actW (whole e w (c ∷ bs)) ≡ a) → Same c
+  calm c a f = f Strict ∙ sym (f Rust)
 
-  calm : (c : ℕ) (a : Act) → done Strict w m (c ∷ bs) a ≡ done Rust w m (c ∷ bs) a → ((p e d : Bool) → orderOf c p e d ≡ a) → Same c
-  calm c a h f =
-      by-order c a
-      (act-cons Strict w c bs ∙ f (mayProgram Strict w (suc (length bs))) (mayErase Strict w (suc (length bs))) (mayWipe Strict w (suc (length bs))))
-      (act-cons Rust w c bs ∙ f (mayProgram Rust w (suc (length bs))) (mayErase Rust w (suc (length bs))) (mayWipe Rust w (suc (length bs)))) h
+  tested : (c : ℕ) (t : Mode → Bool) (a : Act) → ((e : Mode) → actW (whole e w (c ∷ bs)) ≡ pick (t e) a Nothing) → t Strict ≡ t Rust → Same c
+  tested c t a f h = f Strict ∙ ap (λ (x : Bool). pick x a Nothing) h ∙ sym (f Rust)
 
-  pick-done : (t : Bool) (c : ℕ) (a : Act) → done Strict w m (c ∷ bs) a ≡ done Rust w m (c ∷ bs) a → done Strict w m (c ∷ bs) (pick t a Nothing) ≡ done Rust w m (c ∷ bs) (pick t a Nothing)
-  pick-done true c a h = h
-  pick-done false c a h = refl
+  abbrev size : ℕ
+  size = suc (length bs)
 
-  erase-same : (c : ℕ) (b : Act) → done Strict w m (c ∷ bs) b ≡ done Rust w m (c ∷ bs) b → ((p e d : Bool) → orderOf c p e d ≡ pick e b Nothing) → suc (length bs) ≤ 4 → Same c
-  erase-same c b h f l =
-      by-order c (pick (both w (eqb (suc (length bs)) 4)) b Nothing)
-      (act-cons Strict w c bs ∙ f (mayProgram Strict w (suc (length bs))) (mayErase Strict w (suc (length bs))) (mayWipe Strict w (suc (length bs))) ∙ ap (λ (t : Bool). pick t b Nothing) (just-4 w Strict (suc (length bs)) tt))
-      (act-cons Rust w c bs ∙ f (mayProgram Rust w (suc (length bs))) (mayErase Rust w (suc (length bs))) (mayWipe Rust w (suc (length bs))) ∙ ap (λ (t : Bool). pick t b Nothing) (just-4 w Rust (suc (length bs)) l))
-      (pick-done (both w (eqb (suc (length bs)) 4)) c b h)
+  programs : size ≤ 260 → Same 0x02
+  programs l = tested 0x02 (λ e. mayProgram e w size) Program (λ e. act-cons e w 0x02 bs) (just-260 w Strict size l ∙ sym (just-260 w Rust size l))
 
-  wipe-same : (c : ℕ) → ((p e d : Bool) → orderOf c p e d ≡ pick d EraseAll Nothing) → suc (length bs) ≤ 1 → Same c
-  wipe-same c f l =
-      by-order c (pick (both w (eqb (suc (length bs)) 1)) EraseAll Nothing)
-      (act-cons Strict w c bs ∙ f (mayProgram Strict w (suc (length bs))) (mayErase Strict w (suc (length bs))) (mayWipe Strict w (suc (length bs))) ∙ ap (λ (t : Bool). pick t EraseAll Nothing) (just-1 w Strict (suc (length bs)) (omega arith) tt))
-      (act-cons Rust w c bs ∙ f (mayProgram Rust w (suc (length bs))) (mayErase Rust w (suc (length bs))) (mayWipe Rust w (suc (length bs))) ∙ ap (λ (t : Bool). pick t EraseAll Nothing) (just-1 w Rust (suc (length bs)) (omega arith) l))
-      (pick-done (both w (eqb (suc (length bs)) 1)) c EraseAll refl)
+  erases : (c : ℕ) (a : Act) → ((e : Mode) → actW (whole e w (c ∷ bs)) ≡ pick (mayErase e w size) a Nothing) → size ≤ 4 → Same c
+  erases c a f l = tested c (λ e. mayErase e w size) a f (just-4 w Strict size tt ∙ sym (just-4 w Rust size l))
 
-  program-same : suc (length bs) ≤ 260 → Same 0x02
-  program-same l =
-      by-order 0x02 (pick (both w (leb 5 (suc (length bs)))) Program Nothing)
-      (act-cons Strict w 0x02 bs ∙ ap (λ (t : Bool). pick t Program Nothing) (just-260 w Strict (suc (length bs)) l))
-      (act-cons Rust w 0x02 bs ∙ ap (λ (t : Bool). pick t Program Nothing) (just-260 w Rust (suc (length bs)) l))
-      (pick-done (both w (leb 5 (suc (length bs)))) 0x02 Program refl)
+  wipes : (c : ℕ) → ((e : Mode) → actW (whole e w (c ∷ bs)) ≡ pick (mayWipe e w size) EraseAll Nothing) → size ≤ 1 → Same c
+  wipes c f l = tested c (λ e. mayWipe e w size) EraseAll f (just-1 w Strict size (omega arith) tt ∙ sym (just-1 w Rust size (omega arith) l))
 
-  cons-bytes : Bytes bs → (c : ℕ) → c < 256 → Bytes (c ∷ bs)
-  cons-bytes z c l zero = l
-  cons-bytes z c l (suc k) = z k
-
-  same-ends : Bytes bs → (c : ℕ) → named (c ∷ bs) ≡ false → Same c
-  same-ends z =
+  same-act : (c : ℕ) → named (c ∷ bs) ≡ false → Same c
+  same-act =
       by-code (λ (c : ℕ). named (c ∷ bs) ≡ false → Same c)
-      (λ h. calm 0x06 Enable refl (λ p e d. refl))
-      (λ h. calm 0x04 Disable refl (λ p e d. refl))
-      (λ h. calm 0x05 Nothing refl (λ p e d. refl))
-      (λ h. calm 0x35 Nothing refl (λ p e d. refl))
-      (λ h. calm 0x03 Nothing refl (λ p e d. refl))
-      (λ h. calm 0x0B Nothing refl (λ p e d. refl))
-      (λ h. program-same (ltb-false 260 _ h))
-      (λ h. erase-same 0x20 (Erase Sector) refl (λ p e d. refl) (ltb-false 4 _ (either-first _ _ h)))
-      (λ h. erase-same 0x52 (Erase Half) refl (λ p e d. refl) (ltb-false 4 _ (either-first _ _ h)))
-      (λ h. erase-same 0xD8 (Erase Full) refl (λ p e d. refl) (ltb-false 4 _ (either-first _ _ h)))
-      (λ h. wipe-same 0xC7 (λ p e d. refl) (ltb-false 1 _ (either-first _ _ h)))
-      (λ h. wipe-same 0x60 (λ p e d. refl) (ltb-false 1 _ (either-first _ _ h)))
-      (λ h. calm 0x9F Nothing refl (λ p e d. refl))
-      (λ h. calm 0x90 Nothing refl (λ p e d. refl))
-      (λ h. calm 0xAB Nothing refl (λ p e d. refl))
-      (λ h. calm 0x4B Nothing refl (λ p e d. refl))
-      (λ c u h. calm c Nothing refl (u .order))
+      (λ h. calm 0x06 Enable (λ e. act-cons e w 0x06 bs))
+      (λ h. calm 0x04 Disable (λ e. act-cons e w 0x04 bs))
+      (λ h. calm 0x05 Nothing (λ e. act-cons e w 0x05 bs))
+      (λ h. calm 0x35 Nothing (λ e. act-cons e w 0x35 bs))
+      (λ h. calm 0x03 Nothing (λ e. act-cons e w 0x03 bs))
+      (λ h. calm 0x0B Nothing (λ e. act-cons e w 0x0B bs))
+      (λ h. programs (ltb-false 260 _ h))
+      (λ h. erases 0x20 (Erase Sector) (λ e. act-cons e w 0x20 bs) (ltb-false 4 _ (either-first _ _ h)))
+      (λ h. erases 0x52 (Erase Half) (λ e. act-cons e w 0x52 bs) (ltb-false 4 _ (either-first _ _ h)))
+      (λ h. erases 0xD8 (Erase Full) (λ e. act-cons e w 0xD8 bs) (ltb-false 4 _ (either-first _ _ h)))
+      (λ h. wipes 0xC7 (λ e. act-cons e w 0xC7 bs) (ltb-false 1 _ (either-first _ _ h)))
+      (λ h. wipes 0x60 (λ e. act-cons e w 0x60 bs) (ltb-false 1 _ (either-first _ _ h)))
+      (λ h. calm 0x9F Nothing (λ e. act-cons e w 0x9F bs))
+      (λ h. calm 0x90 Nothing (λ e. act-cons e w 0x90 bs))
+      (λ h. calm 0xAB Nothing (λ e. act-cons e w 0xAB bs))
+      (λ h. calm 0x4B Nothing (λ e. act-cons e w 0x4B bs))
+      (λ c u h. calm c Nothing (λ e. act-cons e w c bs ∙ u .order (mayProgram e w size) (mayErase e w size) (mayWipe e w size)))
 
 -- Strict mode differs from document 000's only where a rule is named.
-pub keeps : (w : Board) (bs : List ℕ) → Good (w .array) → Bytes bs → w .chip .cs ≡ false → named bs ≡ false → Keeps w bs
-keeps w [] g y c h =
+pub keeps : (w : Board) (bs : List ℕ) → Good (w .array) → w .chip .cs ≡ false → named bs ≡ false → Keeps w bs
+keeps w [] g c h =
     record {
-      replies = λ i l. absurd (none i l);
+      replies = λ i l. absurd (not-suc-le-zero l);
       ends = ends-whole (inMode Strict w) [] g c ∙ sym (ends-whole (inMode Rust w) [] g c);
       writes = writes-whole (inMode Strict w) [] g c ∙ sym (writes-whole (inMode Rust w) [] g c);
     }
-  where
-    none : (i : ℕ) → suc i ≤ 0 → ⊥
-    none i l = omega arith
-keeps w (b ∷ bs) g y c h =
+keeps w (b ∷ bs) g c h =
     let m : List ℕ = w .array in
-    let q = same-ends (w .chip .wel) m (good-sized (length m) (g .size)) (g .bytes) bs (λ k. y (suc k)) b h in
+    let q = same-act (w .chip .wel) bs b h in
     record {
       replies = λ i l. replies-whole (inMode Strict w) (b ∷ bs) i l g c ∙ answer-same (w .chip .wel) m b bs i (omega arith) h ∙ sym (replies-whole (inMode Rust w) (b ∷ bs) i l g c);
-      ends = ends-whole (inMode Strict w) (b ∷ bs) g c ∙ ap (done Strict (w .chip .wel) m (b ∷ bs)) (q .0) ∙ q .1 ∙ sym (ends-whole (inMode Rust w) (b ∷ bs) g c);
-      writes = writes-whole (inMode Strict w) (b ∷ bs) g c ∙ ap (λ (a : Act). writesAfter a (w .chip .writes)) (q .0) ∙ sym (writes-whole (inMode Rust w) (b ∷ bs) g c);
+      ends = ends-whole (inMode Strict w) (b ∷ bs) g c ∙ ap (done (w .chip .wel) m (b ∷ bs)) q ∙ sym (ends-whole (inMode Rust w) (b ∷ bs) g c);
+      writes = writes-whole (inMode Strict w) (b ∷ bs) g c ∙ ap (λ (a : Act). writesAfter a (w .chip .writes)) q ∙ sym (writes-whole (inMode Rust w) (b ∷ bs) g c);
     }
 
 -- ---- the strict list
@@ -196,7 +169,7 @@ lacking-plain bs =
     (λ c u h. u .plain bs)
 
 -- 01: a strict departure is listed only where it keeps document 000's behaviour. Before W-205 a program that is too long is the exception.
-pub departures-keep : (w : Board) (bs : List ℕ) → Good (w .array) → Bytes bs → w .chip .cs ≡ false → shaped lacking (length (w .array)) bs ≡ true → Keeps w bs
+pub departures-keep : (w : Board) (bs : List ℕ) → Good (w .array) → w .chip .cs ≡ false → shaped lacking (length (w .array)) bs ≡ true → Keeps w bs
 unfolding others
-departures-keep w [] g y c h = absurd (no-way h)
-departures-keep w (b ∷ bs) g y c h = keeps w (b ∷ bs) g y c (lacking-plain bs b h)
+departures-keep w [] g c h = absurd (no-way h)
+departures-keep w (b ∷ bs) g c h = keeps w (b ∷ bs) g c (lacking-plain bs b h)

@@ -13,7 +13,7 @@ use Rattle.flash.specs.Buf.{blank}
 use Rattle.flash.specs.Finish.{ands, patch}
 use Rattle.flash.proofs.Whole.{programW, andsFrom}
 use Rattle.flash.proofs.Place.{split}
-use Rattle.flash.proofs.Laws.{part-long}
+use Rattle.flash.proofs.Laws.{part-long, not-empty}
 
 -- ---- AND
 and-low : (a b : ℕ) → bitAnd a b % 2 ≡ min (a % 2) (b % 2)
@@ -39,10 +39,7 @@ and-assoc a b c = bin-ind (λ (n : ℕ). (b c : ℕ) → bitAnd (bitAnd n b) c �
 -- ---- the running AND
 set-ands : (q p : List ℕ) (k b : ℕ) → length q ≡ length p → set (ands q p) k (bitAnd (getD (ands q p) k 0) b) ≡ ands q (set p k (bitAnd (getD p k 0) b))
 set-ands [] p k b h = refl
-set-ands (x ∷ q) [] k b h = absurd (no h)
-  where
-    no : suc (length q) ≡ 0 → ⊥
-    no h = omega arith
+set-ands (x ∷ q) [] k b h = absurd (not-empty h)
 set-ands (x ∷ q) (y ∷ p) zero b h = ap (λ (z : ℕ). z ∷ ands q p) (and-assoc x y b)
 set-ands (x ∷ q) (y ∷ p) (suc k) b h = ap (λ (r : List ℕ). bitAnd x y ∷ r) (set-ands q p k b (omega arith))
 
@@ -54,10 +51,7 @@ ands-from (b ∷ bs) q p off h =
 
 ands-full : (n : ℕ) (q : List ℕ) → length q ≡ n → Bytes q → ands q (replicate n 255) ≡ q
 ands-full n [] e h = refl
-ands-full zero (x ∷ q) e h = absurd (no e)
-  where
-    no : suc (length q) ≡ 0 → ⊥
-    no h = omega arith
+ands-full zero (x ∷ q) e h = absurd (not-empty e)
 ands-full (suc n) (x ∷ q) e h = ap₂ (λ (y : ℕ) (r : List ℕ). y ∷ r) (and-mask x 8 ∙ mod-eq-of-lt (h 0)) (ands-full n q (omega arith) (λ k. h (suc k)))
 
 -- ---- the program

@@ -2,7 +2,7 @@
 use mathlib.Core.Path.{_≡_, refl, sym, ap, _∙_}
 use mathlib.Core.Bool.{Bool, true, false}
 use Prim.Native.Nat.{ℕ, suc, _+_, _-_, _%_, _≤_, _<_}
-use native.Mathlib.Nat.{mod-lt, mod-mod, mod-self, zero-mod, mod-eq-of-lt, suc-mod, add-mod-mod, mod-mod-of-dvd, dvd-of-mod-eq-zero, add-sub-cancel-left}
+use native.Mathlib.Nat.{mod-lt, mod-self, zero-mod, mod-eq-of-lt, suc-mod, add-mod-mod, mod-mod-of-dvd, dvd-of-mod-eq-zero}
 use native.Mathlib.Omega.{arith}
 use lib.Dec.{eqb, leb, ltb}
 use borrow.Author.Tests.{ne-eqb, lt-ltb, le-ltb, le-leb, lt-leb, ltb-true, ltb-false}
@@ -95,17 +95,14 @@ next-place n k s = split k 5 short round
         (λ h. rw (le-leb (4 + n) (5 + (k - 5) % n) (omega arith), full ((k - 5) % n) n (mod-lt (k - 5) (omega arith)) h, mod-self n)))
 
 -- how far a position is past the header, modulo what divides the size
-pub far-place : (d n k : ℕ) → n % d ≡ 0 → 4 ≤ k → (place n k - 4) % d ≡ (k - 4) % d
-far-place d n k h l =
+pub far-place : (d n k c : ℕ) → n % d ≡ 0 → c ≤ 5 → c ≤ k → (place n k - c) % d ≡ (k - c) % d
+far-place d n k c h f l =
     split k 5
     (λ u. rw (place-lt n k u))
-    (λ u. rw (place-ge n k u, start ((k - 5) % n), ← add-mod-mod, mod-mod-of-dvd d (k - 5) (dvd-of-mod-eq-zero d h), add-mod-mod) (ap (_% d) (back k u)))
+    (λ u. rw (place-ge n k u, start ((k - 5) % n) c f, ← add-mod-mod, mod-mod-of-dvd d (k - 5) (dvd-of-mod-eq-zero d h), add-mod-mod) (ap (_% d) (back k c u f)))
   where
-    start : (r : ℕ) → 5 + r - 4 ≡ 1 + r
-    start r = omega arith
+    start : (r c : ℕ) → c ≤ 5 → 5 + r - c ≡ 5 - c + r
+    start r c f = omega arith
 
-    back : (k : ℕ) → 5 ≤ k → 1 + (k - 5) ≡ k - 4
-    back k u = omega arith
-
-pub past-place : (n k : ℕ) → 5 ≤ k → (place n k - 5) % n ≡ (k - 5) % n
-past-place n k l = rw (place-ge n k l, add-sub-cancel-left, mod-mod)
+    back : (k c : ℕ) → 5 ≤ k → c ≤ 5 → 5 - c + (k - 5) ≡ k - c
+    back k c u f = omega arith

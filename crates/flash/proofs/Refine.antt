@@ -46,8 +46,8 @@ use Rattle.flash.specs.declared.Act.the-variants.{Nothing, Enable, Disab
 use Rattle.flash.specs.declared.Chip.{Chip}
 use Rattle.flash.specs.declared.Trans.{Trans}
 use Rattle.flash.proofs.Page.{program-is}
-use Rattle.flash.proofs.Laws.{page-in}
-use Rattle.flash.proofs.Place.{split, eqb-place, ltb-place, leb-place, long-place, next-place, far-place, past-place}
+use Rattle.flash.proofs.Laws.{page-in, size-2, size-256, regroup}
+use Rattle.flash.proofs.Place.{split, eqb-place, ltb-place, leb-place, long-place, next-place, far-place}
 
 -- ---- one more byte
 length-snoc : (b : List ℕ) (x : ℕ) → length (b ++ x ∷ []) ≡ length b + 1
@@ -76,12 +76,9 @@ ands-snoc (b ∷ bs) p off x h =
     let e : ((off + 1) % 256 + length bs) % 256 ≡ (off + suc (length bs)) % 256 = mod-add-mod (off + 1) 256 (length bs) ∙ ap (_% 256) (one-on off (length bs)) in
     ands-snoc bs q ((off + 1) % 256) x (mod-lt (off + 1) (omega arith)) ∙ ap (λ (k : ℕ). set (andsFrom q ((off + 1) % 256) bs) k (bitAnd (getD (andsFrom q ((off + 1) % 256) bs) k 0) x)) e
 
-size-256 : (n : ℕ) → Sized n → n % 256 ≡ 0
-size-256 n s = omega arith
-
 slot-is : (n : ℕ) (b : List ℕ) → Sized n → 4 ≤ length b → slot (viewT n b) ≡ (at b 3 % 256 + length (drop 4 b)) % 256
 slot-is n b s h =
-    ap (λ (k : ℕ). (at b 3 + k) % 256) (far-place 256 n (length b) (size-256 n s) h)
+    ap (λ (k : ℕ). (at b 3 + k) % 256) (far-place 256 n (length b) 4 (size-256 n s) (omega arith) h)
     ∙ add-mod-mod (at b 3) (length b - 4) 256
     ∙ sym (mod-add-mod (at b 3) 256 (length b - 4))
     ∙ ap (λ (k : ℕ). (at b 3 % 256 + k) % 256) (sym (length-drop 4 b))
@@ -141,44 +138,26 @@ jedec-is i h =
 jedec-place : (n i : ℕ) → jedec (place n i) ≡ jedec i
 jedec-place n i = rw (eqb-place n i 1 (omega arith), eqb-place n i 2 (omega arith), eqb-place n i 3 (omega arith))
 
-regroup : (a i k : ℕ) → k ≤ i → a + (i - k) ≡ a + i - k
-regroup a i k h = omega arith
-
-size-2 : (n : ℕ) → Sized n → n % 2 ≡ 0
-size-2 n s = omega arith
-
 -- a test of the position picks as the test of the length does
 guard : (n i c : ℕ) {u v : ℕ} → c ≤ 5 → (c ≤ i → u ≡ v) → pick (ltb (place n i) c) 255 u ≡ pick (ltb i c) 255 v
 guard n i c {u} {v} h f =
     ap (λ (t : Bool). pick t 255 u) (ltb-place n i c h)
     ∙ split i c (λ l. rw (lt-ltb i c l)) (λ l. rw (le-ltb i c l) (f l))
 
-read-far : (b : List ℕ) (x : ℕ) (m : List ℕ) → Sized (length m) → 4 ≤ length b
-    → readOf (viewT (length m) b) (place (length m) (length b) - 4) m ≡ getD m ((addrW (b ++ x ∷ []) (length m) + length b - 4) % length m) 0
+read-view : (c : ℕ) (b : List ℕ) (x : ℕ) (m : List ℕ) → Sized (length m) → 4 ≤ c → c ≤ 5 → c ≤ length b
+    → readOf (viewT (length m) b) (place (length m) (length b) - c) m ≡ getD m ((addrW (b ++ x ∷ []) (length m) + length b - c) % length m) 0
 unfolding readOf
-read-far b x m s l =
+read-view c b x m s h f l =
     let n = length m in
     let i = length b in
     ap (λ (k : ℕ). getD m k 0)
-    (ap (λ (k : ℕ). (addrW b n + k) % n) (far-place n n i (mod-self n) l)
-    ∙ add-mod-mod (addrW b n) (i - 4) n
-    ∙ ap (λ (k : ℕ). k % n) (regroup (addrW b n) i 4 l)
-    ∙ ap (λ (a : ℕ). (a + i - 4) % n) (sym (addr-more b x n l)))
-
-read-past : (b : List ℕ) (x : ℕ) (m : List ℕ) → Sized (length m) → 5 ≤ length b
-    → readOf (viewT (length m) b) (place (length m) (length b) - 5) m ≡ getD m ((addrW (b ++ x ∷ []) (length m) + length b - 5) % length m) 0
-unfolding readOf
-read-past b x m s l =
-    let n = length m in
-    let i = length b in
-    ap (λ (k : ℕ). getD m k 0)
-    (ap (λ (k : ℕ). (addrW b n + k) % n) (past-place n i l)
-    ∙ add-mod-mod (addrW b n) (i - 5) n
-    ∙ ap (λ (k : ℕ). k % n) (regroup (addrW b n) i 5 l)
-    ∙ ap (λ (a : ℕ). (a + i - 5) % n) (sym (addr-more b x n (omega arith))))
+    (ap (λ (k : ℕ). (addrW b n + k) % n) (far-place n n i c (mod-self n) f l)
+    ∙ add-mod-mod (addrW b n) (i - c) n
+    ∙ ap (λ (k : ℕ). k % n) (sym (regroup (addrW b n) i c l))
+    ∙ ap (λ (a : ℕ). (a + i - c) % n) (sym (addr-more b x n (omega arith))))
 
 maker-is : (e : Mode) (b : List ℕ) (x n : ℕ) → Sized n → 4 ≤ length b → makerOf e (at b 3) (place n (length b)) ≡ makerOf e (at (b ++ x ∷ []) 3) (length b)
-maker-is e b x n s l = rw (far-place 2 n (length b) (size-2 n s) l, at-more b x 3 l)
+maker-is e b x n s l = rw (far-place 2 n (length b) 4 (size-2 n s) (omega arith) l, at-more b x 3 l)
 
 reply-view : (k : Kind) (w : Whole) (x : ℕ) (m : List ℕ) → Sized (length m) → 1 ≤ length (w .buf)
     → replyTo k (w .mode) (w .wel) (viewT (length m) (w .buf)) m ≡ replyW k (w .mode) (w .wel) (w .buf ++ x ∷ []) (length (w .buf)) m
@@ -187,8 +166,8 @@ reply-view Maker w x m s l = guard (length m) (length (w .buf)) 4 (omega arith) 
 reply-view Device w x m s l = guard (length m) (length (w .buf)) 4 (omega arith) (λ h. refl)
 reply-view Status w x m s l = refl
 reply-view Zero w x m s l = refl
-reply-view Read w x m s l = guard (length m) (length (w .buf)) 4 (omega arith) (λ h. read-far (w .buf) x m s h)
-reply-view FastRead w x m s l = guard (length m) (length (w .buf)) 5 (omega arith) (λ h. read-past (w .buf) x m s h)
+reply-view Read w x m s l = guard (length m) (length (w .buf)) 4 (omega arith) (λ h. read-view 4 (w .buf) x m s (omega arith) (omega arith) h)
+reply-view FastRead w x m s l = guard (length m) (length (w .buf)) 5 (omega arith) (λ h. read-view 5 (w .buf) x m s (omega arith) (omega arith) h)
 reply-view Unique w x m s l = guard (length m) (length (w .buf)) 5 (omega arith) (λ h. refl)
 reply-view Other w x m s l = refl
 

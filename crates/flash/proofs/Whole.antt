@@ -13,6 +13,7 @@ use Rattle.flash.specs.Xfer.{kindOf, makerOf}
 use Rattle.flash.specs.Finish.{blockSize, orderOf, exactly, patch}
 use Rattle.flash.specs.Steps.{Step, cs, byte}
 use Rattle.flash.specs.declared.Mode.{Mode}
+use Rattle.flash.specs.declared.Mode.the-variants.{Rust}
 use Rattle.flash.specs.declared.Act.{Act}
 use Rattle.flash.specs.declared.Act.the-variants.{Nothing, Enable, Disable, Program, Erase, EraseAll}
 use Rattle.flash.specs.declared.Kind.{Kind}
@@ -162,3 +163,7 @@ answersW w (x ∷ xs) = saidW w x ++ answersW (afterW w x) xs
 
 abbrev pub viewB : BoardW → Board
 viewB w = board (view (length (w .array)) (w .chip)) (viewP (w .chip .buf)) (w .array)
+
+-- SpiFlash as it is made where no mode is named
+abbrev pub madeW : List ℕ → BoardW
+madeW m = record { chip = record { mode = Rust; cs = false; wel = false; writes = 0; rx = 0; buf = [] }; array = m }
