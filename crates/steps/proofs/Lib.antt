@@ -1,0 +1,4 @@
+pub mod Cases
+pub mod Texts
+pub mod Runs
+pub mod ByLines

@@ -1,0 +1,24 @@
+use Rattle.steps.proofs.Cases.{after-select}
+use Rattle.steps.specs.Machine.{world}
+use borrow.Author.Needs.{needs}
+use Rattle.steps.proofs.choose.Statement.{statement}
+use Rattle.steps.proofs.choose.Tie as tie
+
+select-requires : tie.Need-select-requires
+select-requires c κs = search needs
+
+next-line-requires : tie.Need-next-line-requires
+next-line-requires c κs = search needs
+
+quiet-requires : tie.Need-quiet-requires
+quiet-requires c κs = search needs
+
+same-length : tie.Need-same-length
+same-length c = search needs
+
+returns : tie.Need-returns
+returns c = let w = world (c .before .before .before .before .before .before .before .before .before .before .args .session) (c .before .before .before .before .before .before .before .before .before .before .args .page .now) (c .before .before .before .before .before .before .before .before .before .before .args .array .now) in after-select w _ (c .before .before .before .before .before .select .result) (c .before .before .before .before .before .select .ensures) (c .before .next-line .ensures) (c .quiet .ensures)
+
+pub choose-spec : {M : Type 1} → statement M
+choose-spec =
+    tie.close (tie.spec select-requires next-line-requires quiet-requires same-length returns)

@@ -1,0 +1,17 @@
+use Rattle.steps.proofs.Cases.{after-transfer}
+use Rattle.steps.specs.Machine.{world}
+use borrow.Author.Needs.{needs}
+use Rattle.steps.proofs.send.Statement.{statement}
+use Rattle.steps.proofs.send.Tie as tie
+
+transfer-requires : tie.Need-transfer-requires
+transfer-requires c κs = search needs
+
+next-line-requires : tie.Need-next-line-requires
+next-line-requires c κs = search needs
+
+returns : tie.Need-returns
+returns c = let w = world (c .before .before .before .before .before .before .args .session) (c .before .before .before .before .before .before .args .page .now) (c .before .before .before .before .before .before .args .array .now) in after-transfer w _ (c .before .before .transfer .result) (c .before .before .transfer .ensures) (c .next-line .ensures)
+
+pub send-spec : {M : Type 1} → statement M
+send-spec = tie.close (tie.spec transfer-requires next-line-requires returns)

@@ -1,0 +1,37 @@
+use Rattle.steps.proofs.Texts.{chain, as-text}
+use borrow.Author.Needs.{needs}
+use Rattle.steps.proofs.text.hex_line.Statement.{statement}
+use Rattle.steps.proofs.text.hex_line.Tie as tie
+
+glyph-requires : tie.Need-glyph-requires
+glyph-requires c κs = search needs
+
+put-requires : tie.Need-put-requires
+put-requires c κs = search needs
+
+glyph-requires-2 : tie.Need-glyph-requires-2
+glyph-requires-2 c κs = search needs
+
+put-requires-2 : tie.Need-put-requires-2
+put-requires-2 c κs = search needs
+
+put-requires-3 : tie.Need-put-requires-3
+put-requires-3 c κs = search needs
+
+same-length : tie.Need-same-length
+same-length c = search needs
+
+returns : tie.Need-returns
+returns c = as-text (rw ((c .before .before .before .before .before .before .before .before .before .before .before .before .glyph .ensures), (c .before .before .before .before .before .before .before .glyph2 .ensures))) (chain (chain (c .before .before .before .before .before .before .before .before .before .before .before .put .ensures) (c .before .before .before .before .before .before .put2 .ensures)) (c .before .before .put3 .ensures))
+
+pub hex-line-spec : {M : Type 1} → statement M
+hex-line-spec =
+    tie.close
+    (tie.spec
+    glyph-requires
+    put-requires
+    glyph-requires-2
+    put-requires-2
+    put-requires-3
+    same-length
+    returns)

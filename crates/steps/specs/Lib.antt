@@ -1,0 +1,4 @@
+pub mod Rule
+pub mod Text
+pub mod Machine
+pub mod Lines
