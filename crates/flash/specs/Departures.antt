@@ -43,7 +43,7 @@ anyOf (d ∷ ds) n bs = either (shaped d n bs) (anyOf ds n bs)
 abbrev pub departs : Mode → ℕ → List ℕ → Bool
 departs e n bs = anyOf (listed e) n bs
 
--- the instructions for which 01 and W-205 name a rule of strict mode
+-- the instructions for which 01 names a rule of strict mode
 abbrev pub named : List ℕ → Bool
 named bs =
     either (both (member (code bs) (0x20 ∷ 0x52 ∷ 0xD8 ∷ [])) (ltb 4 (length bs)))
