@@ -203,7 +203,7 @@ overlong-rust w g s r v h k =
     (ap (λ (s : State). s .array) (sym (leaves-rust w twice g s r v twice-some) ∙ e))
 
 -- ---- in strict mode, as 01 has it before W-205: the chip keeps WEL, and the sheet's program clears it
-strict-long : (c : Bool) (bs : List ℕ) → 260 < suc (length bs) → actW (whole Strict c (0x02 ∷ bs)) ≡ Nothing
+pub strict-long : (c : Bool) (bs : List ℕ) → 260 < suc (length bs) → actW (whole Strict c (0x02 ∷ bs)) ≡ Nothing
 strict-long c bs l = act-cons Strict c 0x02 bs ∙ rw (lt-leb (suc (length bs)) 260 l) (none (both c (ltb 4 (suc (length bs)))))
   where
     none : (t : Bool) → pick (both t false) Program Nothing ≡ Nothing
@@ -271,7 +271,7 @@ status-bytes (suc zero) = omega arith
 status-bytes (suc (suc k)) = omega arith
 
 -- what an answering kind gives at byte i
-kind-at : (w : Board) (c : ℕ) (bs : List ℕ) (i : ℕ) (k : Kind) → kindOf c ≡ k → Good (w .array) → w .chip .cs ≡ false → 1 ≤ i → i ≤ length bs
+pub kind-at : (w : Board) (c : ℕ) (bs : List ℕ) (i : ℕ) (k : Kind) → kindOf c ≡ k → Good (w .array) → w .chip .cs ≡ false → 1 ≤ i → i ≤ length bs
     → answerAt w (c ∷ bs) i ≡ replyW k (w .chip .mode) (w .chip .wel) (c ∷ take i bs) i (w .array)
 kind-at w c bs i k e g s l h =
     replies-whole w (c ∷ bs) i (omega arith) g s

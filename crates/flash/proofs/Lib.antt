@@ -16,3 +16,4 @@ pub mod Differ
 pub mod Modes
 pub mod Literal
 pub mod Sessions
+pub mod Stricts

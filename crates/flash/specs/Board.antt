@@ -1,5 +1,5 @@
 -- What a call of the flash can change, as one record; and which arrays are refused.
-use Prim.Native.Nat.{ℕ, _%_, _≤_}
+use Prim.Native.Nat.{ℕ, _%_, _^_, _≤_}
 use mathlib.Core.Bool.{Bool, true, false}
 use mathlib.Core.Path.{_≡_}
 use mathlib.Core.List.{List}
@@ -50,6 +50,13 @@ goodSize n =
     either (eqb n 65536)
     (either (eqb n 131072)
     (either (eqb n 262144) (either (eqb n 524288) (either (eqb n 1048576) (either (eqb n 2097152) (either (eqb n 4194304) (eqb n 8388608)))))))
+
+-- in 01's words; `sizes` of proofs/Laws.antt says that it is the same
+pub record Power (n : ℕ) : Type 0 where
+  pub exponent : ℕ
+  pub least : 16 ≤ exponent
+  pub most : exponent ≤ 23
+  pub power : n ≡ 2 ^ exponent
 
 -- what the steps use of such a size
 pub record Sized (n : ℕ) : Type 0 where

@@ -12,3 +12,4 @@ pub mod Table
 pub mod Sheet
 pub mod Departures
 pub mod Session
+pub mod Strict

@@ -1,7 +1,6 @@
 use borrow.Author.Needs.{needs}
 use Rattle.flash.proofs.finish.wrote.Statement.{statement}
 use Rattle.flash.proofs.finish.wrote.Tie as tie
-use Rattle.std.proofs.num.wrapping_add_u64.Reads as wrapping-add-u64-reads
 
 wrapping-add-u64-requires : tie.Need-wrapping-add-u64-requires
 wrapping-add-u64-requires c κs = search needs
