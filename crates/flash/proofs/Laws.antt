@@ -1,6 +1,6 @@
 -- Laws of sizes, of addresses within them, and of a part that was lent and has come back.
-use mathlib.Core.Path.{_≡_, refl, sym, subst}
-use mathlib.Core.Bool.{Bool, true, false}
+use mathlib.Core.Path.{_≡_, refl, sym, _∙_, subst}
+use mathlib.Core.Bool.{Bool, true, false, not}
 use mathlib.Core.List.{List}
 use Prim.Native.Nat.{ℕ, zero, suc, _+_, _-_, _%_, _^_, _≤_, _<_}
 use native.Mathlib.Nat.{add-sub-cancel-left}
@@ -8,7 +8,7 @@ use native.Mathlib.Omega.{arith}
 use lib.ListN.{length, take, drop, length-drop}
 use lib.Seq.{length-take-le, drop-drop}
 use lib.Dec.{eqb}
-use borrow.Author.Tests.{eqb-true, eqb-false}
+use borrow.Author.Tests.{eqb-true, eqb-false, not-false}
 use borrow.Rule.Slice.PartMut.{putMid}
 use Rattle.flash.specs.Pick.{either, both}
 use Rattle.flash.specs.Board.{goodSize, Power, Sized}
@@ -36,6 +36,10 @@ by-size P p16 p17 p18 p19 p20 p21 p22 p23 n e =
 
 pub good-sized : (n : ℕ) → goodSize n ≡ true → Sized n
 good-sized = by-size Sized (omega arith) (omega arith) (omega arith) (omega arith) (omega arith) (omega arith) (omega arith) (omega arith)
+
+-- after the test of the code
+pub tested-sized : (n : ℕ) (g : Bool) → g ≡ goodSize n → not g ≡ false → Sized n
+tested-sized n g e f = good-sized n (sym e ∙ not-false g f)
 
 powered : (k : ℕ) → 16 ≤ k → k ≤ 23 → Power (2 ^ k)
 powered k l h = record { exponent = k; least = l; most = h; power = refl }

@@ -5,14 +5,14 @@ use mathlib.Core.List.{List}
 use Prim.Native.Nat.{ℕ}
 use lib.ListN.{length}
 use borrow.Author.Tests.{not-true, not-false}
-use Rattle.flash.specs.Board.{Board, board, outcome, goodSize, done, refusing, giving, Sized}
+use Rattle.flash.specs.Board.{Board, board, outcome, goodSize, done, refusing, giving}
 use Rattle.flash.specs.Buf.{blank}
 use Rattle.flash.specs.Finish.{stateAfter, arrayAfter}
 use Rattle.flash.specs.Flash.{selected, selectBoard, begun, withCs, acted}
 use Rattle.flash.specs.Pick.{pick}
 use Rattle.flash.specs.declared.Chip.{Chip}
 use Rattle.flash.specs.declared.Reply.{Reply}
-use Rattle.flash.proofs.Laws.{good-sized}
+use Rattle.flash.proofs.Laws.{tested-sized}
 use Rattle.flash.proofs.Cases.{select-done, select-refused}
 use Rattle.flash.proofs.select.Statement.{statement}
 use Rattle.flash.proofs.select.Tie as tie
@@ -48,9 +48,6 @@ off-on w on {u} {v} {m} e f h k =
     taken : (c : Bool) (x y : Board) → c ≡ true → x ≡ pick c x y
     taken c x y h = rw h
 
-sized : (n : ℕ) (g : Bool) → g ≡ goodSize n → not g ≡ false → Sized n
-sized n g e f = good-sized n (sym e ∙ not-false g f)
-
 good-requires : tie.Need-good-requires
 good-requires c κs = search needs
 
@@ -67,9 +64,13 @@ give-requires c κs = search needs
 
 returns-2 : tie.Need-returns-2
 returns-2 c =
+    let at-good2 = c .before .before .before .before .good2 in
+    let at-if1 = c .before .before .before .if1 in
+    let at-if2 = c .before .before .if2 in
+    let at-if3 = c .before .if3 in
     let a = (c .before .before .before .before .before .before .args) in
     let w = board (a .chip) (a .page .now) (a .array .now) in
-    fine w w (a .on) _ (c .before .before .before .before .good2 .ensures) (c .before .before .before .if1 .left) (c .give .ensures) (on-on w (a .on) (c .before .before .if2 .taken) (c .before .if3 .taken))
+    fine w w (a .on) _ (at-good2 .ensures) (at-if1 .left) (c .give .ensures) (on-on w (a .on) (at-if2 .taken) (at-if3 .taken))
 
 clear-requires : tie.Need-clear-requires
 clear-requires c κs = search needs
@@ -82,23 +83,33 @@ give-requires-2 c κs = search needs
 
 returns-3 : tie.Need-returns-3
 returns-3 c =
+    let at-begin = c .before .begin in
+    let at-good2 = c .before .before .before .before .before .before .before .good2 in
+    let at-if1 = c .before .before .before .before .before .before .if1 in
+    let at-if2 = c .before .before .before .before .before .if2 in
+    let at-if3 = c .before .before .before .before .if3 in
+    let at-clear = c .before .before .clear in
     let a = (c .before .before .before .before .before .before .before .before .before .args) in
     let w = board (a .chip) (a .page .now) (a .array .now) in
-    let v = board (c .before .begin .result) _ (a .array .now) in
-    fine w v (a .on) _ (c .before .before .before .before .before .before .before .good2 .ensures) (c .before .before .before .before .before .before .if1 .left) (c .give2 .ensures)
-    (on-off w v (a .on) (c .before .before .before .before .before .if2 .taken) (c .before .before .before .before .if3 .left) (c .before .begin .ensures) (c .before .before .clear .ensures) refl)
+    let v = board (at-begin .result) _ (a .array .now) in
+    fine w v (a .on) _ (at-good2 .ensures) (at-if1 .left) (c .give2 .ensures)
+    (on-off w v (a .on) (at-if2 .taken) (at-if3 .left) (at-begin .ensures) (at-clear .ensures) refl)
 
 give-requires-3 : tie.Need-give-requires-3
 give-requires-3 c κs = search needs
 
 returns-4 : tie.Need-returns-4
 returns-4 c =
+    let at-good2 = c .before .before .before .before .good2 in
+    let at-if1 = c .before .before .before .if1 in
+    let at-if2 = c .before .before .if2 in
+    let at-if4 = c .before .if4 in
     let a = (c .before .before .before .before .before .before .args) in
     let w = board (a .chip) (a .page .now) (a .array .now) in
-    fine w w (a .on) _ (c .before .before .before .before .good2 .ensures) (c .before .before .before .if1 .left) (c .give3 .ensures) (off-off w (a .on) (c .before .before .if2 .left) (c .before .if4 .taken))
+    fine w w (a .on) _ (at-good2 .ensures) (at-if1 .left) (c .give3 .ensures) (off-off w (a .on) (at-if2 .left) (at-if4 .taken))
 
 finish-requires : tie.Need-finish-requires
-finish-requires c κs = sized _ _ ((c .before .before .before .before .before .good2 .ensures)) ((c .before .before .before .before .if1 .left))
+finish-requires c κs = tested-sized _ _ ((c .before .before .before .before .before .good2 .ensures)) ((c .before .before .before .before .if1 .left))
 
 with-cs-requires : tie.Need-with-cs-requires
 with-cs-requires c κs = search needs
@@ -111,10 +122,16 @@ same-length c = search needs
 
 returns-5 : tie.Need-returns-5
 returns-5 c =
+    let at-with-cs = c .before .with-cs in
+    let at-good2 = c .before .before .before .before .before .before .before .before .before .before .good2 in
+    let at-if1 = c .before .before .before .before .before .before .before .before .before .if1 in
+    let at-if2 = c .before .before .before .before .before .before .before .before .if2 in
+    let at-if4 = c .before .before .before .before .before .before .before .if4 in
+    let at-finish = c .before .before .before .before .finish in
     let a = (c .before .before .before .before .before .before .before .before .before .before .before .before .args) in
     let w = board (a .chip) (a .page .now) (a .array .now) in
-    fine w (board (c .before .with-cs .result) (a .page .now) _) (a .on) _ (c .before .before .before .before .before .before .before .before .before .before .good2 .ensures) (c .before .before .before .before .before .before .before .before .before .if1 .left) (c .give4 .ensures)
-    (off-on w (a .on) (c .before .before .before .before .before .before .before .before .if2 .left) (c .before .before .before .before .before .before .before .if4 .left) (c .before .before .before .before .finish .ensures) (c .before .with-cs .ensures))
+    fine w (board (at-with-cs .result) (a .page .now) _) (a .on) _ (at-good2 .ensures) (at-if1 .left) (c .give4 .ensures)
+    (off-on w (a .on) (at-if2 .left) (at-if4 .left) (at-finish .ensures) (at-with-cs .ensures))
 
 pub select-spec : {M : Type 1} → statement M
 select-spec =

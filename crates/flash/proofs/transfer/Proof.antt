@@ -10,7 +10,7 @@ use Rattle.flash.specs.Board.{Board, board, outcome, goodSize, refusing,
 use Rattle.flash.specs.Buf.{gathered}
 use Rattle.flash.specs.Flash.{transferred, replied, sentChip}
 use Rattle.flash.specs.declared.Reply.{Reply}
-use Rattle.flash.proofs.Laws.{good-sized}
+use Rattle.flash.proofs.Laws.{tested-sized}
 use Rattle.flash.proofs.Cases.{transfer-done, transfer-refused}
 use Rattle.flash.proofs.transfer.Statement.{statement}
 use Rattle.flash.proofs.transfer.Tie as tie
@@ -25,9 +25,6 @@ fine w b g e f h k = rw (h, k) (sym (transfer-done w b (sym e ∙ not-false g f)
 bounds : (n : ℕ) → Sized n → (0 < n) × (n ≤ 8388608)
 bounds n s = omega arith
 
-sized : (n : ℕ) (g : Bool) → g ≡ goodSize n → not g ≡ false → Sized n
-sized n g e f = good-sized n (sym e ∙ not-false g f)
-
 good-requires : tie.Need-good-requires
 good-requires c κs = search needs
 
@@ -40,10 +37,10 @@ returns c =
     bad (board (a .chip) (a .page .now) (a .array .now)) (a .byte) _ (c .before .before .good2 .ensures) (c .before .if1 .taken) (c .refuse .ensures)
 
 answer-requires : tie.Need-answer-requires
-answer-requires c κs = bounds _ (sized _ _ ((c .before .good2 .ensures)) ((c .if1 .left)))
+answer-requires c κs = bounds _ (tested-sized _ _ ((c .before .good2 .ensures)) ((c .if1 .left)))
 
 push-requires : tie.Need-push-requires
-push-requires c κs = sized _ _ ((c .before .before .good2 .ensures)) ((c .before .if1 .left)) .most
+push-requires c κs = tested-sized _ _ ((c .before .before .good2 .ensures)) ((c .before .if1 .left)) .most
 
 gather-requires : tie.Need-gather-requires
 gather-requires c κs = search needs
@@ -53,8 +50,14 @@ give-requires c κs = search needs
 
 returns-2 : tie.Need-returns-2
 returns-2 c =
+    let at-good2 = c .before .before .before .before .before .before .good2 in
+    let at-if1 = c .before .before .before .before .before .if1 in
+    let at-answer = c .before .before .before .before .answer in
+    let at-push = c .before .before .before .push in
+    let at-gather = c .before .gather in
     let a = (c .before .before .before .before .before .before .before .before .args) in
-    fine (board (a .chip) (a .page .now) (a .array .now)) (a .byte) _ (c .before .before .before .before .before .before .good2 .ensures) (c .before .before .before .before .before .if1 .left) ((c .give .ensures) ∙ rw ((c .before .before .before .before .answer .ensures), (c .before .before .before .push .ensures))) (c .before .gather .ensures)
+    fine (board (a .chip) (a .page .now) (a .array .now)) (a .byte) _ (at-good2 .ensures) (at-if1 .left)
+    ((c .give .ensures) ∙ rw ((at-answer .ensures), (at-push .ensures))) (at-gather .ensures)
 
 pub transfer-spec : {M : Type 1} → statement M
 transfer-spec =

@@ -17,7 +17,12 @@ same-length : tie.Need-same-length
 same-length c = search needs
 
 returns : tie.Need-returns
-returns c = let w = world (c .before .before .before .before .before .before .before .before .before .before .args .session) (c .before .before .before .before .before .before .before .before .before .before .args .page .now) (c .before .before .before .before .before .before .before .before .before .before .args .array .now) in after-select w _ (c .before .before .before .before .before .select .result) (c .before .before .before .before .before .select .ensures) (c .before .next-line .ensures) (c .quiet .ensures)
+returns c =
+    let at-args = c .before .before .before .before .before .before .before .before .before .before .args in
+    let at-select = c .before .before .before .before .before .select in
+    let at-next-line = c .before .next-line in
+    let w = world (at-args .session) (at-args .page .now) (at-args .array .now) in
+    after-select w _ (at-select .result) (at-select .ensures) (at-next-line .ensures) (c .quiet .ensures)
 
 pub choose-spec : {M : Type 1} → statement M
 choose-spec =

@@ -35,22 +35,44 @@ same-length : tie.Need-same-length
 same-length c = search needs
 
 returns : tie.Need-returns
-returns c = let w = world (c .before .before .before .before .before .before .before .before .before .args .session) (c .before .before .before .before .before .before .before .before .before .args .page .now) (c .before .before .before .before .before .before .before .before .before .args .array .now) in by-step w (c .before .before .before .before .before .before .before .step-of .ensures) (c .before .before .before .before .before .enum-told .given .1) (c .before .before .choose .ensures)
+returns c =
+    let at-args = c .before .before .before .before .before .before .before .before .before .args in
+    let at-step-of = c .before .before .before .before .before .before .before .step-of in
+    let at-enum-told = c .before .before .before .before .before .enum-told in
+    let at-choose = c .before .before .choose in
+    let w = world (at-args .session) (at-args .page .now) (at-args .array .now) in
+    by-step w (at-step-of .ensures) (at-enum-told .given .1) (at-choose .ensures)
 
 same-length-2 : tie.Need-same-length-2
 same-length-2 c = search needs
 
 returns-2 : tie.Need-returns-2
-returns-2 c = let w = world (c .before .before .before .before .before .before .before .before .before .args .session) (c .before .before .before .before .before .before .before .before .before .args .page .now) (c .before .before .before .before .before .before .before .before .before .args .array .now) in by-step w (c .before .before .before .before .before .before .before .step-of .ensures) (c .before .before .before .before .before .enum-told2 .given .1) (c .before .before .choose2 .ensures)
+returns-2 c =
+    let at-args = c .before .before .before .before .before .before .before .before .before .args in
+    let at-step-of = c .before .before .before .before .before .before .before .step-of in
+    let at-enum-told2 = c .before .before .before .before .before .enum-told2 in
+    let at-choose2 = c .before .before .choose2 in
+    let w = world (at-args .session) (at-args .page .now) (at-args .array .now) in
+    by-step w (at-step-of .ensures) (at-enum-told2 .given .1) (at-choose2 .ensures)
 
 same-length-3 : tie.Need-same-length-3
 same-length-3 c = search needs
 
 returns-3 : tie.Need-returns-3
-returns-3 c = let w = world (c .before .before .before .before .before .before .before .before .args .session) (c .before .before .before .before .before .before .before .before .args .page .now) (c .before .before .before .before .before .before .before .before .args .array .now) in by-step w (c .before .before .before .before .before .before .step-of .ensures) (c .before .before .before .before .step .given .1) (c .send .ensures)
+returns-3 c =
+    let at-args = c .before .before .before .before .before .before .before .before .args in
+    let at-step-of = c .before .before .before .before .before .before .step-of in
+    let at-step = c .before .before .before .before .step in
+    let w = world (at-args .session) (at-args .page .now) (at-args .array .now) in
+    by-step w (at-step-of .ensures) (at-step .given .1) (c .send .ensures)
 
 returns-4 : tie.Need-returns-4
-returns-4 c = let w = world (c .before .before .before .before .before .args .session) (c .before .before .before .before .before .args .page .now) (c .before .before .before .before .before .args .array .now) in by-step w (c .before .before .before .step-of .ensures) (c .before .enum-told3 .given .1) (rw (c .reject .ensures))
+returns-4 c =
+    let at-args = c .before .before .before .before .before .args in
+    let at-step-of = c .before .before .before .step-of in
+    let at-enum-told3 = c .before .enum-told3 in
+    let w = world (at-args .session) (at-args .page .now) (at-args .array .now) in
+    by-step w (at-step-of .ensures) (at-enum-told3 .given .1) (rw (c .reject .ensures))
 
 pub end-line-spec : {M : Type 1} → statement M
 end-line-spec =

@@ -9,7 +9,11 @@ quiet-requires : tie.Need-quiet-requires
 quiet-requires c κs = search needs
 
 returns : tie.Need-returns
-returns c = let w = world (c .before .before .before .args .session) (c .before .before .before .args .page .now) (c .before .before .before .args .array .now) in unsaid _ _ (c .quiet .ensures) ∙ over-finished w (c .before .if1 .taken)
+returns c =
+    let at-args = c .before .before .before .args in
+    let at-if1 = c .before .if1 in
+    let w = world (at-args .session) (at-args .page .now) (at-args .array .now) in
+    unsaid _ _ (c .quiet .ensures) ∙ over-finished w (at-if1 .taken)
 
 is-empty-requires : tie.Need-is-empty-requires
 is-empty-requires c κs = search needs
@@ -18,7 +22,13 @@ quiet-requires-2 : tie.Need-quiet-requires-2
 quiet-requires-2 c κs = search needs
 
 returns-2 : tie.Need-returns-2
-returns-2 c = let w = world (c .before .before .before .before .before .args .session) (c .before .before .before .before .before .args .page .now) (c .before .before .before .before .before .args .array .now) in unsaid _ _ (c .quiet2 .ensures) ∙ between-finished w (c .before .before .before .if1 .left) (sym (c .before .before .is-empty .ensures) ∙ (c .before .if2 .taken))
+returns-2 c =
+    let at-args = c .before .before .before .before .before .args in
+    let at-if1 = c .before .before .before .if1 in
+    let at-is-empty = c .before .before .is-empty in
+    let at-if2 = c .before .if2 in
+    let w = world (at-args .session) (at-args .page .now) (at-args .array .now) in
+    unsaid _ _ (c .quiet2 .ensures) ∙ between-finished w (at-if1 .left) (sym (at-is-empty .ensures) ∙ (at-if2 .taken))
 
 end-line-requires : tie.Need-end-line-requires
 end-line-requires c κs = search needs
@@ -27,7 +37,14 @@ same-length : tie.Need-same-length
 same-length c = search needs
 
 returns-3 : tie.Need-returns-3
-returns-3 c = let w = world (c .before .before .before .before .before .before .before .before .before .args .session) (c .before .before .before .before .before .before .before .before .before .args .page .now) (c .before .before .before .before .before .before .before .before .before .args .array .now) in (c .before .before .end-line .ensures) ∙ within-finished w (c .before .before .before .before .before .before .before .if1 .left) (sym (c .before .before .before .before .before .before .is-empty .ensures) ∙ (c .before .before .before .before .before .if2 .left))
+returns-3 c =
+    let at-args = c .before .before .before .before .before .before .before .before .before .args in
+    let at-end-line = c .before .before .end-line in
+    let at-if1 = c .before .before .before .before .before .before .before .if1 in
+    let at-is-empty = c .before .before .before .before .before .before .is-empty in
+    let at-if2 = c .before .before .before .before .before .if2 in
+    let w = world (at-args .session) (at-args .page .now) (at-args .array .now) in
+    (at-end-line .ensures) ∙ within-finished w (at-if1 .left) (sym (at-is-empty .ensures) ∙ (at-if2 .left))
 
 pub finish-spec : {M : Type 1} → statement M
 finish-spec =

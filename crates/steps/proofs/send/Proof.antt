@@ -11,7 +11,11 @@ next-line-requires : tie.Need-next-line-requires
 next-line-requires c κs = search needs
 
 returns : tie.Need-returns
-returns c = let w = world (c .before .before .before .before .before .before .args .session) (c .before .before .before .before .before .before .args .page .now) (c .before .before .before .before .before .before .args .array .now) in after-transfer w _ (c .before .before .transfer .result) (c .before .before .transfer .ensures) (c .next-line .ensures)
+returns c =
+    let at-args = c .before .before .before .before .before .before .args in
+    let at-transfer = c .before .before .transfer in
+    let w = world (at-args .session) (at-args .page .now) (at-args .array .now) in
+    after-transfer w _ (at-transfer .result) (at-transfer .ensures) (c .next-line .ensures)
 
 pub send-spec : {M : Type 1} → statement M
 send-spec = tie.close (tie.spec transfer-requires next-line-requires returns)

@@ -67,9 +67,11 @@ sub-start c = search needs
 
 program-page-requires : tie.Need-program-page-requires
 program-page-requires c κs =
+    let at-address = c .before .before .before .before .address in
+    let at-pre = c .before .before .before .before .before .before .before .pre in
     let a = (c .before .before .before .before .before .before .before .args) in
     let n = length (a .array .now) in
-    page-in n (c .before .before .before .before .address .result) (c .before .before .before .before .before .before .before .pre) (addr-lt (a .chip .tx) n _ (c .before .before .before .before .before .before .before .pre) (c .before .before .before .before .address .ensures))
+    page-in n (at-address .result) at-pre (addr-lt (a .chip .tx) n _ at-pre (at-address .ensures))
 
 wrote-requires : tie.Need-wrote-requires
 wrote-requires c κs = search needs
@@ -88,8 +90,13 @@ sub-start-2 c = mod-le _ _
 
 erase-block-requires : tie.Need-erase-block-requires
 erase-block-requires c κs =
+    let at-act = c .before .before .before .act in
+    let at-address = c .before .before .before .before .before .before .address in
+    let at-size-of = c .before .size-of in
+    let at-pre = c .before .before .before .before .before .before .before .before .before .pre in
     let a = (c .before .before .before .before .before .before .before .before .before .args) in
-    fits-block (c .before .before .before .act .given .0 .0) (a .chip .tx) (length (a .array .now)) (c .before .before .before .before .before .before .address .result) (c .before .size-of .result) (c .before .before .before .before .before .before .before .before .before .pre) (c .before .before .before .before .before .before .address .ensures) (c .before .size-of .ensures)
+    fits-block (at-act .given .0 .0) (a .chip .tx) (length (a .array .now)) (at-address .result) (at-size-of .result) at-pre (at-address .ensures)
+    (at-size-of .ensures)
 
 wrote-requires-2 : tie.Need-wrote-requires-2
 wrote-requires-2 c κs = search needs
@@ -110,40 +117,56 @@ returns c =
 
 returns-2 : tie.Need-returns-2
 returns-2 c =
+    let at-decide = c .before .before .before .decide in
+    let at-enum-told2 = c .before .enum-told2 in
     let a = (c .before .before .before .before .before .before .before .args) in
-    arm (a .chip) (a .page .now) (a .array .now) Enable (c .before .before .before .decide .ensures) (c .before .enum-told2 .given .1) (c .with-wel .ensures) refl
+    arm (a .chip) (a .page .now) (a .array .now) Enable (at-decide .ensures) (at-enum-told2 .given .1) (c .with-wel .ensures) refl
 
 returns-3 : tie.Need-returns-3
 returns-3 c =
+    let at-decide = c .before .before .before .decide in
+    let at-enum-told3 = c .before .enum-told3 in
     let a = (c .before .before .before .before .before .before .before .args) in
-    arm (a .chip) (a .page .now) (a .array .now) Disable (c .before .before .before .decide .ensures) (c .before .enum-told3 .given .1) (c .with-wel2 .ensures) refl
+    arm (a .chip) (a .page .now) (a .array .now) Disable (at-decide .ensures) (at-enum-told3 .given .1) (c .with-wel2 .ensures) refl
 
 same-length : tie.Need-same-length
 same-length c = search needs
 
 returns-4 : tie.Need-returns-4
 returns-4 c =
+    let at-decide = c .before .before .before .before .before .before .before .decide in
+    let at-enum-told4 = c .before .before .before .before .before .enum-told4 in
+    let at-address = c .before .before .before .before .before .before .before .before .address in
+    let at-program-page = c .before .before .before .program-page in
     let a = (c .before .before .before .before .before .before .before .before .before .before .before .args) in
-    arm (a .chip) (a .page .now) (a .array .now) Program (c .before .before .before .before .before .before .before .decide .ensures) (c .before .before .before .before .before .enum-told4 .given .1) (c .wrote .ensures)
-    (programmed (a .chip .tx) (a .page .now) (a .array .now) _ _ (c .before .before .before .before .before .before .before .before .address .ensures) (c .before .before .before .program-page .ensures))
+    arm (a .chip) (a .page .now) (a .array .now) Program (at-decide .ensures) (at-enum-told4 .given .1) (c .wrote .ensures)
+    (programmed (a .chip .tx) (a .page .now) (a .array .now) _ _ (at-address .ensures) (at-program-page .ensures))
 
 same-length-2 : tie.Need-same-length-2
 same-length-2 c = search needs
 
 returns-5 : tie.Need-returns-5
 returns-5 c =
+    let at-act = c .before .before .before .before .before .before .before .act in
+    let at-decide = c .before .before .before .before .before .before .before .before .before .decide in
+    let at-address = c .before .before .before .before .before .before .before .before .before .before .address in
+    let at-size-of = c .before .before .before .before .before .size-of in
+    let at-erase-block = c .before .before .before .erase-block in
     let a = (c .before .before .before .before .before .before .before .before .before .before .before .before .before .args) in
-    let b : Block = (c .before .before .before .before .before .before .before .act .given .0 .0) in
-    arm (a .chip) (a .page .now) (a .array .now) (Erase b) (c .before .before .before .before .before .before .before .before .before .decide .ensures) (c .before .before .before .before .before .before .before .act .given .1) (c .wrote2 .ensures)
-    (erased b (a .chip .tx) (a .page .now) (a .array .now) _ _ _ (c .before .before .before .before .before .before .before .before .before .before .address .ensures) (c .before .before .before .before .before .size-of .ensures) (c .before .before .before .erase-block .ensures))
+    let b : Block = (at-act .given .0 .0) in
+    arm (a .chip) (a .page .now) (a .array .now) (Erase b) (at-decide .ensures) (at-act .given .1) (c .wrote2 .ensures)
+    (erased b (a .chip .tx) (a .page .now) (a .array .now) _ _ _ (at-address .ensures) (at-size-of .ensures) (at-erase-block .ensures))
 
 same-length-3 : tie.Need-same-length-3
 same-length-3 c = search needs
 
 returns-6 : tie.Need-returns-6
 returns-6 c =
+    let at-decide = c .before .before .before .before .before .before .before .decide in
+    let at-enum-told5 = c .before .before .before .before .before .enum-told5 in
+    let at-fill = c .before .before .before .fill in
     let a = (c .before .before .before .before .before .before .before .before .before .before .before .args) in
-    arm (a .chip) (a .page .now) (a .array .now) EraseAll (c .before .before .before .before .before .before .before .decide .ensures) (c .before .before .before .before .before .enum-told5 .given .1) (c .with-wel3 .ensures) (c .before .before .before .fill .ensures)
+    arm (a .chip) (a .page .now) (a .array .now) EraseAll (at-decide .ensures) (at-enum-told5 .given .1) (c .with-wel3 .ensures) (at-fill .ensures)
 
 pub finish-spec : {M : Type 1} → statement M
 finish-spec =

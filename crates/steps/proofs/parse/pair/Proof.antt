@@ -16,7 +16,11 @@ returns c = rw (← (c .before .before .digit .ensures), ← (c .before .digit2 
 
 returns-2 : tie.Need-returns-2
 unfolding pairOf
-returns-2 c = rw (← (c .before .before .before .digit .ensures), ← (c .before .before .digit2 .ensures), lt-ltb _ _ (c .before .if1 .left), le-ltb _ _ (c .if2 .taken))
+returns-2 c =
+    let at-digit = c .before .before .before .digit in
+    let at-digit2 = c .before .before .digit2 in
+    let at-if1 = c .before .if1 in
+    rw (← (at-digit .ensures), ← (at-digit2 .ensures), lt-ltb _ _ (at-if1 .left), le-ltb _ _ (c .if2 .taken))
 
 mul-t6 : tie.Need-mul-t6
 mul-t6 c = search needs
@@ -26,7 +30,11 @@ add-t7 c = search needs
 
 returns-3 : tie.Need-returns-3
 unfolding pairOf
-returns-3 c = rw (← (c .before .before .before .digit .ensures), ← (c .before .before .digit2 .ensures), lt-ltb _ _ (c .before .if1 .left), lt-ltb _ _ (c .if2 .left))
+returns-3 c =
+    let at-digit = c .before .before .before .digit in
+    let at-digit2 = c .before .before .digit2 in
+    let at-if1 = c .before .if1 in
+    rw (← (at-digit .ensures), ← (at-digit2 .ensures), lt-ltb _ _ (at-if1 .left), lt-ltb _ _ (c .if2 .left))
 
 pub pair-spec : {M : Type 1} → statement M
 pair-spec =

@@ -22,11 +22,16 @@ same-length-2 c = search needs
 
 returns : tie.Need-returns
 returns c =
-    let t = told (c .before .before .before .before .before .before .before .before .before .finish .result) (c .before .before .before .before .before .before .before .before .before .finish .last .1 .0) (c .before .before .before .before .before .before .before .before .before .finish .last .1 .1 .0) in
-    (counts (c .before .before .before .spell .ensures) (omega (arith, text-long (t .said), (c .before .before .before .spell .kept .0))), closes-bad t (c .before .before .before .spell .ensures .kept) (c .if1 .taken) ∙ ap closed (c .before .before .before .before .before .before .before .before .before .finish .ensures))
+    let at-finish = c .before .before .before .before .before .before .before .before .before .finish in
+    let at-spell = c .before .before .before .spell in
+    let t = told (at-finish .result) (at-finish .last .1 .0) (at-finish .last .1 .1 .0) in
+    (counts (at-spell .ensures) (omega (arith, text-long (t .said), (at-spell .kept .0))), closes-bad t (at-spell .ensures .kept) (c .if1 .taken) ∙ ap closed (at-finish .ensures))
 
 last-line-requires : tie.Need-last-line-requires
-last-line-requires c κs = omega (arith, (c .before .before .before .before .before .spell .ensures .next), text-long (c .before .before .before .before .before .before .before .before .before .before .before .finish .result .said), (c .before .before .before .before .before .spell .kept .0))
+last-line-requires c κs =
+    let at-spell = c .before .before .before .before .before .spell in
+    let at-finish = c .before .before .before .before .before .before .before .before .before .before .before .finish in
+    omega (arith, (at-spell .ensures .next), text-long (at-finish .result .said), (at-spell .kept .0))
 
 same-length-3 : tie.Need-same-length-3
 same-length-3 c = search needs
@@ -36,9 +41,16 @@ same-length-4 c = search needs
 
 returns-2 : tie.Need-returns-2
 returns-2 c =
-    let t = told (c .before .before .before .before .before .before .before .before .before .before .before .before .before .before .finish .result) (c .before .before .before .before .before .before .before .before .before .before .before .before .before .before .finish .last .1 .0) (c .before .before .before .before .before .before .before .before .before .before .before .before .before .before .finish .last .1 .1 .0) in
-    let p = chain (c .before .before .before .before .before .before .before .before .spell .ensures) (c .before .before .last-line .ensures) in
-    (counts p (rw length-append (omega (arith, text-long (t .said), last-long (t .world .session .chip .wel) (t .world .session .chip .writes) (t .world .array), (c .before .before .before .before .before .before .before .before .spell .kept .0), (c .before .before .last-line .kept .0)))), closes-well t (p .kept) (c .before .before .before .before .before .if1 .left) ∙ ap closed (c .before .before .before .before .before .before .before .before .before .before .before .before .before .before .finish .ensures))
+    let at-finish = c .before .before .before .before .before .before .before .before .before .before .before .before .before .before .finish in
+    let at-spell = c .before .before .before .before .before .before .before .before .spell in
+    let at-last-line = c .before .before .last-line in
+    let at-if1 = c .before .before .before .before .before .if1 in
+    let t = told (at-finish .result) (at-finish .last .1 .0) (at-finish .last .1 .1 .0) in
+    let p = chain (at-spell .ensures) (at-last-line .ensures) in
+    let l = last-long (t .world .session .chip .wel) (t .world .session .chip .writes) (t .world .array) in (
+      counts p (rw length-append (omega (arith, (c .before .before .before .before .before .before .before .before .before .before .before .before .before .before .before .before .before .before .before .pre), text-long (t .said), l, at-spell .kept .0, at-last-line .kept .0))),
+      closes-well t (p .kept) (at-if1 .left) ∙ ap closed (at-finish .ensures),
+    )
 
 pub close-spec : {M : Type 1} → statement M
 close-spec =

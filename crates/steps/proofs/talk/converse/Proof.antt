@@ -25,7 +25,11 @@ loop-less : tie.Need-loop-less Inv-loop μ-loop
 loop-less c = omega arith
 
 loop-again : tie.Need-loop-again Inv-loop μ-loop
-loop-again c = let i = (c .before .before .before .before .before .before .before .before .loop .inv) in ((c .before .before .before .listen .kept .1 .1 .1 .1 .0) ∙ i .0, hears-more (i .1) (c .before .before .before .listen .ensures))
+loop-again c =
+    let at-loop = c .before .before .before .before .before .before .before .before .loop in
+    let at-listen = c .before .before .before .listen in
+    let i = (at-loop .inv) in
+    ((at-listen .kept .1 .1 .1 .1 .0) ∙ i .0, hears-more (i .1) (at-listen .ensures))
 
 same-length : tie.Need-same-length Inv-loop μ-loop
 same-length c = (c .before .before .loop .inv .0)

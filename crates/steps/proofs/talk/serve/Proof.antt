@@ -38,8 +38,15 @@ write-all-requires c κs = search needs
 
 returns : tie.Need-returns
 returns c =
-    ran (c .before .before .before .before .before .before .before .before .before .before .before .before .before .before .before .before .before .before .args .mode) (c .before .before .before .before .before .before .before .before .before .before .before .before .before .before .before .made .result) _ (c .before .before .before .before .before .before .before .before .before .before .before .before .before .before .before .before .before .erase .result) (c .before .before .before .before .before .before .before .before .before .before .before .before .before .before .begin .result) (c .before .before .before .before .before .before .before .before .before .before .before .before .before .before .before .made .ensures) (c .before .before .before .before .before .before .before .before .before .before .before .before .before .before .before .before .before .erase .ensures .0) (c .before .before .before .before .before .before .before .before .before .before .before .before .before .before .begin .ensures) (c .before .before .before .before .before .before .before .before .before .before .before .converse .ensures)
-    (c .before .before .before .before .before .close .ensures .1)
+    let at-args = c .before .before .before .before .before .before .before .before .before .before .before .before .before .before .before .before .before .before .args in
+    let at-made = c .before .before .before .before .before .before .before .before .before .before .before .before .before .before .before .made in
+    let at-erase = c .before .before .before .before .before .before .before .before .before .before .before .before .before .before .before .before .before .erase in
+    let at-begin = c .before .before .before .before .before .before .before .before .before .before .before .before .before .before .begin in
+    let at-converse = c .before .before .before .before .before .before .before .before .before .before .before .converse in
+    let at-close = c .before .before .before .before .before .close in
+    ran (at-args .mode) (at-made .result) _ (at-erase .result) (at-begin .result) (at-made .ensures) (at-erase .ensures .0) (at-begin .ensures)
+    (at-converse .ensures)
+    (at-close .ensures .1)
 
 pub serve-spec : {M : Type 1} → statement M
 serve-spec =

@@ -32,7 +32,10 @@ feed-requires : tie.Need-feed-requires Inv-loop μ-loop
 feed-requires c κs = search needs
 
 spell-requires : tie.Need-spell-requires Inv-loop μ-loop
-spell-requires c κs = let i = (c .before .before .before .before .before .before .before .before .loop .inv) in omega (arith, i .3, i .4, spare-within (c .before .before .before .before .before .before .before .before .loop .s .over))
+spell-requires c κs =
+    let at-loop = c .before .before .before .before .before .before .before .before .loop in
+    let i = (at-loop .inv) in
+    omega (arith, i .3, i .4, spare-within (at-loop .s .over))
 
 add-i : tie.Need-add-i Inv-loop μ-loop
 add-i c = omega arith
@@ -42,15 +45,19 @@ loop-less c = omega arith
 
 loop-again : tie.Need-loop-again Inv-loop μ-loop
 loop-again c =
-    let i = (c .before .before .before .before .before .before .before .before .before .before .before .before .loop .inv) in
-    let w = world (c .before .before .before .before .before .before .before .before .before .before .before .before .loop .s) (c .before .before .before .before .before .before .before .before .before .before .before .before .loop .page) (c .before .before .before .before .before .before .before .before .before .before .before .before .loop .array) in
-    let l : (c .before .before .before .before .before .before .before .before .before .before .before .before .loop .i) < length (c .before .before .before .before .before .before .before .before .before .before .before .before .before .before .before .before .args .chunk .now) = omega arith in (
+    let at-loop = c .before .before .before .before .before .before .before .before .before .before .before .before .loop in
+    let at-args = c .before .before .before .before .before .before .before .before .before .before .before .before .before .before .before .before .args in
+    let at-feed = c .before .before .before .before .before .before .before .feed in
+    let at-spell = c .before .before .before .spell in
+    let i = (at-loop .inv) in
+    let w = world (at-loop .s) (at-loop .page) (at-loop .array) in
+    let l : at-loop .i < length (at-args .chunk .now) = omega (arith, at-loop .inv .0, (c .before .before .before .before .before .before .before .before .before .before .before .loop-test .taken)) in (
       i .0,
       omega arith,
-      (c .before .before .before .before .before .before .before .feed .kept .1 .1 .0) ∙ i .2,
-      (c .before .before .before .spell .kept .0) ∙ i .3,
-      omega (arith, i .4, (c .before .before .before .spell .ensures .next), room-on w (getD (c .before .before .before .before .before .before .before .before .before .before .before .before .before .before .before .before .args .chunk .now) (c .before .before .before .before .before .before .before .before .before .before .before .before .loop .i) 0) (c .before .before .before .before .before .before .before .feed .ensures)),
-      go-on w _ (c .before .before .before .before .before .before .before .before .before .before .before .before .before .before .before .before .args .chunk .now) (c .before .before .before .before .before .before .before .before .before .before .before .before .loop .i) (take (c .before .before .before .before .before .before .before .before .before .before .before .before .loop .put) (c .before .before .before .before .before .before .before .before .before .before .before .before .loop .out)) l (c .before .before .before .before .before .before .before .feed .ensures) (c .before .before .before .spell .ensures .kept) ∙ i .5,
+      (at-feed .kept .1 .1 .0) ∙ i .2,
+      (at-spell .kept .0) ∙ i .3,
+      omega (arith, i .4, (at-spell .ensures .next), room-on w (getD (at-args .chunk .now) (at-loop .i) 0) (at-feed .ensures)),
+      go-on w _ (at-args .chunk .now) (at-loop .i) (take (at-loop .put) (at-loop .out)) l (at-feed .ensures) (at-spell .ensures .kept) ∙ i .5,
     )
 
 same-length : tie.Need-same-length Inv-loop μ-loop
@@ -61,9 +68,11 @@ same-length-2 c = (c .before .loop .inv .3)
 
 returns : tie.Need-returns Inv-loop μ-loop
 returns c =
-    let i = (c .before .loop .inv) in
-    let n : (c .before .loop .put) ≤ length (c .before .loop .out) = omega (arith, i .3, i .4) in
-    ((n, sym (length-take-le _ _ n)), no-more _ (c .before .before .before .before .before .args .chunk .now) (c .before .loop .i) (omega arith) (i .5))
+    let at-loop = c .before .loop in
+    let at-args = c .before .before .before .before .before .args in
+    let i = (at-loop .inv) in
+    let n : (at-loop .put) ≤ length (at-loop .out) = omega (arith, i .3, i .4) in
+    ((n, sym (length-take-le _ _ n)), no-more _ (at-args .chunk .now) (at-loop .i) (omega arith) (i .5))
 
 pub turn-spec : {M : Type 1} → statement M
 turn-spec =

@@ -21,7 +21,12 @@ shared-slice-read-put : tie.Need-shared-slice-read-put Inv-loop μ-loop
 shared-slice-read-put c = omega arith
 
 put-requires : tie.Need-put-requires Inv-loop μ-loop
-put-requires c κs = let i = (c .before .before .before .loop .inv) in let e = length-take-le (c .before .before .before .loop .i) (c .before .before .before .before .before .before .args .text .now) (i .1) in omega (arith, i .3 .next, e)
+put-requires c κs =
+    let at-loop = c .before .before .before .loop in
+    let at-args = c .before .before .before .before .before .before .args in
+    let i = (at-loop .inv) in
+    let e = length-take-le (at-loop .i) (at-args .text .now) (i .1) in
+    omega (arith, i .3 .next, e)
 
 add-i : tie.Need-add-i Inv-loop μ-loop
 add-i c = omega arith
@@ -30,13 +35,22 @@ loop-less : tie.Need-loop-less Inv-loop μ-loop
 loop-less c = omega arith
 
 loop-again : tie.Need-loop-again Inv-loop μ-loop
-loop-again c = let i = (c .before .before .before .before .before .before .loop .inv) in (i .0, omega arith, (c .before .before .put .kept .0) ∙ i .2, put-more (c .before .before .before .before .before .before .before .before .before .args .text .now) (c .before .before .before .before .before .before .loop .i) (omega arith) (i .3) (c .before .before .put .ensures))
+loop-again c =
+    let at-loop = c .before .before .before .before .before .before .loop in
+    let at-put = c .before .before .put in
+    let at-args = c .before .before .before .before .before .before .before .before .before .args in
+    let i = (at-loop .inv) in
+    (i .0, omega arith, (at-put .kept .0) ∙ i .2, put-more (at-args .text .now) (at-loop .i) (omega arith) (i .3) (at-put .ensures))
 
 same-length : tie.Need-same-length Inv-loop μ-loop
 same-length c = (c .before .loop .inv .2)
 
 returns : tie.Need-returns Inv-loop μ-loop
-returns c = let e : length (c .before .before .before .before .args .text .now) ≤ (c .before .loop .i) = omega arith in as-text (take-all _ _ e) ((c .before .loop .inv) .3)
+returns c =
+    let at-args = c .before .before .before .before .args in
+    let at-loop = c .before .loop in
+    let e : length (at-args .text .now) ≤ (at-loop .i) = omega arith in
+    as-text (take-all _ _ e) ((at-loop .inv) .3)
 
 pub append-spec : {M : Type 1} → statement M
 append-spec =

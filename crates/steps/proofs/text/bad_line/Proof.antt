@@ -16,14 +16,22 @@ field-requires : tie.Need-field-requires
 field-requires c κs = search needs
 
 put-requires : tie.Need-put-requires
-put-requires c κs = omega (arith, (c .before .before .before .before .before .before .before .append .ensures .next), field-end (c .before .before .before .before .before .before .before .before .before .before .before .args .number) (c .before .before .before .field .ensures), (c .before .before .before .before .before .before .before .append .kept .0), (c .before .before .before .field .kept .0))
+put-requires c κs =
+    let at-append = c .before .before .before .before .before .before .before .append in
+    let at-args = c .before .before .before .before .before .before .before .before .before .before .before .args in
+    let at-field = c .before .before .before .field in
+    omega (arith, (at-append .ensures .next), field-end (at-args .number) (at-field .ensures), (at-append .kept .0), (at-field .kept .0))
 
 same-length : tie.Need-same-length
 same-length c = search needs
 
 returns : tie.Need-returns
 unfolding badLine
-returns c = as-text refl (chain (chain (c .before .before .before .before .before .before .before .before .before .before .append .ensures) (c .before .before .before .before .before .before .field .ensures)) (c .before .before .put .ensures))
+returns c =
+    let at-append = c .before .before .before .before .before .before .before .before .before .before .append in
+    let at-field = c .before .before .before .before .before .before .field in
+    let at-put = c .before .before .put in
+    as-text refl (chain (chain (at-append .ensures) (at-field .ensures)) (at-put .ensures))
 
 pub bad-line-spec : {M : Type 1} → statement M
 bad-line-spec =

@@ -25,7 +25,10 @@ weight-requires : tie.Need-weight-requires Inv-loop μ-loop
 weight-requires c κs = search needs
 
 add-n : tie.Need-add-n Inv-loop μ-loop
-add-n c = omega (arith, (c .weight .ensures), light (eqb (getD (c .before .before .before .before .before .args .array .now) (c .before .before .before .loop .i) 0) 255))
+add-n c =
+    let at-args = c .before .before .before .before .before .args in
+    let at-loop = c .before .before .before .loop in
+    omega (arith, (c .weight .ensures), light (eqb (getD (at-args .array .now) (at-loop .i) 0) 255))
 
 add-i : tie.Need-add-i Inv-loop μ-loop
 add-i c = omega arith
@@ -34,10 +37,18 @@ loop-less : tie.Need-loop-less Inv-loop μ-loop
 loop-less c = omega arith
 
 loop-again : tie.Need-loop-again Inv-loop μ-loop
-loop-again c = let i = (c .before .before .before .loop .inv) in (i .0, omega arith, omega (arith, (c .weight .ensures), light (eqb (getD (c .before .before .before .before .before .args .array .now) (c .before .before .before .loop .i) 0) 255)), rw (c .weight .ensures) (count-on (c .before .before .before .before .before .args .array .now) (c .before .before .before .loop .i) (c .before .before .before .loop .n) (omega arith) (i .3)))
+loop-again c =
+    let at-loop = c .before .before .before .loop in
+    let at-args = c .before .before .before .before .before .args in
+    let i = (at-loop .inv) in
+    (i .0, omega arith, omega (arith, (c .weight .ensures), light (eqb (getD (at-args .array .now) (at-loop .i) 0) 255)), rw (c .weight .ensures) (count-on (at-args .array .now) (at-loop .i) (at-loop .n) (omega arith) (i .3)))
 
 returns : tie.Need-returns Inv-loop μ-loop
-returns c = let i = (c .before .loop .inv) in count-all (c .before .before .before .args .array .now) (c .before .loop .i) (c .before .loop .n) (omega arith) (i .3)
+returns c =
+    let at-loop = c .before .loop in
+    let at-args = c .before .before .before .args in
+    let i = (at-loop .inv) in
+    count-all (at-args .array .now) (at-loop .i) (at-loop .n) (omega arith) (i .3)
 
 pub count-spec : {M : Type 1} → statement M
 count-spec =

@@ -17,13 +17,24 @@ slice-aggregate-append : tie.Need-slice-aggregate-append
 slice-aggregate-append c = search needs
 
 append-requires : tie.Need-append-requires
-append-requires c κs = omega (arith, (c .before .before .before .before .put .ensures .next), (c .before .before .before .before .before .before .decimal .ensures .0 .1), twenty (c .before .before .before .before .before .before .before .before .before .args .n) (c .before .before .before .before .before .before .decimal .result) (search needs) (c .before .before .before .before .before .before .decimal .ensures .1 .0), (c .before .before .before .before .put .kept .0))
+append-requires c κs =
+    let at-put = c .before .before .before .before .put in
+    let at-decimal = c .before .before .before .before .before .before .decimal in
+    let at-args = c .before .before .before .before .before .before .before .before .before .args in
+    omega
+    (arith, (at-put .ensures .next), (at-decimal .ensures .0 .1), twenty (at-args .n) (at-decimal .result) (search needs) (at-decimal .ensures .1 .0), (at-put .kept .0))
 
 same-length : tie.Need-same-length
 same-length c = search needs
 
 returns : tie.Need-returns
-returns c = as-text (field-text (c .before .before .before .before .before .before .before .before .before .before .before .before .args .n) (c .before .before .before .before .before .before .before .before .before .decimal .result) (search needs) (c .before .before .before .before .before .before .before .before .before .decimal .ensures .1 .0) (c .before .before .before .before .before .before .before .before .before .decimal .ensures .1 .1)) (chain (c .before .before .before .before .before .before .before .put .ensures) (c .before .before .append .ensures))
+returns c =
+    let at-args = c .before .before .before .before .before .before .before .before .before .before .before .before .args in
+    let at-decimal = c .before .before .before .before .before .before .before .before .before .decimal in
+    let at-put = c .before .before .before .before .before .before .before .put in
+    let at-append = c .before .before .append in
+    as-text (field-text (at-args .n) (at-decimal .result) (search needs) (at-decimal .ensures .1 .0) (at-decimal .ensures .1 .1))
+    (chain (at-put .ensures) (at-append .ensures))
 
 pub field-spec : {M : Type 1} → statement M
 field-spec =

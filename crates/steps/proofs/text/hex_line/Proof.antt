@@ -22,7 +22,13 @@ same-length : tie.Need-same-length
 same-length c = search needs
 
 returns : tie.Need-returns
-returns c = as-text (rw ((c .before .before .before .before .before .before .before .before .before .before .before .before .glyph .ensures), (c .before .before .before .before .before .before .before .glyph2 .ensures))) (chain (chain (c .before .before .before .before .before .before .before .before .before .before .before .put .ensures) (c .before .before .before .before .before .before .put2 .ensures)) (c .before .before .put3 .ensures))
+returns c =
+    let at-glyph = c .before .before .before .before .before .before .before .before .before .before .before .before .glyph in
+    let at-glyph2 = c .before .before .before .before .before .before .before .glyph2 in
+    let at-put = c .before .before .before .before .before .before .before .before .before .before .before .put in
+    let at-put2 = c .before .before .before .before .before .before .put2 in
+    let at-put3 = c .before .before .put3 in
+    as-text (rw ((at-glyph .ensures), (at-glyph2 .ensures))) (chain (chain (at-put .ensures) (at-put2 .ensures)) (at-put3 .ensures))
 
 pub hex-line-spec : {M : Type 1} → statement M
 hex-line-spec =

@@ -20,19 +20,43 @@ field-requires : tie.Need-field-requires
 field-requires c κs = search needs
 
 field-requires-2 : tie.Need-field-requires-2
-field-requires-2 c κs = omega (arith, (c .before .before .before .before .before .before .before .before .append .ensures .next), field-end _ (c .before .before .before .field .ensures), (c .before .before .before .before .before .before .before .before .append .kept .0), (c .before .before .before .field .kept .0))
+field-requires-2 c κs =
+    let at-append = c .before .before .before .before .before .before .before .before .append in
+    let at-field = c .before .before .before .field in
+    omega (arith, (at-append .ensures .next), field-end _ (at-field .ensures), (at-append .kept .0), (at-field .kept .0))
 
 field-requires-3 : tie.Need-field-requires-3
-field-requires-3 c κs = omega (arith, (c .before .before .before .before .before .before .before .before .before .before .before .before .append .ensures .next), field-end _ (c .before .before .before .before .before .before .before .field .ensures), field-end _ (c .before .before .before .field2 .ensures), (c .before .before .before .before .before .before .before .before .before .before .before .before .append .kept .0), (c .before .before .before .before .before .before .before .field .kept .0), (c .before .before .before .field2 .kept .0))
+field-requires-3 c κs =
+    let at-append = c .before .before .before .before .before .before .before .before .before .before .before .before .append in
+    let at-field = c .before .before .before .before .before .before .before .field in
+    let at-field2 = c .before .before .before .field2 in
+    omega
+    (arith, (at-append .ensures .next), field-end _ (at-field .ensures), field-end _ (at-field2 .ensures), (at-append .kept .0), (at-field .kept .0), (at-field2 .kept .0))
 
 put-requires : tie.Need-put-requires
-put-requires c κs = omega (arith, (c .before .before .before .before .before .before .before .before .before .before .before .before .before .before .before .before .append .ensures .next), field-end _ (c .before .before .before .before .before .before .before .before .before .before .before .field .ensures), field-end _ (c .before .before .before .before .before .before .before .field2 .ensures), field-end _ (c .before .before .before .field3 .ensures), (c .before .before .before .before .before .before .before .before .before .before .before .before .before .before .before .before .append .kept .0), (c .before .before .before .before .before .before .before .before .before .before .before .field .kept .0), (c .before .before .before .before .before .before .before .field2 .kept .0), (c .before .before .before .field3 .kept .0))
+put-requires c κs =
+    let at-append = c .before .before .before .before .before .before .before .before .before .before .before .before .before .before .before .before .append in
+    let at-field = c .before .before .before .before .before .before .before .before .before .before .before .field in
+    let at-field2 = c .before .before .before .before .before .before .before .field2 in
+    let at-field3 = c .before .before .before .field3 in
+    omega
+    (arith, (at-append .ensures .next), field-end _ (at-field .ensures), field-end _ (at-field2 .ensures), field-end _ (at-field3 .ensures), (at-append .kept .0), (at-field .kept .0), (at-field2 .kept .0), (at-field3 .kept .0))
 
 same-length : tie.Need-same-length
 same-length c = search needs
 
 returns : tie.Need-returns
-returns c = as-text (last-text (c .before .before .before .before .before .before .before .before .before .before .before .before .before .before .before .before .before .before .before .before .before .before .before .before .before .args .chip .wel) (c .before .before .before .before .before .before .before .before .before .before .before .before .before .before .before .before .before .before .before .before .before .before .before .before .before .args .chip .writes) (c .before .before .before .before .before .before .before .before .before .before .before .before .before .before .before .before .before .before .before .before .before .before .before .before .before .args .array .now) (c .before .before .before .before .before .before .before .before .before .before .before .before .before .before .before .flag .ensures) (c .before .before .before .before .before .before .before .before .before .before .before .before .before .before .before .before .before .before .before .before .before .before .count .ensures)) (chain (chain (chain (chain (c .before .before .before .before .before .before .before .before .before .before .before .before .before .before .before .before .before .before .before .append .ensures) (c .before .before .before .before .before .before .before .before .before .before .before .before .before .before .field .ensures)) (c .before .before .before .before .before .before .before .before .before .before .field2 .ensures)) (c .before .before .before .before .before .before .field3 .ensures)) (c .before .before .put .ensures))
+returns c =
+    let at-args = c .before .before .before .before .before .before .before .before .before .before .before .before .before .before .before .before .before .before .before .before .before .before .before .before .before .args in
+    let at-flag = c .before .before .before .before .before .before .before .before .before .before .before .before .before .before .before .flag in
+    let at-count = c .before .before .before .before .before .before .before .before .before .before .before .before .before .before .before .before .before .before .before .before .before .before .count in
+    let at-append = c .before .before .before .before .before .before .before .before .before .before .before .before .before .before .before .before .before .before .before .append in
+    let at-field = c .before .before .before .before .before .before .before .before .before .before .before .before .before .before .field in
+    let at-field2 = c .before .before .before .before .before .before .before .before .before .before .field2 in
+    let at-field3 = c .before .before .before .before .before .before .field3 in
+    let at-put = c .before .before .put in
+    as-text (last-text (at-args .chip .wel) (at-args .chip .writes) (at-args .array .now) (at-flag .ensures) (at-count .ensures))
+    (chain (chain (chain (chain (at-append .ensures) (at-field .ensures)) (at-field2 .ensures)) (at-field3 .ensures)) (at-put .ensures))
 
 pub last-line-spec : {M : Type 1} → statement M
 last-line-spec =
