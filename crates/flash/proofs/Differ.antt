@@ -5,7 +5,7 @@ use mathlib.Core.List.{List, [], _∷_, _++_}
 use Prim.Native.Nat.{ℕ, zero, suc, _+_, _-_, _%_, _≤_, _<_}
 use native.Mathlib.Nat.{not-suc-le-zero, mod-eq-of-lt, zero-mod}
 use native.Mathlib.Omega.{arith}
-use lib.ListN.{length, take, drop, getD}
+use lib.ListN.{length, take, drop, getD, replicate}
 use lib.Dec.{eqb, leb, ltb}
 use lib.Bits.{bitAnd, and-mask, and-zero-r}
 use borrow.Author.Tests.{ne-eqb, lt-ltb, le-ltb, le-leb, lt-leb, ltb-true, eqb-true}
@@ -13,11 +13,11 @@ use Rattle.flash.specs.Pick.{pick, both}
 use Rattle.flash.specs.Board.{Board, Sized}
 use Rattle.flash.specs.Buf.{blank}
 use Rattle.flash.specs.Xfer.{kindOf}
-use Rattle.flash.specs.Finish.{orderOf, ands}
+use Rattle.flash.specs.Finish.{ands}
 use Rattle.flash.specs.Steps.{cs, byte, sends}
 use Rattle.flash.specs.Run.{Bytes, Good, after, answers, transaction}
 use Rattle.flash.proofs.Whole.{replyW, actW, programW, andsFrom, welAfter}
-use Rattle.flash.specs.Sheet.{State, undescribed, erase, chipErase, After, leaves, instruction, table, others, member, code, address, reply, afterwards, executed, programmed, latched, burnt, ones}
+use Rattle.flash.specs.Sheet.{erased, afterOf, Instruction, State, undescribed, erase, chipErase, After, leaves, instruction, table, others, member, code, address, reply, afterwards, executed, programmed, latched, burnt, ones}
 use Rattle.flash.specs.Departures.{departs, Departure, lacking, trailing, deviceFirst, overlong, shaped, Agrees, Left, stateOf, unit, Conforms, Never, twice, Differs, answerAt, Beyond, busy, unselected, uniqueNumber, thirdStatus, Shows}
 use Rattle.flash.specs.declared.Mode.{Mode}
 use Rattle.flash.specs.declared.Mode.the-variants.{Rust, Strict}
@@ -32,7 +32,7 @@ use Rattle.flash.proofs.Page.{program-is}
 use Rattle.flash.proofs.Runs.{answers-view}
 use Rattle.flash.proofs.Forget.{after-byte}
 use Rattle.flash.proofs.Codes.{by-code}
-use Rattle.flash.proofs.Conform.{state, done, whole, act-cons, mayProgram, mayErase, mayWipe, answer-at, opening, begins, ends-whole, replies-whole, kept-good, kept-cs, conforms}
+use Rattle.flash.proofs.Conform.{state, done, whole, act-cons, mayErase, answer-at, opening, begins, ends-whole, replies-whole, kept-good, kept-cs, conforms}
 
 -- ---- codes that document 000 lacks: the sheet has an instruction, the chip has none
 undescribed-is : (c : ℕ) → member c others ≡ true → instruction c ≡ undescribed
@@ -58,26 +58,25 @@ cleared w bs a g c v p q z k =
     ap (λ (a : Act). welAfter a (w .chip .wel)) (sym q) ∙ sym (ap (λ (s : State). s .wel) (ends-whole w bs g c)) ∙ ap (λ (s : State). s .wel) e in
     no-way (sym z ∙ f ∙ v)
 
--- the chip executes what the sheet's length test refuses
-void-4 : (w : Board) (bs : List ℕ) (c k : ℕ) → w .chip .wel ≡ true → instruction c ≡ erase k → 4 < suc (length bs) → afterwards (stateOf w) (c ∷ bs) ≡ leaves (stateOf w)
-void-4 w bs c k v p l = rw (p, ne-eqb (suc (length bs)) 4 (λ z. omega arith), v)
-
-void-1 : (w : Board) (bs : List ℕ) (c : ℕ) → w .chip .wel ≡ true → instruction c ≡ chipErase → 1 < suc (length bs) → afterwards (stateOf w) (c ∷ bs) ≡ leaves (stateOf w)
-void-1 w bs c v p l = rw (p, ne-eqb (suc (length bs)) 1 (λ z. omega arith), v)
-
-acts-4 : (c : ℕ) (bs : List ℕ) (b : Act) → ((p e a : Bool) → orderOf c p e a ≡ pick e b Nothing) → 4 < suc (length bs) → actW (whole Rust true (c ∷ bs)) ≡ b
-acts-4 c bs b f l = act-cons Rust true c bs ∙ f (mayProgram Rust true (suc (length bs))) (mayErase Rust true (suc (length bs))) (mayWipe Rust true (suc (length bs))) ∙ rw (le-leb 4 (suc (length bs)) (omega arith))
-
-acts-1 : (c : ℕ) (bs : List ℕ) (b : Act) → ((p e a : Bool) → orderOf c p e a ≡ pick a b Nothing) → actW (whole Rust true (c ∷ bs)) ≡ b
-acts-1 c bs b f = act-cons Rust true c bs ∙ f (mayProgram Rust true (suc (length bs))) (mayErase Rust true (suc (length bs))) (mayWipe Rust true (suc (length bs)))
-
 module _ (w : Board) (g : Good (w .array)) (s : w .chip .cs ≡ false) (r : w .chip .mode ≡ Rust) (v : w .chip .wel ≡ true) (bs : List ℕ) where
-  erase-differs : (c k : ℕ) (b : Act) → instruction c ≡ erase k → ((p e a : Bool) → orderOf c p e a ≡ pick e b Nothing) → ((t : Bool) → welAfter b t ≡ false)
-      → 4 < suc (length bs) → Conforms w (c ∷ bs) → ⊥
-  erase-differs c k b p f z l = cleared w (c ∷ bs) b g s v (void-4 w bs c k v p l) (rw (r, v) (acts-4 c bs b f l)) (z (w .chip .wel))
+  -- the sheet executes with exactly q bytes, and more have come
+  void : (c q : ℕ) (d : Instruction) (x : List ℕ) → instruction c ≡ d → afterOf d (stateOf w) (c ∷ bs) ≡ executed (both (w .chip .wel) (eqb (suc (length bs)) q)) x (stateOf w)
+      → q < suc (length bs) → afterwards (stateOf w) (c ∷ bs) ≡ leaves (stateOf w)
+  void c q d x p f l = rw p (f ∙ rw (ne-eqb (suc (length bs)) q (λ z. omega arith), v))
 
-  wipe-differs : (c : ℕ) → instruction c ≡ chipErase → ((p e a : Bool) → orderOf c p e a ≡ pick a EraseAll Nothing) → 1 < suc (length bs) → Conforms w (c ∷ bs) → ⊥
-  wipe-differs c p f l = cleared w (c ∷ bs) EraseAll g s v (void-1 w bs c v p l) (rw (r, v) (acts-1 c bs EraseAll f)) refl
+  -- and the chip executes all the same
+  executes : (c q : ℕ) (d : Instruction) (x : List ℕ) (a : Act) (t : Bool) → instruction c ≡ d
+      → afterOf d (stateOf w) (c ∷ bs) ≡ executed (both (w .chip .wel) (eqb (suc (length bs)) q)) x (stateOf w) → q < suc (length bs)
+      → actW (whole Rust true (c ∷ bs)) ≡ pick t a Nothing → t ≡ true → welAfter a (w .chip .wel) ≡ false → Conforms w (c ∷ bs) → ⊥
+  executes c q d x a t p f l o e z = cleared w (c ∷ bs) a g s v (void c q d x p f l) (rw (r, v) (o ∙ rw e)) z
+
+  erases : (c k : ℕ) (a : Act) → instruction c ≡ erase k → actW (whole Rust true (c ∷ bs)) ≡ pick (mayErase Rust true (suc (length bs))) a Nothing → welAfter a (w .chip .wel) ≡ false
+      → 4 < suc (length bs) → Conforms w (c ∷ bs) → ⊥
+  erases c k a p o z l =
+      executes c 4 (erase k) (erased (w .array) (address (c ∷ bs) (length (w .array))) k) a (mayErase Rust true (suc (length bs))) p refl l o (rw (le-leb 4 (suc (length bs)) (omega arith))) z
+
+  wipes : (c : ℕ) → instruction c ≡ chipErase → actW (whole Rust true (c ∷ bs)) ≡ EraseAll → 1 < suc (length bs) → Conforms w (c ∷ bs) → ⊥
+  wipes c p o l = executes c 1 chipErase (replicate (length (w .array)) 255) EraseAll true p refl l o refl refl
 
   at-code : (c k : ℕ) → eqb c k ≡ true → (Conforms w (k ∷ bs) → ⊥) → Conforms w (c ∷ bs) → ⊥
   at-code c k e f h = f (subst (λ (c : ℕ). Conforms w (c ∷ bs)) (eqb-true c k e) h)
@@ -88,13 +87,13 @@ module _ (w : Board) (g : Good (w .array)) (s : w .chip .cs ≡ false) (r : w .c
       or-case (both (member c (0x20 ∷ 0x52 ∷ 0xD8 ∷ [])) (ltb 4 (suc (length bs)))) (both (member c (0xC7 ∷ 0x60 ∷ [])) (ltb 1 (suc (length bs)))) h
       (λ u. let q = both-parts (member c (0x20 ∷ 0x52 ∷ 0xD8 ∷ [])) (ltb 4 (suc (length bs))) u in
       let l : 4 < suc (length bs) = ltb-true 4 (suc (length bs)) (q .1) in
-      or-case (eqb c 0x20) _ (q .0) (λ e. at-code c 0x20 e (erase-differs 0x20 4096 (Erase Sector) refl (λ p e a. refl) (λ t. refl) l) k) λ q.
-      or-case (eqb c 0x52) _ q (λ e. at-code c 0x52 e (erase-differs 0x52 32768 (Erase Half) refl (λ p e a. refl) (λ t. refl) l) k) λ q.
-      or-case (eqb c 0xD8) _ q (λ e. at-code c 0xD8 e (erase-differs 0xD8 65536 (Erase Full) refl (λ p e a. refl) (λ t. refl) l) k) no-way)
+      or-case (eqb c 0x20) _ (q .0) (λ e. at-code c 0x20 e (erases 0x20 4096 (Erase Sector) refl (act-cons Rust true 0x20 bs) refl l) k) λ q.
+      or-case (eqb c 0x52) _ q (λ e. at-code c 0x52 e (erases 0x52 32768 (Erase Half) refl (act-cons Rust true 0x52 bs) refl l) k) λ q.
+      or-case (eqb c 0xD8) _ q (λ e. at-code c 0xD8 e (erases 0xD8 65536 (Erase Full) refl (act-cons Rust true 0xD8 bs) refl l) k) no-way)
       (λ u. let q = both-parts (member c (0xC7 ∷ 0x60 ∷ [])) (ltb 1 (suc (length bs))) u in
       let l : 1 < suc (length bs) = ltb-true 1 (suc (length bs)) (q .1) in
-      or-case (eqb c 0xC7) _ (q .0) (λ e. at-code c 0xC7 e (wipe-differs 0xC7 refl (λ p e a. refl) l) k) λ q.
-      or-case (eqb c 0x60) _ q (λ e. at-code c 0x60 e (wipe-differs 0x60 refl (λ p e a. refl) l) k) no-way)
+      or-case (eqb c 0xC7) _ (q .0) (λ e. at-code c 0xC7 e (wipes 0xC7 refl (act-cons Rust true 0xC7 bs) l) k) λ q.
+      or-case (eqb c 0x60) _ q (λ e. at-code c 0x60 e (wipes 0x60 refl (act-cons Rust true 0x60 bs) l) k) no-way)
 
 trailing-differs : (w : Board) → Good (w .array) → w .chip .cs ≡ false → w .chip .mode ≡ Rust → w .chip .wel ≡ true → Never trailing w
 trailing-differs w g s r v [] h = absurd (no-way h)
@@ -126,13 +125,10 @@ deviceFirst-differs w g s r (c ∷ bs) h k =
         omega arith
 
 -- ---- 257 bytes, the first 00 and the last FF at the same place: the Rust's leaves 00 there, the sheet's what was
-head-ands : (x : ℕ) (xs q r : List ℕ) → 0 < length q → getD (ands (x ∷ xs) q ++ r) 0 0 ≡ bitAnd x (getD q 0 0)
-head-ands x xs [] r h = absurd (not-suc-le-zero h)
-head-ands x xs (y ∷ q) r h = refl
-
-head-burnt : (x : ℕ) (xs q r : List ℕ) → 0 < length q → getD (burnt (x ∷ xs) q ++ r) 0 0 ≡ bitAnd x (getD q 0 0)
-head-burnt x xs [] r h = absurd (not-suc-le-zero h)
-head-burnt x xs (y ∷ q) r h = refl
+-- the first byte of a page, ANDed as the chip does it and as the sheet does
+head : (x : ℕ) (xs q r : List ℕ) → 0 < length q → (getD (ands (x ∷ xs) q ++ r) 0 0 ≡ bitAnd x (getD q 0 0)) × (getD (burnt (x ∷ xs) q ++ r) 0 0 ≡ bitAnd x (getD q 0 0))
+head x xs [] r h = absurd (not-suc-le-zero h)
+head x xs (y ∷ q) r h = (refl, refl)
 
 rust-page : getD (andsFrom blank 0 twice) 0 0 ≡ 0
 unfolding blank twice
@@ -156,9 +152,9 @@ arrays-differ (x ∷ m) l y h e =
     h
     (sym (and-mask x 8 ∙ mod-eq-of-lt (y 0))
     ∙ ap (bitAnd x) (sym sheet-page)
-    ∙ sym (head-burnt x (take 255 m) (latched ones 0 twice) (drop 256 (x ∷ m)) sheet-long)
+    ∙ sym (head x (take 255 m) (latched ones 0 twice) (drop 256 (x ∷ m)) sheet-long .1)
     ∙ ap (λ (l : List ℕ). getD l 0 0) (sym e ∙ program-is twice (x ∷ m) 0 0 l (omega arith) y)
-    ∙ head-ands x (take 255 m) (andsFrom blank 0 twice) (drop 256 (x ∷ m)) rust-long
+    ∙ head x (take 255 m) (andsFrom blank 0 twice) (drop 256 (x ∷ m)) rust-long .0
     ∙ ap (bitAnd x) rust-page
     ∙ and-zero-r x)
 

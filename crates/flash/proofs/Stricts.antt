@@ -44,26 +44,23 @@ module _ (w : Board) (g : Good (w .array)) (s : w .chip .cs ≡ false) (r : w .c
   at-code : (c k : ℕ) (bs : List ℕ) → eqb c k ≡ true → actW (whole Strict (w .chip .wel) (k ∷ bs)) ≡ Nothing → Idles w (c ∷ bs)
   at-code c k bs e h = idle (c ∷ bs) (rw (eqb-true c k e) h)
 
-  erase-void : (c : ℕ) (bs : List ℕ) (a : Act) → actW (whole Strict (w .chip .wel) (c ∷ bs)) ≡ pick (mayErase Strict (w .chip .wel) (suc (length bs))) a Nothing
-      → (suc (length bs) ≡ 4 → ⊥) → actW (whole Strict (w .chip .wel) (c ∷ bs)) ≡ Nothing
-  erase-void c bs a p h = p ∙ forbidden (both (w .chip .wel) (leb 4 (suc (length bs)))) (eqb (suc (length bs)) 4) a (ne-eqb _ 4 h)
-
-  wipe-void : (c : ℕ) (bs : List ℕ) → actW (whole Strict (w .chip .wel) (c ∷ bs)) ≡ pick (mayWipe Strict (w .chip .wel) (suc (length bs))) EraseAll Nothing
-      → (suc (length bs) ≡ 1 → ⊥) → actW (whole Strict (w .chip .wel) (c ∷ bs)) ≡ Nothing
-  wipe-void c bs p h = p ∙ forbidden (w .chip .wel) (eqb (suc (length bs)) 1) EraseAll (ne-eqb _ 1 h)
-
   erases : (bs : List ℕ) → member (code bs) (0x20 ∷ 0x52 ∷ 0xD8 ∷ []) ≡ true → (length bs ≡ 4 → ⊥) → Idles w bs
   erases [] m h = absurd (no-way m)
   erases (c ∷ bs) m h =
-      or-case (eqb c 0x20) _ m (λ e. at-code c 0x20 bs e (erase-void 0x20 bs (Erase Sector) (act-cons Strict (w .chip .wel) 0x20 bs) h)) λ m.
-      or-case (eqb c 0x52) _ m (λ e. at-code c 0x52 bs e (erase-void 0x52 bs (Erase Half) (act-cons Strict (w .chip .wel) 0x52 bs) h)) λ m.
-      or-case (eqb c 0xD8) _ m (λ e. at-code c 0xD8 bs e (erase-void 0xD8 bs (Erase Full) (act-cons Strict (w .chip .wel) 0xD8 bs) h)) λ m. absurd (no-way m)
+      let e : Bool = w .chip .wel in
+      let stop : (a : Act) → pick (mayErase Strict e (suc (length bs))) a Nothing ≡ Nothing =
+      λ a. forbidden (both e (leb 4 (suc (length bs)))) (eqb (suc (length bs)) 4) a (ne-eqb (suc (length bs)) 4 h) in
+      or-case (eqb c 0x20) _ m (λ k. at-code c 0x20 bs k (act-cons Strict e 0x20 bs ∙ stop (Erase Sector))) λ m.
+      or-case (eqb c 0x52) _ m (λ k. at-code c 0x52 bs k (act-cons Strict e 0x52 bs ∙ stop (Erase Half))) λ m.
+      or-case (eqb c 0xD8) _ m (λ k. at-code c 0xD8 bs k (act-cons Strict e 0xD8 bs ∙ stop (Erase Full))) λ m. absurd (no-way m)
 
   wipes : (bs : List ℕ) → member (code bs) (0xC7 ∷ 0x60 ∷ []) ≡ true → (length bs ≡ 1 → ⊥) → Idles w bs
   wipes [] m h = absurd (no-way m)
   wipes (c ∷ bs) m h =
-      or-case (eqb c 0xC7) _ m (λ e. at-code c 0xC7 bs e (wipe-void 0xC7 bs (act-cons Strict (w .chip .wel) 0xC7 bs) h)) λ m.
-      or-case (eqb c 0x60) _ m (λ e. at-code c 0x60 bs e (wipe-void 0x60 bs (act-cons Strict (w .chip .wel) 0x60 bs) h)) λ m. absurd (no-way m)
+      let e : Bool = w .chip .wel in
+      let stop : pick (mayWipe Strict e (suc (length bs))) EraseAll Nothing ≡ Nothing = forbidden e (eqb (suc (length bs)) 1) EraseAll (ne-eqb (suc (length bs)) 1 h) in
+      or-case (eqb c 0xC7) _ m (λ k. at-code c 0xC7 bs k (act-cons Strict e 0xC7 bs ∙ stop)) λ m.
+      or-case (eqb c 0x60) _ m (λ k. at-code c 0x60 bs k (act-cons Strict e 0x60 bs ∙ stop)) λ m. absurd (no-way m)
 
   maker : (bs : List ℕ) (i : ℕ) → 4 ≤ i → i ≤ length bs → getD (0x90 ∷ bs) 3 0 % 2 ≡ 1 → answerAt w (0x90 ∷ bs) i ≡ pick (eqb ((i - 4) % 2) 1) 0xEF 0x16
   unfolding kindOf

@@ -134,6 +134,7 @@ fn choose(session: Session, page: &mut [u8; 256], array: &mut [u8], on: bool) ->
     quiet(next_line(next, session.number))
 }
 
+// A transfer. The flash refuses an array of another size and answers 0, and so does the session.
 fn send(session: Session, page: &mut [u8; 256], array: &[u8], byte: u8) -> Fed
     ensures { λ r. ⌜ told r (now (page .exit)) (now (array .entry)) ≡ sent (world session (now (page .entry)) (now (array .entry))) byte ⌝ }
 {
