@@ -1,0 +1,32 @@
+use borrow.Author.Needs.{needs}
+use mathlib.Core.Path.{ap}
+use borrow.Author.Tests.{eq-eqb, ne-eqb}
+use Rattle.clock.specs.declared.Alarm.the-variants.{At}
+use Rattle.clock.specs.Rtc.{alarmOf}
+use Rattle.clock.proofs.chip.alarm_ticks.Statement.{statement}
+use Rattle.clock.proofs.chip.alarm_ticks.Tie as tie
+use Rattle.clock.proofs.chip.alarm_ticks.Reads as reads
+use Rattle.clock.proofs.chip.alarm_ticks.Lts as lts
+use Rattle.clock.proofs.chip.get.Reads as get-reads
+use Rattle.clock.proofs.chip.six_bytes.Reads as six-bytes-reads
+
+-- src/chip.rt:51:8
+get-requires : tie.Need-get-requires
+get-requires c κs = search needs
+
+-- src/chip.rt:52:9
+returns : tie.Need-returns
+unfolding alarmOf
+returns c = rw (← (c .before .get .ensures), eq-eqb _ _ (c .if1 .taken))
+
+-- src/chip.rt:54:15
+six-bytes-requires : tie.Need-six-bytes-requires
+six-bytes-requires c κs = search needs
+
+-- src/chip.rt:48:1
+returns-2 : tie.Need-returns-2
+unfolding alarmOf
+returns-2 c = rw (← (c .before .before .get .ensures), ne-eqb _ _ (c .before .if1 .left)) (ap At (c .six-bytes .ensures))
+
+pub alarm-ticks-spec : {M : Type 1} → statement M
+alarm-ticks-spec = tie.close (tie.spec get-requires returns six-bytes-requires returns-2)

@@ -1,0 +1,17 @@
+use borrow.Author.Needs.{needs}
+use Rattle.clock.proofs.chip.latched.Statement.{statement}
+use Rattle.clock.proofs.chip.latched.Tie as tie
+use Rattle.clock.proofs.chip.latched.Reads as reads
+use Rattle.clock.proofs.chip.latched.Lts as lts
+use Rattle.clock.proofs.chip.six_bytes.Reads as six-bytes-reads
+
+-- src/chip.rt:41:15
+six-bytes-requires : tie.Need-six-bytes-requires
+six-bytes-requires c κs = search needs
+
+-- src/chip.rt:37:1
+returns : tie.Need-returns
+returns c = cc
+
+pub latched-spec : {M : Type 1} → statement M
+latched-spec = tie.close (tie.spec six-bytes-requires returns)

@@ -1,0 +1,19 @@
+use borrow.Author.Needs.{needs}
+use Rattle.clock.specs.Adc.{storedOf}
+use Rattle.clock.proofs.convert.stored.Statement.{statement}
+use Rattle.clock.proofs.convert.stored.Tie as tie
+use Rattle.clock.proofs.convert.stored.Reads as reads
+use Rattle.clock.proofs.convert.stored.Lts as lts
+
+-- src/convert.rt:10:9
+returns : tie.Need-returns
+unfolding storedOf
+returns c = rw (c .if1 .taken)
+
+-- src/convert.rt:6:1
+returns-2 : tie.Need-returns-2
+unfolding storedOf
+returns-2 c = rw (c .if1 .left)
+
+pub stored-spec : {M : Type 1} → statement M
+stored-spec = tie.close (tie.spec returns returns-2)

@@ -1,0 +1,6 @@
+-- What the crate's contracts cite.
+pub mod Times
+pub mod Rtc
+pub mod Day
+pub mod Sources
+pub mod Adc

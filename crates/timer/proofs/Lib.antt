@@ -1,0 +1,2 @@
+-- Laws that several proofs cite, and the theorems.
+pub mod Cases

@@ -1,0 +1,25 @@
+use borrow.Author.Needs.{needs}
+use Rattle.timer.specs.Timers.{rateOf}
+use Rattle.whole.proofs.Words.{has-some, has-not}
+use Rattle.timer.proofs.rate.Statement.{statement}
+use Rattle.timer.proofs.rate.Tie as tie
+use Rattle.timer.proofs.rate.Reads as reads
+use Rattle.timer.proofs.rate.Lts as lts
+use Rattle.timer.proofs.sysclk.Reads as sysclk-reads
+
+-- src/lib.rt:40:9
+sysclk-requires : tie.Need-sysclk-requires
+sysclk-requires c κs = search needs
+
+-- src/lib.rt:37:1
+returns : tie.Need-returns
+unfolding rateOf
+returns c = rw (has-some _ _ (c .if1 .taken), ← (c .before .sysclk .ensures))
+
+-- src/lib.rt:37:1
+returns-2 : tie.Need-returns-2
+unfolding rateOf
+returns-2 c = rw (has-not _ _ (c .if1 .left), ← (c .before .sysclk .ensures))
+
+pub rate-spec : {M : Type 1} → statement M
+rate-spec = tie.close (tie.spec sysclk-requires returns returns-2)

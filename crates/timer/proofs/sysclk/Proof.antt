@@ -1,0 +1,24 @@
+use borrow.Author.Needs.{needs}
+use borrow.Author.Tests.{eq-eqb, ne-eqb}
+use Rattle.timer.specs.Timers.{sysclkOf}
+use Rattle.timer.proofs.sysclk.Statement.{statement}
+use Rattle.timer.proofs.sysclk.Tie as tie
+use Rattle.timer.proofs.sysclk.Reads as reads
+use Rattle.timer.proofs.sysclk.Lts as lts
+
+-- src/lib.rt:34:41
+int-to-float-result : tie.Need-int-to-float-result
+int-to-float-result c = search needs
+
+-- src/lib.rt:31:1
+returns : tie.Need-returns
+unfolding sysclkOf
+returns c = rw (eq-eqb _ _ (c .if1 .taken))
+
+-- src/lib.rt:31:1
+returns-2 : tie.Need-returns-2
+unfolding sysclkOf
+returns-2 c = rw (ne-eqb _ _ (c .before .if1 .left))
+
+pub sysclk-spec : {M : Type 1} → statement M
+sysclk-spec = tie.close (tie.spec int-to-float-result returns returns-2)

@@ -1,0 +1,24 @@
+use borrow.Author.Needs.{needs}
+use Rattle.timer.specs.Timers.{writtenOf}
+use Rattle.timer.proofs.write_ctrl.Statement.{statement}
+use Rattle.timer.proofs.write_ctrl.Tie as tie
+use Rattle.timer.proofs.write_ctrl.Reads as reads
+use Rattle.timer.proofs.write_ctrl.Lts as lts
+use Rattle.timer.proofs.cleared.Reads as cleared-reads
+
+-- src/lib.rt:86:9
+cleared-requires : tie.Need-cleared-requires
+cleared-requires c κs = search needs
+
+-- src/lib.rt:89:9
+returns : tie.Need-returns
+unfolding writtenOf
+returns c = rw ((c .if1 .taken), ← (c .before .cleared .ensures))
+
+-- src/lib.rt:83:1
+returns-2 : tie.Need-returns-2
+unfolding writtenOf
+returns-2 c = rw ((c .if1 .left), ← (c .before .cleared .ensures))
+
+pub write-ctrl-spec : {M : Type 1} → statement M
+write-ctrl-spec = tie.close (tie.spec cleared-requires returns returns-2)

@@ -1,0 +1,3 @@
+-- What the crate's contracts cite.
+pub mod Timers
+pub mod Sound

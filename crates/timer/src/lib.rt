@@ -1,0 +1,128 @@
+// A timer by value. Its registers belong to the bus, which hands in the words that a function reads.
+ghost use mathlib.Core.Path.{_≡_};
+ghost use Rattle.timer.specs.Timers.{periodOf, sysclkOf, rateOf, elapsedOf, counterOf, controlOf, clearedOf, writtenOf, advancedOf};
+
+pub mod sound;
+
+pub struct Timer {
+    pub start: f64,
+    pub seen: u64,
+    pub pending: bool,
+}
+
+// A timer after a write of its control word, and the word that is stored.
+pub struct Written {
+    pub timer: Timer,
+    pub control: u32,
+}
+
+// Frequency in Hz (0 is off) and duty of the buzzer.
+pub struct Tone {
+    pub frequency: f64,
+    pub duty: f64,
+}
+
+// What a write of timer 4's words does to the buzzer: nothing; a change, which is an event; or refusal 5.
+pub enum Sounded {
+    Same,
+    Change(Tone),
+    SoundFull,
+}
+
+pub fn sysclk(clock: u32) -> f64
+    ensures { λ r. ⌜ r ≡ sysclkOf clock ⌝ }
+{
+    if clock == 0 { 24000000.0 } else { clock as f64 }
+}
+
+pub fn rate(clock: u32, control: u32) -> f64
+    ensures { λ r. ⌜ r ≡ rateOf clock control ⌝ }
+{
+    let c = sysclk(clock);
+    if control & 1 != 0 { c / 256.0 } else { c / 2.0 }
+}
+
+pub fn period(reload: u32) -> u64
+    ensures { λ r. ⌜ r ≡ periodOf reload ⌝ }
+{
+    65536 - (reload % 65536) as u64
+}
+
+pub fn elapsed(start: f64, now: f64, rate: f64) -> u64
+    ensures { λ r. ⌜ r ≡ elapsedOf start now rate ⌝ }
+{
+    let t = (now - start) * rate;
+    if t > 0.0 { whole::whole(t) } else { 0 }
+}
+
+// The counter as it is read. A timer that does not run has the word that was stored.
+pub fn counter(t: Timer, now: f64, clock: u32, control: u32, reload: u32, stored: u32) -> u32
+    ensures { λ r. ⌜ r ≡ counterOf t now clock control reload stored ⌝ }
+{
+    if control & 0x2000 == 0 {
+        return stored;
+    }
+    let p = period(reload);
+    let e = elapsed(t.start, now, rate(clock, control));
+    ((65536 - p + e % p) % 65536) as u32
+}
+
+// The control word as it is read: bit 15 says what is pending.
+pub fn read_ctrl(t: Timer, stored: u32) -> u32
+    ensures { λ r. ⌜ r ≡ controlOf t stored ⌝ }
+{
+    if t.pending {
+        stored & 0xFFFF_7FFF | 0x8000
+    } else {
+        stored & 0xFFFF_7FFF
+    }
+}
+
+fn cleared(t: Timer, val: u32) -> bool
+    ensures { λ r. ⌜ r ≡ clearedOf t val ⌝ }
+{
+    t.pending & (val & 0x8000 == 0)
+}
+
+// A write of val over the control word old.
+pub fn write_ctrl(t: Timer, now: f64, val: u32, old: u32) -> Written
+    ensures { λ r. ⌜ r ≡ writtenOf t now val old ⌝ }
+{
+    let pending = cleared(t, val);
+    let control = val & 0xFFFF_7FFF;
+    if (val & 0x2000 != 0) & (old & 0x2000 == 0) {
+        return Written {
+            timer: Timer {
+                start: now,
+                seen: 0,
+                pending,
+            },
+            control,
+        };
+    }
+    Written {
+        timer: Timer {
+            start: t.start,
+            seen: t.seen,
+            pending,
+        },
+        control,
+    }
+}
+
+pub fn advance(t: Timer, now: f64, clock: u32, control: u32, reload: u32) -> Timer
+    ensures { λ r. ⌜ r ≡ advancedOf t now clock control reload ⌝ }
+{
+    if control & 0x2000 == 0 {
+        return t;
+    }
+    let periods = elapsed(t.start, now, rate(clock, control)) / period(reload);
+    if periods <= t.seen {
+        return t;
+    }
+    Timer {
+        start: t.start,
+        seen: periods,
+        pending: t.pending | (control & 0x4000 != 0),
+    }
+}

@@ -1,0 +1,7 @@
+-- The laws of IEEE 754 that this crate and those above it cite.
+pub mod Bits
+pub mod Cuts
+pub mod Good
+pub mod Round
+pub mod Order
+pub mod Words

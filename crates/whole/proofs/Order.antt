@@ -1,0 +1,196 @@
+-- The order of floats. A value that the format holds is its own rounding, so adding what is not negative makes no value smaller, and
+-- dividing by 1.0 changes nothing.
+use mathlib.Core.Path.{_≡_, refl, sym, ap, _∙_, subst}
+use mathlib.Core.Bool.{Bool, true, false, not, cond, _&&_, _||_, true≢false}
+use mathlib.Core.Logic.{_⊎_, inl, inr}
+use lib.Ieee.Positive.{through}
+use Rattle.whole.proofs.Round.{or-split}
+use Prim.Native.Nat.{ℕ, zero, suc, _+_, _-_, _*_, _/_, _%_, _^_, _≤_, _<_, zero-le, min}
+use native.Mathlib.Nat.{le-trans, le-of-eq, le-of-lt, lt-of-lt-of-le, lt-of-le-of-lt, mul-one, one-mul, mul-assoc, mul-comm, mul-left-comm, mul-right-comm, mul-pos, mul-le-mul-right, mul-lt-mul-of-pos-right, le-of-mul-le-mul-right, le-add-right, lt-of-not-le, not-le-of-lt, eq-of-mul-eq-mul-right, le-of-suc-le-suc, div-lt-iff-lt-mul, lt-suc-self}
+use native.Mathlib.Omega.{arith}
+use lib.IntN.{ℤ, pos, negsuc}
+use lib.Dec.{T, leb, ltb, eqb, leb→le, ltb→lt, eqb→eq, lit<, lit≤}
+use lib.Pow.{pow-pos, pow-mono, pow-add, pow-lt, shl-lt}
+use lib.Ieee.{Float, nan, inf, fin, binary64, up, down, round, add, div, le, lt, fits, toUnsigned, toSigned}
+use borrow.Author.Tests.{ltb-false}
+use lib.Ieee.Fits.{up-pos, down-pos, and-l, and-r}
+use lib.Ieee.Exact.{HasValue, round-exact}
+use lib.Ieee.Back.{round-whole}
+use lib.Ieee.Scale.{round-same}
+use Rattle.whole.proofs.Cuts.{cut-value}
+use lib.Ieee.Order.{le-of-values, round-mono}
+use Rattle.whole.specs.Bounds.{AtMost, Clear}
+
+same-power : (a b : ℕ) → 2 ^ a ≤ 2 ^ b → a ≤ b
+same-power a b h = le-of-not-lt a b (λ (l : b < a). not-le-of-lt (pow-lt l) h)
+  where
+    le-of-not-lt : (a b : ℕ) → (b < a → ⊥) → a ≤ b
+    le-of-not-lt a b h = omega arith
+
+own-up : (m k : ℕ) → m < 2 ^ 53 → m * 2 ^ k < 2 ^ 1024 * 1 → HasValue (round binary64 false (m * 2 ^ k) 1) false (m * 2 ^ k) 1
+own-up m k h l =
+    round-exact binary64 false (m * 2 ^ k) 1 m (k + 1074) (lit< tt) h
+    (subst (λ (z : ℕ). z < 2 ^ 2098) (mul-assoc m (2 ^ k) (2 ^ 1074) ∙ ap (λ (z : ℕ). m * z) (sym (pow-add 2 k 1074)))
+    (mul-lt-mul-of-pos-right (lt-of-lt-of-le l (le-of-eq (mul-one (2 ^ 1024)))) (pow-pos 1074)))
+    (mul-assoc m (2 ^ k) (2 ^ 1074) ∙ ap (λ (z : ℕ). m * z) (sym (pow-add 2 k 1074)) ∙ sym (mul-one (m * 2 ^ (k + 1074))))
+
+own-down : (m k : ℕ) → m < 2 ^ 53 → k ≤ 1074 → HasValue (round binary64 false (m * 1) (2 ^ k)) false (m * 1) (2 ^ k)
+own-down m k h l =
+    round-exact binary64 false (m * 1) (2 ^ k) m (1074 - k) (pow-pos k) h
+    (lt-of-lt-of-le (shl-lt 53 (1074 - k) h) (pow-mono (room k)))
+    (ap (λ (z : ℕ). z * 2 ^ 1074) (mul-one m) ∙ ap (λ (z : ℕ). m * 2 ^ z) (whole k l) ∙ ap (λ (z : ℕ). m * z) (pow-add 2 (1074 - k) k) ∙ sym (mul-assoc m (2 ^ (1074 - k)) (2 ^ k)))
+  where
+    room : (k : ℕ) → 53 + (1074 - k) ≤ 2098
+    room k = omega arith
+
+    whole : (k : ℕ) → k ≤ 1074 → 1074 ≡ 1074 - k + k
+    whole k h = omega arith
+
+-- a value that the format holds is its own rounding
+pub own : (s : Bool) (m : ℕ) (e : ℤ) → T (fits binary64 (fin s m e)) → HasValue (round binary64 false (m * up e) (down e)) false (m * up e) (down e)
+unfolding fits
+own s zero (pos k) f = own-up 0 k (lit< tt) (lt-of-le-of-lt (le-of-eq (nothing (2 ^ k))) (lit< tt))
+  where
+    nothing : (p : ℕ) → 0 * p ≡ 0
+    nothing p = omega arith
+own s zero (negsuc k) f = own-down 0 (suc k) (lit< tt) (same-power (suc k) 1074 (le-trans (le-of-eq (sym (one-mul (2 ^ suc k)) ∙ eqb→eq (1 * 2 ^ suc k) 1 f)) (lit≤ tt)))
+own s (suc m) (pos k) f =
+    let A = eqb (suc m % 2) 1 in
+    let B = ltb (suc m) (2 ^ 53) in
+    let C = leb 1 (2 ^ 1074) in
+    let D = ltb (suc m * 2 ^ k) (2 ^ 1024 * 1) in
+    own-up (suc m) k (ltb→lt (suc m) (2 ^ 53) (and-r A B (and-l (A && B) C (and-l (A && B && C) D f)))) (ltb→lt (suc m * 2 ^ k) (2 ^ 1024 * 1) (and-r (A && B && C) D f))
+own s (suc m) (negsuc k) f =
+    let A = eqb (suc m % 2) 1 in
+    let B = ltb (suc m) (2 ^ 53) in
+    let C = leb (2 ^ suc k) (2 ^ 1074) in
+    let D = ltb (suc m * 1) (2 ^ 1024 * 2 ^ suc k) in
+    own-down (suc m) (suc k) (ltb→lt (suc m) (2 ^ 53) (and-r A B (and-l (A && B) C (and-l (A && B && C) D f))))
+    (same-power (suc k) 1074 (leb→le (2 ^ suc k) (2 ^ 1074) (and-r (A && B) C (and-l (A && B && C) D f))))
+
+pub at-most-clear : (x : Float) (n : ℕ) → AtMost x n → Clear x
+at-most-clear nan n p = p
+at-most-clear (inf s) n p = p
+at-most-clear (fin true m e) n p = p
+at-most-clear (fin false m e) n p = tt
+
+lt-or-eq : (a b : ℕ) → T (ltb a b || (eqb a b && true)) → a ≤ b
+lt-or-eq a b t = elim (or-split (ltb a b) (eqb a b && true) t) [ inl u ↦ le-of-lt (ltb→lt a b u) | inr u ↦ le-of-eq (eqb→eq a b (and-l (eqb a b) true u)) ]
+
+-- the order of two that are clear is that of their fractions
+pub cross : (m : ℕ) (e : ℤ) (n : ℕ) (d : ℤ) → T (le (fin false m e) (fin false n d)) → m * up e * down d ≤ n * up d * down e
+unfolding le
+cross m e n d h = lt-or-eq (m * up e * down d) (n * up d * down e) h
+
+-- x and y are the same number, and y ≤ z
+above : (x y z : Float) (a c n : ℕ) → 0 < c → HasValue x false a c → HasValue y false a c → AtMost z n → T (le y z) → T (le x z)
+above x nan z a c n C p q t h = absurd q
+above x (inf s) z a c n C p q t h = absurd q
+above x (fin true m e) z a c n C p q t h = absurd (true≢false (q .0))
+above x (fin false m e) nan a c n C p q t h = absurd t
+above x (fin false m e) (inf s) a c n C p q t h = absurd t
+above x (fin false m e) (fin true k d) a c n C p q t h = absurd t
+above x (fin false m e) (fin false k d) a c n C p q t h =
+    le-of-values x (fin false k d) a c (k * up d) (down d) C (down-pos d) p (refl, refl)
+    (through a (m * up e) (k * up d) c (down e) (down d) (down-pos e) (le-of-eq (sym (q .1))) (cross m e k d h))
+
+pub le-trans-clear : (x y z : Float) → Clear x → Clear y → Clear z → T (le x y) → T (le y z) → T (le x z)
+le-trans-clear nan y z p q r h k = absurd p
+le-trans-clear (inf s) y z p q r h k = absurd p
+le-trans-clear (fin true m e) y z p q r h k = absurd p
+le-trans-clear (fin false m e) nan z p q r h k = absurd q
+le-trans-clear (fin false m e) (inf s) z p q r h k = absurd q
+le-trans-clear (fin false m e) (fin true n d) z p q r h k = absurd q
+le-trans-clear (fin false m e) (fin false n d) nan p q r h k = absurd r
+le-trans-clear (fin false m e) (fin false n d) (inf s) p q r h k = absurd r
+le-trans-clear (fin false m e) (fin false n d) (fin true l c) p q r h k = absurd r
+le-trans-clear (fin false m e) (fin false n d) (fin false l c) p q r h k =
+    le-of-values (fin false m e) (fin false l c) (m * up e) (down e) (l * up c) (down c) (down-pos e) (down-pos c) (refl, refl) (refl, refl)
+    (through (m * up e) (n * up d) (l * up c) (down e) (down d) (down c) (down-pos d) (cross m e n d h) (cross n d l c k))
+
+-- x ≤ y + x, whatever y that is not negative, if the sum does not overflow
+pub add-grows : (x y : Float) (n : ℕ) → T (fits binary64 x) → Clear x → Clear y → AtMost (add binary64 y x) n → T (le x (add binary64 y x))
+unfolding add
+add-grows nan y n f p q a = absurd p
+add-grows (inf s) y n f p q a = absurd p
+add-grows (fin true m e) y n f p q a = absurd p
+add-grows (fin false m e) nan n f p q a = absurd q
+add-grows (fin false m e) (inf t) n f p q a = absurd q
+add-grows (fin false m e) (fin true k d) n f p q a = absurd q
+add-grows (fin false m e) (fin false k d) n f p q a =
+    above (fin false m e) (round binary64 false (m * up e) (down e)) (round binary64 false (k * up d * down e + m * up e * down d) (down d * down e)) (m * up e) (down e) n
+    (down-pos e) (refl, refl) (own false m e f) a
+    (round-mono binary64 (m * up e) (down e) (k * up d * down e + m * up e * down d) (down d * down e) (down-pos e) (mul-pos (down-pos d) (down-pos e))
+    (more (m * up e) (down e) (down d) (k * up d * down e)))
+  where
+    more : (a e d b : ℕ) → a * (d * e) ≤ (b + a * d) * e
+    more a e d b = le-trans (le-of-eq (sym (mul-assoc a d e))) (mul-le-mul-right e (grow (a * d) b))
+      where
+        grow : (x b : ℕ) → x ≤ b + x
+        grow x b = omega arith
+
+-- x ≤ x + y
+pub grows : (x y : Float) (n : ℕ) → T (fits binary64 x) → Clear x → Clear y → AtMost (add binary64 x y) n → T (le x (add binary64 x y))
+unfolding add
+grows nan y n f p q a = absurd p
+grows (inf s) y n f p q a = absurd p
+grows (fin true m e) y n f p q a = absurd p
+grows (fin false m e) nan n f p q a = absurd q
+grows (fin false m e) (inf t) n f p q a = absurd q
+grows (fin false m e) (fin true k d) n f p q a = absurd q
+grows (fin false m e) (fin false k d) n f p q a =
+    above (fin false m e) (round binary64 false (m * up e) (down e)) (round binary64 false (m * up e * down d + k * up d * down e) (down e * down d)) (m * up e) (down e) n
+    (down-pos e) (refl, refl) (own false m e f) a
+    (round-mono binary64 (m * up e) (down e) (m * up e * down d + k * up d * down e) (down e * down d) (down-pos e) (mul-pos (down-pos e) (down-pos d))
+    (more (m * up e) (down e) (down d) (k * up d * down e)))
+  where
+    more : (a e d b : ℕ) → a * (e * d) ≤ (a * d + b) * e
+    more a e d b = le-trans (le-of-eq (ap (λ (z : ℕ). a * z) (mul-comm e d) ∙ sym (mul-assoc a d e))) (mul-le-mul-right e (le-add-right (a * d) b))
+
+-- x / 1.0 is cut to what x is cut to
+pub cut-div-one : (x : Float) → T (fits binary64 x) → Clear x → toUnsigned 64 (div binary64 x (fin false 1 (pos 0))) ≡ toUnsigned 64 x
+unfolding div toUnsigned
+cut-div-one nan f p = absurd p
+cut-div-one (inf s) f p = absurd p
+cut-div-one (fin true m e) f p = absurd p
+cut-div-one (fin false m e) f p =
+    ap (toUnsigned 64) (round-same binary64 false (m * up e * 1) (1 * 1 * down e) (m * up e) (down e) (mul-pos (lit< tt) (down-pos e)) (down-pos e)
+    (ap (λ (z : ℕ). z * down e) (mul-one (m * up e)) ∙ ap (λ (z : ℕ). m * up e * z) (sym (one-mul (down e)))))
+    ∙ cut-value (round binary64 false (m * up e) (down e)) (m * up e) (down e) (down-pos e) (own false m e f)
+
+-- as an i64 it is the same number
+pub signed-same : (x : Float) (k : ℕ) → k < 63 → AtMost x (2 ^ k) → toSigned 63 x ≡ pos (toUnsigned 64 x)
+unfolding toUnsigned toSigned
+signed-same nan k h p = absurd p
+signed-same (inf s) k h p = absurd p
+signed-same (fin true m e) k h p = absurd p
+signed-same (fin false m e) k h p =
+    ap pos (both (m * up e / down e) (2 ^ k) (pow-lt h) (cut (m * up e) (down e) (2 ^ k) (down-pos e) p))
+  where
+    cut : (a c n : ℕ) → 0 < c → a ≤ n * c → a / c ≤ n
+    cut a c n C h = le-of-suc-le-suc (div-lt-iff-lt-mul C .1 (lt-of-le-of-lt h (mul-lt-mul-of-pos-right (lt-suc-self n) C)))
+
+    both : (q p : ℕ) → p < 2 ^ 63 → q ≤ p → min q (2 ^ 63 - 1) ≡ min q (2 ^ 64 - 1)
+    both q p h l = omega arith
+
+-- ---- a comparison that failed
+pub le-of-not-lt : (x y : Float) → Clear x → Clear y → lt y x ≡ false → T (le x y)
+unfolding lt
+le-of-not-lt nan y p q h = absurd p
+le-of-not-lt (inf s) y p q h = absurd p
+le-of-not-lt (fin true m e) y p q h = absurd p
+le-of-not-lt (fin false m e) nan p q h = absurd q
+le-of-not-lt (fin false m e) (inf t) p q h = absurd q
+le-of-not-lt (fin false m e) (fin true n d) p q h = absurd q
+le-of-not-lt (fin false m e) (fin false n d) p q h =
+    le-of-values (fin false m e) (fin false n d) (m * up e) (down e) (n * up d) (down d) (down-pos e) (down-pos d) (refl, refl) (refl, refl)
+    (ltb-false (n * up d * down e) (m * up e * down d) h)
+
+-- x is not above 2 ^ k
+pub at-most-of-not-lt : (x : Float) (N k n : ℕ) → N ≡ 2 ^ k → AtMost x n → lt (fin false 1 (pos k)) x ≡ false → AtMost x N
+unfolding lt
+at-most-of-not-lt nan N k n i p h = absurd p
+at-most-of-not-lt (inf s) N k n i p h = absurd p
+at-most-of-not-lt (fin true m e) N k n i p h = absurd p
+at-most-of-not-lt (fin false m e) N k n i p h =
+    le-trans (le-of-eq (sym (mul-one (m * up e)))) (le-trans (ltb-false (1 * 2 ^ k * down e) (m * up e * 1) h) (le-of-eq (ap (λ (z : ℕ). z * down e) (one-mul (2 ^ k) ∙ sym i))))

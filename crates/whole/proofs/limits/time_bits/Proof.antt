@@ -1,0 +1,12 @@
+use Rattle.whole.proofs.Good.{time-bits}
+use Rattle.whole.proofs.limits.time_bits.Statement.{statement}
+use Rattle.whole.proofs.limits.time_bits.Tie as tie
+use Rattle.whole.proofs.limits.time_bits.Reads as reads
+use Rattle.whole.proofs.limits.time_bits.Lts as lts
+
+-- src/limits.rt:10:1
+returns : tie.Need-returns
+returns c = time-bits (c .args .bits)
+
+pub time-bits-spec : {M : Type 1} → statement M
+time-bits-spec = tie.close (tie.spec returns)

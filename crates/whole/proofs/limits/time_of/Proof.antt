@@ -1,0 +1,30 @@
+use borrow.Author.Needs.{needs}
+use mathlib.Core.Path.{sym, _∙_}
+use Rattle.whole.specs.Limits.{timeOf}
+use Rattle.whole.proofs.Good.{time-no-nan}
+use Rattle.whole.proofs.limits.time_of.Statement.{statement}
+use Rattle.whole.proofs.limits.time_of.Tie as tie
+use Rattle.whole.proofs.limits.time_of.Reads as reads
+use Rattle.whole.proofs.limits.time_of.Lts as lts
+use Rattle.whole.proofs.limits.time_bits.Reads as time-bits-reads
+
+-- src/limits.rt:45:8
+time-bits-requires : tie.Need-time-bits-requires
+time-bits-requires c κs = search needs
+
+-- src/limits.rt:46:25
+float-from-bits-t3 : tie.Need-float-from-bits-t3
+float-from-bits-t3 c = time-no-nan (c .before .before .args .bits) (sym (c .before .time-bits .ensures) ∙ (c .if1 .taken))
+
+-- src/limits.rt:46:9
+returns : tie.Need-returns
+unfolding timeOf
+returns c = rw (sym (c .before .time-bits .ensures) ∙ (c .if1 .taken))
+
+-- src/limits.rt:42:1
+returns-2 : tie.Need-returns-2
+unfolding timeOf
+returns-2 c = rw (sym (c .before .time-bits .ensures) ∙ (c .if1 .left))
+
+pub time-of-spec : {M : Type 1} → statement M
+time-of-spec = tie.close (tie.spec time-bits-requires float-from-bits-t3 returns returns-2)

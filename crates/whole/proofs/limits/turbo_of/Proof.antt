@@ -1,0 +1,30 @@
+use borrow.Author.Needs.{needs}
+use mathlib.Core.Path.{sym, _∙_}
+use Rattle.whole.specs.Limits.{turboOf}
+use Rattle.whole.proofs.Good.{turbo-no-nan}
+use Rattle.whole.proofs.limits.turbo_of.Statement.{statement}
+use Rattle.whole.proofs.limits.turbo_of.Tie as tie
+use Rattle.whole.proofs.limits.turbo_of.Reads as reads
+use Rattle.whole.proofs.limits.turbo_of.Lts as lts
+use Rattle.whole.proofs.limits.turbo_bits.Reads as turbo-bits-reads
+
+-- src/limits.rt:54:8
+turbo-bits-requires : tie.Need-turbo-bits-requires
+turbo-bits-requires c κs = search needs
+
+-- src/limits.rt:55:26
+float-from-bits-t3 : tie.Need-float-from-bits-t3
+float-from-bits-t3 c = turbo-no-nan (c .before .before .args .bits) (sym (c .before .turbo-bits .ensures) ∙ (c .if1 .taken))
+
+-- src/limits.rt:55:9
+returns : tie.Need-returns
+unfolding turboOf
+returns c = rw (sym (c .before .turbo-bits .ensures) ∙ (c .if1 .taken))
+
+-- src/limits.rt:51:1
+returns-2 : tie.Need-returns-2
+unfolding turboOf
+returns-2 c = rw (sym (c .before .turbo-bits .ensures) ∙ (c .if1 .left))
+
+pub turbo-of-spec : {M : Type 1} → statement M
+turbo-of-spec = tie.close (tie.spec turbo-bits-requires float-from-bits-t3 returns returns-2)

@@ -1,0 +1,5 @@
+-- What the crate's contracts cite, and what the laws are stated with.
+pub mod Cut
+pub mod Limits
+pub mod Bounds
+pub mod Words
