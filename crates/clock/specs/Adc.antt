@@ -1,10 +1,13 @@
 -- The ADC, as document 000 has it: adc_write_ctrl, adc_advance, adc_irq_line.
-use mathlib.Core.Bool.{Bool, true, false, cond, _&&_, _||_}
+use mathlib.Core.Bool.{Bool, false, cond, _&&_, _||_}
 use Prim.Native.Nat.{ℕ}
 use lib.Bits.{bitAnd, bitOr}
 use lib.Dec.{eqb}
 use Rattle.whole.specs.Words.{has, lacks}
 use Rattle.clock.specs.declared.Adc.{Adc}
+
+abbrev pub freshAdc : Adc
+freshAdc = record { converting = false; control = 0; result = 0 }
 
 -- `new & !0x80B0`; a bit 15 that was set and is not written keeps bits 15 and 7
 unfoldable pub storedOf : ℕ → ℕ → ℕ

@@ -3,8 +3,11 @@ use mathlib.Core.Bool.{cond}
 use Prim.Native.Nat.{ℕ, _+_, _-_, _*_, _/_, _%_}
 use lib.IntN.{ℤ, pos, negsuc}
 use lib.Dec.{eqb, ltb}
-use lib.Ieee.{Float, binary64, ofInt, add, sub, toSigned}
+use lib.Ieee.{Float, binary64, ofBits, ofInt, add, sub, toSigned}
 use Rattle.clock.specs.declared.RtcIrq.{RtcIrq}
+
+abbrev pub freshIrq : RtcIrq
+freshIrq = record { fired = 0; base = 0; set = ofBits binary64 0 }
 
 -- `rem_euclid`; negsuc n is -(n + 1)
 abbrev pub remEuclid : ℤ → ℕ → ℕ

@@ -4,3 +4,5 @@ pub mod Rtc
 pub mod Day
 pub mod Sources
 pub mod Adc
+pub mod Within
+pub mod Table

@@ -1,10 +1,10 @@
 -- The RTC chip, as document 000 has it: Rtc, ticks, alarm_ticks, rtc_command. An i64 is given by its 64 bits.
-use mathlib.Core.Bool.{Bool, true, false, cond, _&&_}
+use mathlib.Core.Bool.{cond, _&&_}
 use mathlib.Core.List.{List}
 use Prim.Native.Nat.{ℕ, _+_, _-_, _*_, _/_, _%_, _^_}
 use lib.Bits.{bitAnd}
 use lib.Dec.{eqb, leb}
-use lib.ListN.{getD, set}
+use lib.ListN.{getD, set, replicate}
 use lib.Ieee.{Float, binary64, ofBits, sub, mul, toSigned}
 use Rattle.whole.specs.Cut.{twos}
 use Rattle.whole.specs.Words.{has, lacks}
@@ -40,6 +40,9 @@ unfoldable pub outputOf : Latch → List ℕ → Float → ℕ → ℕ
 outputOf latch regs game at =
     cond (leb 0x30 at && leb at 0x35) (bitAnd (ticksOf latch game / 2 ^ (8 * (at - 0x30))) 0xFF)
     (cond (eqb at 0) (bitAnd (getD regs 0 0) 0xEF) (getD regs at 0))
+
+unfoldable pub freshRtc : Rtc
+freshRtc = rtcOf (replicate 256 0) (record { base = 0; since = ofBits binary64 0; out = 0 })
 
 -- a write; only that of 0x15 latches
 abbrev pub putOf : Rtc → Float → ℕ → ℕ → Rtc

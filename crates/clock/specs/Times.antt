@@ -1,5 +1,5 @@
 -- Emulated time and game time, as document 000's advance moves them, and their limits.
-use mathlib.Core.Bool.{Bool, true, false, cond}
+use mathlib.Core.Bool.{cond}
 use Prim.Native.Nat.{ℕ}
 use lib.Ieee.{Float, binary64, ofBits, add, sub, mul, lt}
 use Rattle.whole.specs.Limits.{goodTime, goodTurbo}
@@ -8,6 +8,9 @@ use Rattle.clock.specs.declared.Moved.{Moved}
 use Rattle.clock.specs.declared.Moved.the-variants.{To, BadTime}
 use Rattle.clock.specs.declared.Paced.{Paced}
 use Rattle.clock.specs.declared.Paced.the-variants.{By, BadTurbo}
+
+abbrev pub freshTimes : Times
+freshTimes = record { now = ofBits binary64 0; game = ofBits binary64 0; turbo = ofBits binary64 0x3FF0_0000_0000_0000 }
 
 -- `game_time += (now - self.now) * self.turbo`
 abbrev pub gameAfter : Times → Float → Float

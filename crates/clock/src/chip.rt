@@ -2,10 +2,24 @@
 ghost use mathlib.Core.Path.{_≡_};
 ghost use Prim.Native.Nat.{_+_, _<_};
 ghost use lib.ListN.{getD};
-ghost use Rattle.clock.specs.Rtc.{ticksOf, joinedOf, sixBytes, alarmOf, rtcOf, latchedOf, outputOf, commandedOf};
+ghost use Rattle.clock.specs.Rtc.{freshRtc, ticksOf, joinedOf, sixBytes, alarmOf, rtcOf, latchedOf, outputOf, commandedOf};
 use crate::Alarm;
 use crate::Latch;
 use crate::Rtc;
+
+// The chip as it is after a wipe.
+pub fn fresh() -> Rtc
+    ensures { λ r. ⌜ r ≡ freshRtc ⌝ }
+{
+    Rtc {
+        regs: [0; 256],
+        latch: Latch {
+            base: 0,
+            since: 0.0,
+            out: 0,
+        },
+    }
+}
 
 // Ticks at 32,768 Hz, as the 64 bits of the Rust's i64.
 pub fn ticks(latch: Latch, game: f64) -> u64

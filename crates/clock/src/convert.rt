@@ -1,7 +1,18 @@
 // The ADC: a conversion that is started has its result at the next advance.
 ghost use mathlib.Core.Path.{_≡_};
-ghost use Rattle.clock.specs.Adc.{storedOf, writtenOf, convertedOf, lineOf};
+ghost use Rattle.clock.specs.Adc.{freshAdc, storedOf, writtenOf, convertedOf, lineOf};
 use crate::Adc;
+
+// The ADC as it is after a wipe.
+pub fn fresh() -> Adc
+    ensures { λ r. ⌜ r ≡ freshAdc ⌝ }
+{
+    Adc {
+        converting: false,
+        control: 0,
+        result: 0,
+    }
+}
 
 fn stored(new: u32, old: u32) -> u32
     ensures { λ r. ⌜ r ≡ storedOf new old ⌝ }

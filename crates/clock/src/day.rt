@@ -1,8 +1,19 @@
 // The time of day of the SoC's clock.
 ghost use mathlib.Core.Path.{_≡_};
 ghost use mathlib.Core.Bool.{cond};
-ghost use Rattle.clock.specs.Day.{todOf, fieldOf, setOf};
+ghost use Rattle.clock.specs.Day.{freshIrq, todOf, fieldOf, setOf};
 use crate::RtcIrq;
+
+// The clock as it is after a wipe.
+pub fn fresh() -> RtcIrq
+    ensures { λ r. ⌜ r ≡ freshIrq ⌝ }
+{
+    RtcIrq {
+        fired: 0,
+        base: 0,
+        set: 0.0,
+    }
+}
 
 // Seconds of the day. What is below zero, as an i64, is counted back from the day's end.
 pub fn tod(irq: RtcIrq, game: f64) -> u64

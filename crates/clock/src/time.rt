@@ -1,9 +1,20 @@
 // Time goes on, within the limits.
 ghost use mathlib.Core.Path.{_≡_};
-ghost use Rattle.clock.specs.Times.{movedOf, pacedOf};
+ghost use Rattle.clock.specs.Times.{freshTimes, movedOf, pacedOf};
 use crate::Moved;
 use crate::Paced;
 use crate::Times;
+
+// The times as they are after a wipe.
+pub fn fresh() -> Times
+    ensures { λ r. ⌜ r ≡ freshTimes ⌝ }
+{
+    Times {
+        now: 0.0,
+        game: 0.0,
+        turbo: 1.0,
+    }
+}
 
 pub fn advance(s: Times, to: f64) -> Moved
     ensures { λ r. ⌜ r ≡ movedOf s to ⌝ }

@@ -1,16 +1,15 @@
 -- The branches of the definitions, as the functions meet them.
-use mathlib.Core.Path.{_≡_, refl, sym, ap, _∙_}
-use mathlib.Core.Bool.{Bool, true, false, not, cond, _&&_, _||_}
+use mathlib.Core.Path.{_≡_, sym, ap, _∙_}
+use mathlib.Core.Bool.{Bool, true, false, not, cond, _||_}
 use mathlib.Core.Logic.{_≢_}
 use Prim.Native.Nat.{ℕ, _+_, _-_, _/_, _%_, _≤_, _<_}
-use lib.Bits.{bitAnd, bitOr}
+use lib.Bits.{bitAnd}
 use lib.Ieee.{Float, ne}
-use borrow.Author.Tests.{eq-eqb, ne-eqb, lt-ltb, le-ltb}
+use borrow.Author.Tests.{lt-ltb, le-ltb}
 use Rattle.whole.specs.Words.{has}
 use Rattle.whole.proofs.Words.{has-some, has-not}
 use Rattle.timer.specs.declared.Timer.{Timer}
 use Rattle.timer.specs.declared.Tone.{Tone}
-use Rattle.timer.specs.declared.Sounded.{Sounded}
 use Rattle.timer.specs.declared.Sounded.the-variants.{Same, Change, SoundFull}
 use Rattle.timer.specs.Timers.{periodOf, rateOf, elapsedOf, counterOf, noted, advancedOf}
 use Rattle.timer.specs.Sound.{differOf, soundedOf}

@@ -1,2 +1,5 @@
 -- Laws that several proofs cite, and the theorems.
 pub mod Cases
+pub mod Limits
+pub mod Held
+pub mod Judged

@@ -1,3 +1,5 @@
 -- What the crate's contracts cite.
 pub mod Timers
 pub mod Sound
+pub mod Within
+pub mod Table

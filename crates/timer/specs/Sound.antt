@@ -15,14 +15,17 @@ clampOf x =
     cond (lt x (ofBits binary64 0x3FA9_9999_9999_999A)) (ofBits binary64 0x3FA9_9999_9999_999A)
     (cond (lt (ofBits binary64 0x3FEE_6666_6666_6666) x) (ofBits binary64 0x3FEE_6666_6666_6666) x)
 
--- (0.0, 0.5) where the timer does not run
+-- (0.0, 0.5)
+abbrev pub silence : Tone
+silence = record { frequency = ofBits binary64 0; duty = ofBits binary64 0x3FE0_0000_0000_0000 }
+
 unfoldable pub toneOf : ℕ → ℕ → ℕ → ℕ → Tone
 toneOf clock control reload compare =
     let period = ofInt binary64 (pos (periodOf reload)) in
     let high = ofInt binary64 (pos (periodOf compare)) in
     cond (has control 0x2000)
     (record { frequency = div binary64 (rateOf clock control) period; duty = clampOf (div binary64 high period) })
-    (record { frequency = ofBits binary64 0; duty = ofBits binary64 0x3FE0_0000_0000_0000 })
+    silence
 
 unfoldable pub differOf : Tone → Tone → Bool
 differOf a b = ne (a .frequency) (b .frequency) || ne (a .duty) (b .duty)

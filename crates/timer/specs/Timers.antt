@@ -1,6 +1,6 @@
 -- A timer, as document 000 has it: Timer, sysclk, timer_rate, timer_period, timer_elapsed, timer_counter, timer_write_ctrl,
 -- timer_advance and the timer words of mmio_read. Every f64 operation stands in the Rust's order; a literal is given by its bits.
-use mathlib.Core.Bool.{Bool, true, false, not, cond, _&&_, _||_}
+use mathlib.Core.Bool.{Bool, false, not, cond, _&&_, _||_}
 use Prim.Native.Nat.{ℕ, _+_, _-_, _/_, _%_}
 use lib.IntN.{pos}
 use lib.Bits.{bitAnd, bitOr}
@@ -9,6 +9,9 @@ use lib.Ieee.{Float, binary64, ofBits, ofInt, sub, mul, div, lt, toUnsigned}
 use Rattle.whole.specs.Words.{has, lacks}
 use Rattle.timer.specs.declared.Timer.{Timer}
 use Rattle.timer.specs.declared.Written.{Written}
+
+abbrev pub freshTimer : Timer
+freshTimer = record { start = ofBits binary64 0; seen = 0; pending = false }
 
 -- 24,000,000.0 for a clock word of 0
 unfoldable pub sysclkOf : ℕ → Float

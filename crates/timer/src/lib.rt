@@ -1,6 +1,6 @@
 // A timer by value. Its registers belong to the bus, which hands in the words that a function reads.
 ghost use mathlib.Core.Path.{_≡_};
-ghost use Rattle.timer.specs.Timers.{periodOf, sysclkOf, rateOf, elapsedOf, counterOf, controlOf, clearedOf, writtenOf, advancedOf};
+ghost use Rattle.timer.specs.Timers.{freshTimer, periodOf, sysclkOf, rateOf, elapsedOf, counterOf, controlOf, clearedOf, writtenOf, advancedOf};
 
 pub mod sound;
 
@@ -27,6 +27,17 @@ pub enum Sounded {
     Same,
     Change(Tone),
     SoundFull,
+}
+
+// A timer as it is after a wipe.
+pub fn fresh() -> Timer
+    ensures { λ r. ⌜ r ≡ freshTimer ⌝ }
+{
+    Timer {
+        start: 0.0,
+        seen: 0,
+        pending: false,
+    }
 }
 
 pub fn sysclk(clock: u32) -> f64

@@ -1,10 +1,20 @@
 // The buzzer, which follows timer 4.
 ghost use mathlib.Core.Path.{_≡_};
-ghost use Rattle.timer.specs.Sound.{clampOf, toneOf, differOf, soundedOf};
+ghost use Rattle.timer.specs.Sound.{silence, clampOf, toneOf, differOf, soundedOf};
 use crate::Sounded;
 use crate::Tone;
 use crate::period;
 use crate::rate;
+
+// The buzzer as it is after a wipe, and where timer 4 does not run.
+pub fn silent() -> Tone
+    ensures { λ r. ⌜ r ≡ silence ⌝ }
+{
+    Tone {
+        frequency: 0.0,
+        duty: 0.5,
+    }
+}
 
 fn clamp(x: f64) -> f64
     ensures { λ r. ⌜ r ≡ clampOf x ⌝ }
@@ -23,10 +33,7 @@ pub fn tone(clock: u32, control: u32, reload: u32, compare: u32) -> Tone
     ensures { λ r. ⌜ r ≡ toneOf clock control reload compare ⌝ }
 {
     if control & 0x2000 == 0 {
-        return Tone {
-            frequency: 0.0,
-            duty: 0.5,
-        };
+        return silent();
     }
     let p = period(reload) as f64;
     let high = period(compare) as f64;

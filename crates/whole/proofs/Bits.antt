@@ -4,19 +4,16 @@ use mathlib.Core.Path.{_≡_, refl, sym, ap, _∙_, subst}
 use mathlib.Core.Logic.{_⊎_, inl, inr}
 use mathlib.Core.Bool.{Bool, true, false, not, cond, true≢false}
 use Prim.Native.Nat.{ℕ, zero, suc, _+_, _-_, _*_, _/_, _%_, _^_, _≤_, _<_, min, zero-le}
-use native.Mathlib.Nat.{le-trans, le-of-eq, lt-of-le-of-lt, lt-of-lt-of-le, eq-or-lt-of-le, le-refl, not-le-of-lt, mod-eq-of-lt, mul-assoc, mul-comm, mul-one, mul-pos, mul-le-mul-right, mul-lt-mul-of-pos-right, div-mul-le-self, div-lt-iff-lt-mul, le-div-iff-mul-le, div-eq-of-lt, lt-div-mul-add, mul-div-cancel, mul-div-mul-right, div-one, suc-mul, add-comm}
+use native.Mathlib.Nat.{le-trans, le-of-eq, lt-of-lt-of-le, eq-or-lt-of-le, not-le-of-lt, mod-eq-of-lt, mul-le-mul-right, mul-lt-mul-of-pos-right}
 use native.Mathlib.Omega.{arith}
-use lib.IntN.{ℤ, pos, negsuc}
-use lib.Dec.{T, ltb→lt, nltb→le, le→leb, leb, ltb, eqb, leb→le, eqb→eq, not-T, lit<, lit≤}
+use lib.IntN.{ℤ, pos}
+use lib.Dec.{T, ltb→lt, nltb→le, le→leb, leb, ltb, eqb, leb→le, eqb→eq, not-T, lit≤}
 use lib.Pow.{pow-pos, pow-mono, pow-add}
 use lib.Count.{trailingZeros}
-use lib.Ieee.{minus, Float, nan, inf, fin, binary64, up, down, odd, ofFields, ofBits, toBits, fits, ne, toUnsigned, isNan}
+use lib.Ieee.{minus, Float, nan, inf, fin, binary64, down, odd, ofFields, ofBits, toBits, fits, ne, isNan}
 use lib.Ieee.Bits.{is-false, is-true, cond-no, ofBits-toBits}
-use lib.Ieee.Compare.{differs-from-itself, nan-differs}
-use lib.Ieee.Fits.{down-pos, eq→eqb}
+use lib.Ieee.Compare.{nan-differs}
 use lib.Ieee.Exact.{HasValue, odd-sign}
-use lib.Ieee.Nearest.{div-same}
-use lib.Ieee.Casts.{toUnsigned-lt}
 
 pub lt-or-ge : (a b : ℕ) → (a < b) ⊎ (b ≤ a)
 lt-or-ge a b = go (ltb a b) (ltb→lt a b) (nltb→le a b)

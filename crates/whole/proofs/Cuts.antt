@@ -1,23 +1,22 @@
 -- Whole parts: what each range of patterns is cut to, and what holds of what is cut.
 use mathlib.Core.Path.{_≡_, refl, sym, ap, _∙_, subst}
-use mathlib.Core.Logic.{_⊎_, inl, inr}
+use mathlib.Core.Logic.{inl, inr}
 use mathlib.Core.Bool.{Bool, true, false, not, cond, true≢false}
-use Prim.Native.Nat.{ℕ, zero, suc, _+_, _-_, _*_, _/_, _%_, _^_, _≤_, _<_, min, zero-le}
-use native.Mathlib.Nat.{le-of-lt, le-trans, le-of-eq, lt-of-le-of-lt, lt-of-lt-of-le, eq-or-lt-of-le, le-refl, not-le-of-lt, mod-eq-of-lt, mul-assoc, mul-comm, mul-one, mul-pos, mul-le-mul-right, mul-lt-mul-of-pos-right, div-mul-le-self, div-lt-iff-lt-mul, le-div-iff-mul-le, div-eq-of-lt, lt-div-mul-add, mul-div-cancel, mul-div-mul-right, div-one, zero-div, suc-mul, add-comm}
+use Prim.Native.Nat.{ℕ, zero, suc, _+_, _-_, _*_, _/_, _%_, _^_, _≤_, _<_, min}
+use native.Mathlib.Nat.{le-of-lt, le-trans, le-of-eq, lt-of-le-of-lt, mod-eq-of-lt, mul-assoc, mul-lt-mul-of-pos-right, div-mul-le-self, div-lt-iff-lt-mul, le-div-iff-mul-le, div-eq-of-lt, lt-div-mul-add, mul-div-cancel, mul-div-mul-right, zero-div, suc-mul, add-comm}
 use native.Mathlib.Omega.{arith}
-use lib.IntN.{ℤ, pos, negsuc}
-use lib.Dec.{T, ltb→lt, nltb→le, le→leb, leb, ltb, eqb, leb→le, eqb→eq, not-T, lit<, lit≤}
-use lib.Pow.{pow-pos, pow-mono, pow-add}
-use lib.Ieee.{Float, nan, inf, fin, binary64, up, down, odd, ofFields, ofBits, toBits, fits, ne, toUnsigned, isNan}
-use lib.Ieee.Bits.{is-false, is-true, cond-no, ofBits-toBits}
-use lib.Ieee.Compare.{differs-from-itself, nan-differs}
-use lib.Ieee.Fits.{down-pos, eq→eqb}
-use lib.Ieee.Exact.{HasValue, odd-sign}
+use lib.IntN.{ℤ, pos}
+use lib.Dec.{T, ltb}
+use lib.Pow.{pow-pos, pow-add}
+use lib.Ieee.{Float, nan, inf, fin, binary64, up, down, ofBits, toBits, fits, ne, toUnsigned, isNan}
+use lib.Ieee.Compare.{differs-from-itself}
+use lib.Ieee.Fits.{down-pos}
+use lib.Ieee.Exact.{HasValue}
 use lib.Ieee.Nearest.{div-same}
 use lib.Ieee.Casts.{toUnsigned-lt}
 use Rattle.whole.specs.Cut.{Cut}
 use Rattle.whole.specs.Cut.{twos}
-use Rattle.whole.specs.Bounds.{Clear, AtMost}
+use Rattle.whole.specs.Bounds.{Clear, AtMost, WholePart}
 use Rattle.whole.proofs.Bits.{lt-or-ge, lead, val, val-lt, val-le, value, signed-any, top-any, held}
 use borrow.Author.Tests.{le-ltb, ltb-false}
 use lib.Ieee.{neg, toSigned, lt}
@@ -184,3 +183,25 @@ signed-greatest x n h e l = sym (ap twos (signed-from x h ∙ ap (λ (q : ℕ). 
 
 pub signed-within : (x : Float) (n : ℕ) → lt x (ofBits binary64 0) ≡ false → n ≡ toUnsigned 64 x → n < 2 ^ 63 → n ≡ twos (toSigned 63 x)
 signed-within x n h e l = sym (ap twos (signed-from x h ∙ ap (λ (q : ℕ). pos (min q (2 ^ 63 - 1))) (sym e) ∙ ap pos (within n (2 ^ 63 - 1) (omega arith))))
+
+-- ---- within a bound nothing is brought to an end of the range
+pub whole-part : (x : Float) (n : ℕ) → n < 2 ^ 64 → AtMost x n → WholePart x (toUnsigned 64 x)
+whole-part nan n h p = p
+whole-part (inf s) n h p = p
+whole-part (fin true m e) n h p = p
+whole-part (fin false m e) n h p = cut-of (fin false m e) (toUnsigned 64 (fin false m e)) refl .cut m e refl (lt-of-le-of-lt p (mul-lt-mul-of-pos-right h (down-pos e)))
+
+-- what is not above 0.0 is cut to 0
+pub above-zero : (x : Float) → Clear x → cond (lt (ofBits binary64 0) x) (toUnsigned 64 x) 0 ≡ toUnsigned 64 x
+unfolding lt ofBits toUnsigned
+above-zero nan c = absurd c
+above-zero (inf s) c = absurd c
+above-zero (fin true m e) c = absurd c
+above-zero (fin false m e) c = by (ltb (0 * 1 * down e) (m * up e * 1)) refl
+  where
+    none : (a c : ℕ) → a * 1 ≤ 0 * 1 * c → a ≡ 0
+    none a c h = omega arith
+
+    by : (b : Bool) → ltb (0 * 1 * down e) (m * up e * 1) ≡ b → cond b (min (m * up e / down e) (2 ^ 64 - 1)) 0 ≡ min (m * up e / down e) (2 ^ 64 - 1)
+    by true h = refl
+    by false h = sym (ap (λ (a : ℕ). min (a / down e) (2 ^ 64 - 1)) (none (m * up e) (down e) (ltb-false (0 * 1 * down e) (m * up e * 1) h)) ∙ ap (λ (q : ℕ). min q (2 ^ 64 - 1)) (zero-div (down e)))

@@ -4,4 +4,5 @@ pub mod Cuts
 pub mod Good
 pub mod Round
 pub mod Order
+pub mod Mono
 pub mod Words

@@ -1,21 +1,20 @@
 -- The order of floats. A value that the format holds is its own rounding, so adding what is not negative makes no value smaller, and
 -- dividing by 1.0 changes nothing.
 use mathlib.Core.Path.{_≡_, refl, sym, ap, _∙_, subst}
-use mathlib.Core.Bool.{Bool, true, false, not, cond, _&&_, _||_, true≢false}
-use mathlib.Core.Logic.{_⊎_, inl, inr}
+use mathlib.Core.Bool.{Bool, true, false, not, _&&_, _||_, true≢false}
+use mathlib.Core.Logic.{inl, inr}
 use lib.Ieee.Positive.{through}
 use Rattle.whole.proofs.Round.{or-split}
 use Prim.Native.Nat.{ℕ, zero, suc, _+_, _-_, _*_, _/_, _%_, _^_, _≤_, _<_, zero-le, min}
-use native.Mathlib.Nat.{le-trans, le-of-eq, le-of-lt, lt-of-lt-of-le, lt-of-le-of-lt, mul-one, one-mul, mul-assoc, mul-comm, mul-left-comm, mul-right-comm, mul-pos, mul-le-mul-right, mul-lt-mul-of-pos-right, le-of-mul-le-mul-right, le-add-right, lt-of-not-le, not-le-of-lt, eq-of-mul-eq-mul-right, le-of-suc-le-suc, div-lt-iff-lt-mul, lt-suc-self}
+use native.Mathlib.Nat.{le-trans, le-of-eq, le-of-lt, lt-of-lt-of-le, lt-of-le-of-lt, mul-one, one-mul, mul-assoc, mul-comm, mul-pos, mul-le-mul-right, mul-lt-mul-of-pos-right, le-add-right, not-le-of-lt, le-of-suc-le-suc, div-lt-iff-lt-mul, lt-suc-self}
 use native.Mathlib.Omega.{arith}
 use lib.IntN.{ℤ, pos, negsuc}
 use lib.Dec.{T, leb, ltb, eqb, leb→le, ltb→lt, eqb→eq, lit<, lit≤}
 use lib.Pow.{pow-pos, pow-mono, pow-add, pow-lt, shl-lt}
-use lib.Ieee.{Float, nan, inf, fin, binary64, up, down, round, add, div, le, lt, fits, toUnsigned, toSigned}
+use lib.Ieee.{Float, nan, inf, fin, binary64, ofBits, up, down, round, add, div, le, lt, fits, toUnsigned, toSigned}
 use borrow.Author.Tests.{ltb-false}
-use lib.Ieee.Fits.{up-pos, down-pos, and-l, and-r}
+use lib.Ieee.Fits.{down-pos, and-l, and-r}
 use lib.Ieee.Exact.{HasValue, round-exact}
-use lib.Ieee.Back.{round-whole}
 use lib.Ieee.Scale.{round-same}
 use Rattle.whole.proofs.Cuts.{cut-value}
 use lib.Ieee.Order.{le-of-values, round-mono}
@@ -194,3 +193,18 @@ at-most-of-not-lt (inf s) N k n i p h = absurd p
 at-most-of-not-lt (fin true m e) N k n i p h = absurd p
 at-most-of-not-lt (fin false m e) N k n i p h =
     le-trans (le-of-eq (sym (mul-one (m * up e)))) (le-trans (ltb-false (1 * 2 ^ k * down e) (m * up e * 1) h) (le-of-eq (ap (λ (z : ℕ). z * down e) (one-mul (2 ^ k) ∙ sym i))))
+
+pub le-refl-clear : (x : Float) → Clear x → T (le x x)
+le-refl-clear nan c = absurd c
+le-refl-clear (inf s) c = absurd c
+le-refl-clear (fin true m e) c = absurd c
+le-refl-clear (fin false m e) c =
+    le-of-values (fin false m e) (fin false m e) (m * up e) (down e) (m * up e) (down e) (down-pos e) (down-pos e) (refl, refl) (refl, refl) (le-of-eq refl)
+
+-- 0.0 is the least
+pub zero-least : (x : Float) → Clear x → T (le (ofBits binary64 0) x)
+unfolding ofBits
+zero-least nan c = absurd c
+zero-least (inf s) c = absurd c
+zero-least (fin true m e) c = absurd c
+zero-least (fin false m e) c = le-of-values (fin false 0 (pos 0)) (fin false m e) 0 1 (m * up e) (down e) (lit< tt) (down-pos e) (refl, refl) (refl, refl) (omega arith)

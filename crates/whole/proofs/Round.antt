@@ -2,18 +2,18 @@
 use mathlib.Core.Path.{_≡_, refl, sym, ap, _∙_, subst}
 use mathlib.Core.Logic.{_⊎_, inl, inr}
 use mathlib.Core.Bool.{Bool, true, false, not, cond, _||_, _&&_, true≢false}
-use Prim.Native.Nat.{ℕ, zero, suc, _+_, _-_, _*_, _/_, _%_, _^_, _≤_, _<_, min}
-use native.Mathlib.Nat.{le-trans, le-of-eq, le-of-lt, lt-of-lt-of-le, lt-of-le-of-lt, mul-one, one-mul, mul-assoc, mul-comm, mul-left-comm, mul-right-comm, mul-mul-mul-comm, mul-pos, mul-le-mul, mul-le-mul-right, mul-le-mul-left, le-of-mul-le-mul-right, add-mul, sub-le, not-le-of-lt, div-le-of-le-mul, two-pow-succ, le-of-suc-le-suc, div-lt-iff-lt-mul, mul-lt-mul-of-pos-right, lt-suc-self}
+use Prim.Native.Nat.{ℕ, zero, suc, _+_, _-_, _*_, _/_, _^_, _≤_, _<_, min}
+use native.Mathlib.Nat.{le-trans, le-of-eq, le-of-lt, lt-of-lt-of-le, lt-of-le-of-lt, mul-one, one-mul, mul-assoc, mul-comm, mul-left-comm, mul-right-comm, mul-mul-mul-comm, mul-pos, mul-le-mul, mul-le-mul-right, mul-le-mul-left, le-of-mul-le-mul-right, add-mul, sub-le, two-pow-succ, le-of-suc-le-suc, div-lt-iff-lt-mul, mul-lt-mul-of-pos-right, lt-suc-self}
 use native.Mathlib.Omega.{arith}
-use lib.IntN.{ℤ, pos, negsuc}
-use lib.Dec.{T, leb, ltb, eqb, leb→le, ltb→lt, eqb→eq, nltb→le, lit<, lit≤}
-use lib.Pow.{pow-pos, pow-mono, pow-add, pow-lt}
-use lib.Ieee.{Float, nan, inf, fin, binary64, up, down, odd, units, round, sum, add, sub, mul, div, le, lt, ofInt, toUnsigned}
-use lib.Ieee.Fits.{round-is, up-pos, down-pos, and-l}
+use lib.IntN.{pos}
+use lib.Dec.{T, leb, ltb, eqb, leb→le, ltb→lt, eqb→eq, lit<, lit≤}
+use lib.Pow.{pow-pos, pow-add, pow-lt}
+use lib.Ieee.{Float, nan, inf, fin, binary64, up, down, odd, units, round, add, sub, mul, div, le, lt, ofInt, toUnsigned}
+use lib.Ieee.Fits.{round-is, down-pos, and-l, and-r}
 use lib.Ieee.Exact.{HasValue, round-exact}
 use lib.Ieee.Positive.{first-pos, positive}
 use borrow.Author.Tests.{ne-eqb, le-ltb}
-use Rattle.whole.specs.Limits.{goodTime}
+use Rattle.whole.specs.Limits.{upTo, downTo, goodTime, goodTurbo}
 use Rattle.whole.specs.Bounds.{AtMost, AtLeast}
 use lib.Ieee.Back.{round-whole}
 use lib.Ieee.Scale.{round-same}
@@ -209,12 +209,27 @@ cut-at-most (fin false m e) n p = le-trans (min-le-left (m * up e / down e) (2 ^
     cut : (a c n : ℕ) → 0 < c → a ≤ n * c → a / c ≤ n
     cut a c n C h = le-of-suc-le-suc (div-lt-iff-lt-mul C .1 (lt-of-le-of-lt h (mul-lt-mul-of-pos-right (lt-suc-self n) C)))
 
--- a time that is accepted
+-- times and turbos that are accepted
+up-to-at-most : (n : ℕ) (x : Float) → T (upTo n x) → AtMost x n
+up-to-at-most n nan h = absurd h
+up-to-at-most n (inf s) h = absurd h
+up-to-at-most n (fin true m e) h = absurd h
+up-to-at-most n (fin false m e) h = leb→le (m * up e) (n * down e) h
+
+down-to-at-least : (n : ℕ) (x : Float) → T (downTo n x) → AtLeast x n
+down-to-at-least n nan h = absurd h
+down-to-at-least n (inf s) h = absurd h
+down-to-at-least n (fin true m e) h = absurd h
+down-to-at-least n (fin false m e) h = leb→le (down e) (m * up e * n) h
+
 pub good-at-most : (x : Float) → T (goodTime x) → AtMost x (2 ^ 21)
-good-at-most nan h = absurd h
-good-at-most (inf s) h = absurd h
-good-at-most (fin true m e) h = absurd h
-good-at-most (fin false m e) h = leb→le (m * up e) (2 ^ 21 * down e) h
+good-at-most x h = up-to-at-most (2 ^ 21) x h
+
+pub turbo-at-most : (x : Float) → T (goodTurbo x) → AtMost x (2 ^ 10)
+turbo-at-most x h = up-to-at-most (2 ^ 10) x (and-r (downTo 1024 x) (upTo 1024 x) h)
+
+pub turbo-at-least : (x : Float) → T (goodTurbo x) → AtLeast x (2 ^ 10)
+turbo-at-least x h = down-to-at-least (2 ^ 10) x (and-l (downTo 1024 x) (upTo 1024 x) h)
 
 -- ---- division by 2.0, 256.0 and the like
 pub div-pow : (x : Float) (j k : ℕ) → k < 1024 → AtMost x (2 ^ (k + j)) → AtMost (div binary64 x (fin false 1 (pos j))) (2 ^ k)

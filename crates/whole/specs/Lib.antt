@@ -3,3 +3,4 @@ pub mod Cut
 pub mod Limits
 pub mod Bounds
 pub mod Words
+pub mod Table

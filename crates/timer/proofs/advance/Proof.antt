@@ -1,15 +1,8 @@
 use borrow.Author.Needs.{needs}
-use mathlib.Core.Path.{_∙_, ap}
-use lib.Ieee.{Float}
-use Rattle.timer.specs.Timers.{elapsedOf}
+use mathlib.Core.Path.{ap}
 use Rattle.timer.proofs.Cases.{advance-stands, advance-within, advance-counts}
 use Rattle.timer.proofs.advance.Statement.{statement}
 use Rattle.timer.proofs.advance.Tie as tie
-use Rattle.timer.proofs.advance.Reads as reads
-use Rattle.timer.proofs.advance.Lts as lts
-use Rattle.timer.proofs.elapsed.Reads as elapsed-reads
-use Rattle.timer.proofs.period.Reads as period-reads
-use Rattle.timer.proofs.rate.Reads as rate-reads
 
 -- src/lib.rt:112:9
 returns : tie.Need-returns

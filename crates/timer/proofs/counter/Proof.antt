@@ -1,18 +1,10 @@
 use borrow.Author.Needs.{needs}
 use native.Mathlib.Omega.{arith}
-use mathlib.Core.Path.{_≡_, _∙_, ap}
-use lib.Ieee.{Float}
-use Rattle.timer.specs.Timers.{elapsedOf}
+use mathlib.Core.Path.{ap}
 use Rattle.timer.proofs.Cases.{counter-stands, counter-runs}
-use Prim.Native.Nat.{_%_}
 use native.Mathlib.Nat.{mod-lt}
 use Rattle.timer.proofs.counter.Statement.{statement}
 use Rattle.timer.proofs.counter.Tie as tie
-use Rattle.timer.proofs.counter.Reads as reads
-use Rattle.timer.proofs.counter.Lts as lts
-use Rattle.timer.proofs.elapsed.Reads as elapsed-reads
-use Rattle.timer.proofs.period.Reads as period-reads
-use Rattle.timer.proofs.rate.Reads as rate-reads
 
 -- src/lib.rt:62:9
 returns : tie.Need-returns

@@ -2,9 +2,6 @@ use borrow.Author.Needs.{needs}
 use Rattle.timer.specs.Timers.{elapsedOf}
 use Rattle.timer.proofs.elapsed.Statement.{statement}
 use Rattle.timer.proofs.elapsed.Tie as tie
-use Rattle.timer.proofs.elapsed.Reads as reads
-use Rattle.timer.proofs.elapsed.Lts as lts
-use Rattle.whole.proofs.whole.Reads as whole-reads
 
 -- src/lib.rt:54:18
 whole-requires : tie.Need-whole-requires

@@ -3,9 +3,6 @@ use Rattle.timer.specs.Timers.{rateOf}
 use Rattle.whole.proofs.Words.{has-some, has-not}
 use Rattle.timer.proofs.rate.Statement.{statement}
 use Rattle.timer.proofs.rate.Tie as tie
-use Rattle.timer.proofs.rate.Reads as reads
-use Rattle.timer.proofs.rate.Lts as lts
-use Rattle.timer.proofs.sysclk.Reads as sysclk-reads
 
 -- src/lib.rt:40:9
 sysclk-requires : tie.Need-sysclk-requires

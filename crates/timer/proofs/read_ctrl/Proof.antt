@@ -1,9 +1,6 @@
-use borrow.Author.Needs.{needs}
 use Rattle.timer.specs.Timers.{controlOf}
 use Rattle.timer.proofs.read_ctrl.Statement.{statement}
 use Rattle.timer.proofs.read_ctrl.Tie as tie
-use Rattle.timer.proofs.read_ctrl.Reads as reads
-use Rattle.timer.proofs.read_ctrl.Lts as lts
 
 -- src/lib.rt:70:1
 returns : tie.Need-returns

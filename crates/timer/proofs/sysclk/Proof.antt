@@ -3,8 +3,6 @@ use borrow.Author.Tests.{eq-eqb, ne-eqb}
 use Rattle.timer.specs.Timers.{sysclkOf}
 use Rattle.timer.proofs.sysclk.Statement.{statement}
 use Rattle.timer.proofs.sysclk.Tie as tie
-use Rattle.timer.proofs.sysclk.Reads as reads
-use Rattle.timer.proofs.sysclk.Lts as lts
 
 -- src/lib.rt:34:41
 int-to-float-result : tie.Need-int-to-float-result

@@ -2,9 +2,6 @@ use borrow.Author.Needs.{needs}
 use Rattle.timer.specs.Timers.{writtenOf}
 use Rattle.timer.proofs.write_ctrl.Statement.{statement}
 use Rattle.timer.proofs.write_ctrl.Tie as tie
-use Rattle.timer.proofs.write_ctrl.Reads as reads
-use Rattle.timer.proofs.write_ctrl.Lts as lts
-use Rattle.timer.proofs.cleared.Reads as cleared-reads
 
 -- src/lib.rt:86:9
 cleared-requires : tie.Need-cleared-requires

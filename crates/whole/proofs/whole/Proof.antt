@@ -4,7 +4,7 @@ use native.Mathlib.Omega.{arith}
 use mathlib.Core.Path.{sym, subst}
 use mathlib.Core.Bool.{not}
 use lib.Dec.{T}
-use lib.Ieee.{Float, binary64, toBits, ofBits, isNan}
+use lib.Ieee.{Float, binary64, toBits, isNan}
 use Rattle.whole.proofs.Cuts.{cut-by-bits, cut-nan, sign-set, fraction, dropped, moved, saturated}
 use Rattle.whole.proofs.Bits.{held, no-nan}
 use Rattle.whole.proofs.whole.Statement.{statement}

@@ -3,10 +3,6 @@ use mathlib.Core.Path.{_∙_}
 use Rattle.whole.proofs.Cuts.{signed-least, signed-negative, signed-greatest, signed-within}
 use Rattle.whole.proofs.whole_signed.Statement.{statement}
 use Rattle.whole.proofs.whole_signed.Tie as tie
-use Rattle.whole.proofs.whole_signed.Reads as reads
-use Rattle.whole.proofs.whole_signed.Lts as lts
-use Rattle.std.proofs.num.wrapping_add_u64.Reads as wrapping-add-u64-reads
-use Rattle.whole.proofs.whole.Reads as whole-reads
 
 -- src/lib.rt:51:13
 whole-requires : tie.Need-whole-requires

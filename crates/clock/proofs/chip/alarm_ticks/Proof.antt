@@ -5,10 +5,6 @@ use Rattle.clock.specs.declared.Alarm.the-variants.{At}
 use Rattle.clock.specs.Rtc.{alarmOf}
 use Rattle.clock.proofs.chip.alarm_ticks.Statement.{statement}
 use Rattle.clock.proofs.chip.alarm_ticks.Tie as tie
-use Rattle.clock.proofs.chip.alarm_ticks.Reads as reads
-use Rattle.clock.proofs.chip.alarm_ticks.Lts as lts
-use Rattle.clock.proofs.chip.get.Reads as get-reads
-use Rattle.clock.proofs.chip.six_bytes.Reads as six-bytes-reads
 
 -- src/chip.rt:51:8
 get-requires : tie.Need-get-requires

@@ -1,9 +1,6 @@
 use borrow.Author.Needs.{needs}
 use Rattle.clock.proofs.chip.latched.Statement.{statement}
 use Rattle.clock.proofs.chip.latched.Tie as tie
-use Rattle.clock.proofs.chip.latched.Reads as reads
-use Rattle.clock.proofs.chip.latched.Lts as lts
-use Rattle.clock.proofs.chip.six_bytes.Reads as six-bytes-reads
 
 -- src/chip.rt:41:15
 six-bytes-requires : tie.Need-six-bytes-requires

@@ -5,10 +5,6 @@ use Rattle.clock.proofs.Cases.{puts-first, puts-low, puts-high, puts-ti
 use Prim.Native.Nat.{_/_, _^_, _*_, _-_}
 use Rattle.clock.proofs.chip.output.Statement.{statement}
 use Rattle.clock.proofs.chip.output.Tie as tie
-use Rattle.clock.proofs.chip.output.Reads as reads
-use Rattle.clock.proofs.chip.output.Lts as lts
-use Rattle.clock.proofs.chip.get.Reads as get-reads
-use Rattle.clock.proofs.chip.ticks.Reads as ticks-reads
 
 -- src/chip.rt:73:17
 get-requires : tie.Need-get-requires

@@ -2,10 +2,6 @@ use borrow.Author.Needs.{needs}
 use Rattle.clock.proofs.Cases.{commands-latch, commands-put, commands-ask, commands-nothing}
 use Rattle.clock.proofs.chip.rtc_command.Statement.{statement}
 use Rattle.clock.proofs.chip.rtc_command.Tie as tie
-use Rattle.clock.proofs.chip.rtc_command.Reads as reads
-use Rattle.clock.proofs.chip.rtc_command.Lts as lts
-use Rattle.clock.proofs.chip.latched.Reads as latched-reads
-use Rattle.clock.proofs.chip.output.Reads as output-reads
 
 -- src/chip.rt:74:14
 cast-at : tie.Need-cast-at

@@ -2,10 +2,6 @@ use borrow.Author.Needs.{needs}
 use Rattle.clock.specs.Rtc.{sixBytes}
 use Rattle.clock.proofs.chip.six_bytes.Statement.{statement}
 use Rattle.clock.proofs.chip.six_bytes.Tie as tie
-use Rattle.clock.proofs.chip.six_bytes.Reads as reads
-use Rattle.clock.proofs.chip.six_bytes.Lts as lts
-use Rattle.clock.proofs.chip.get.Reads as get-reads
-use Rattle.clock.proofs.chip.joined.Reads as joined-reads
 
 -- src/chip.rt:39:9
 get-requires : tie.Need-get-requires

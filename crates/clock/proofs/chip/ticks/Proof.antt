@@ -2,10 +2,6 @@ use borrow.Author.Needs.{needs}
 use Rattle.clock.specs.Rtc.{ticksOf}
 use Rattle.clock.proofs.chip.ticks.Statement.{statement}
 use Rattle.clock.proofs.chip.ticks.Tie as tie
-use Rattle.clock.proofs.chip.ticks.Reads as reads
-use Rattle.clock.proofs.chip.ticks.Lts as lts
-use Rattle.std.proofs.num.wrapping_add_u64.Reads as wrapping-add-u64-reads
-use Rattle.whole.proofs.whole_signed.Reads as whole-signed-reads
 
 -- src/chip.rt:12:42
 whole-signed-requires : tie.Need-whole-signed-requires

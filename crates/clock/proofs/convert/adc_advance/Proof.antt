@@ -1,9 +1,6 @@
-use borrow.Author.Needs.{needs}
 use Rattle.clock.specs.Adc.{convertedOf}
 use Rattle.clock.proofs.convert.adc_advance.Statement.{statement}
 use Rattle.clock.proofs.convert.adc_advance.Tie as tie
-use Rattle.clock.proofs.convert.adc_advance.Reads as reads
-use Rattle.clock.proofs.convert.adc_advance.Lts as lts
 
 -- src/convert.rt:30:9
 returns : tie.Need-returns

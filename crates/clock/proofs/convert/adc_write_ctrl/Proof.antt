@@ -1,9 +1,6 @@
 use borrow.Author.Needs.{needs}
 use Rattle.clock.proofs.convert.adc_write_ctrl.Statement.{statement}
 use Rattle.clock.proofs.convert.adc_write_ctrl.Tie as tie
-use Rattle.clock.proofs.convert.adc_write_ctrl.Reads as reads
-use Rattle.clock.proofs.convert.adc_write_ctrl.Lts as lts
-use Rattle.clock.proofs.convert.stored.Reads as stored-reads
 
 -- src/convert.rt:21:18
 stored-requires : tie.Need-stored-requires

@@ -1,9 +1,6 @@
-use borrow.Author.Needs.{needs}
 use Rattle.clock.specs.Adc.{storedOf}
 use Rattle.clock.proofs.convert.stored.Statement.{statement}
 use Rattle.clock.proofs.convert.stored.Tie as tie
-use Rattle.clock.proofs.convert.stored.Reads as reads
-use Rattle.clock.proofs.convert.stored.Lts as lts
 
 -- src/convert.rt:10:9
 returns : tie.Need-returns

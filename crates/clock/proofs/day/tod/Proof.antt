@@ -3,9 +3,6 @@ use Rattle.clock.specs.Day.{todOf}
 use Rattle.clock.proofs.Cases.{day-from, day-below}
 use Rattle.clock.proofs.day.tod.Statement.{statement}
 use Rattle.clock.proofs.day.tod.Tie as tie
-use Rattle.clock.proofs.day.tod.Reads as reads
-use Rattle.clock.proofs.day.tod.Lts as lts
-use Rattle.whole.proofs.whole_signed.Reads as whole-signed-reads
 
 -- src/day.rt:11:33
 int-to-float-whole-signed : tie.Need-int-to-float-whole-signed

@@ -3,9 +3,6 @@ use borrow.Author.Tests.{eq-eqb, ne-eqb}
 use Rattle.clock.specs.Day.{fieldOf}
 use Rattle.clock.proofs.day.tod_read.Statement.{statement}
 use Rattle.clock.proofs.day.tod_read.Tie as tie
-use Rattle.clock.proofs.day.tod_read.Reads as reads
-use Rattle.clock.proofs.day.tod_read.Lts as lts
-use Rattle.clock.proofs.day.tod.Reads as tod-reads
 
 -- src/day.rt:22:9
 tod-requires : tie.Need-tod-requires

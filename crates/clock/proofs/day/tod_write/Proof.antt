@@ -2,10 +2,6 @@ use borrow.Author.Needs.{needs}
 use Rattle.clock.specs.Day.{setOf}
 use Rattle.clock.proofs.day.tod_write.Statement.{statement}
 use Rattle.clock.proofs.day.tod_write.Tie as tie
-use Rattle.clock.proofs.day.tod_write.Reads as reads
-use Rattle.clock.proofs.day.tod_write.Lts as lts
-use Rattle.clock.proofs.day.keep.Reads as keep-reads
-use Rattle.clock.proofs.day.tod.Reads as tod-reads
 
 -- src/day.rt:42:9
 tod-requires : tie.Need-tod-requires

@@ -3,13 +3,8 @@ use mathlib.Core.Path.{_∙_, ap}
 use Prim.Native.Nat.{ℕ}
 use Rattle.clock.specs.Sources.{signalOf}
 use Rattle.clock.specs.declared.Signal.{Signal}
-use Rattle.clock.specs.declared.Ticked.{Ticked}
 use Rattle.clock.proofs.sources.rtc_irq_advance.Statement.{statement}
 use Rattle.clock.proofs.sources.rtc_irq_advance.Tie as tie
-use Rattle.clock.proofs.sources.rtc_irq_advance.Reads as reads
-use Rattle.clock.proofs.sources.rtc_irq_advance.Lts as lts
-use Rattle.clock.proofs.sources.signal.Reads as signal-reads
-use Rattle.whole.proofs.whole.Reads as whole-reads
 
 -- src/sources.rt:32:20
 whole-requires : tie.Need-whole-requires

@@ -1,10 +1,7 @@
-use borrow.Author.Needs.{needs}
 use borrow.Author.Tests.{lt-ltb, le-ltb}
 use Rattle.clock.specs.Sources.{signalOf}
 use Rattle.clock.proofs.sources.signal.Statement.{statement}
 use Rattle.clock.proofs.sources.signal.Tie as tie
-use Rattle.clock.proofs.sources.signal.Reads as reads
-use Rattle.clock.proofs.sources.signal.Lts as lts
 
 -- src/sources.rt:13:9
 returns : tie.Need-returns

@@ -4,10 +4,6 @@ use Prim.Native.Nat.{ℕ}
 use Rattle.clock.specs.Sources.{signalOf}
 use Rattle.clock.proofs.sources.vsync.Statement.{statement}
 use Rattle.clock.proofs.sources.vsync.Tie as tie
-use Rattle.clock.proofs.sources.vsync.Reads as reads
-use Rattle.clock.proofs.sources.vsync.Lts as lts
-use Rattle.clock.proofs.sources.signal.Reads as signal-reads
-use Rattle.whole.proofs.whole.Reads as whole-reads
 
 -- src/sources.rt:25:12
 whole-requires : tie.Need-whole-requires

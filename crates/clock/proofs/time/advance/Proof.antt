@@ -3,9 +3,6 @@ use mathlib.Core.Path.{sym, _∙_}
 use Rattle.clock.proofs.Cases.{moves-not, moves-back, moves-over, moves}
 use Rattle.clock.proofs.time.advance.Statement.{statement}
 use Rattle.clock.proofs.time.advance.Tie as tie
-use Rattle.clock.proofs.time.advance.Reads as reads
-use Rattle.clock.proofs.time.advance.Lts as lts
-use Rattle.whole.proofs.limits.good_time.Reads as good-time-reads
 
 -- src/time.rt:11:8
 good-time-requires : tie.Need-good-time-requires

@@ -3,9 +3,6 @@ use mathlib.Core.Path.{sym, _∙_}
 use Rattle.clock.specs.Times.{pacedOf}
 use Rattle.clock.proofs.time.set_turbo.Statement.{statement}
 use Rattle.clock.proofs.time.set_turbo.Tie as tie
-use Rattle.clock.proofs.time.set_turbo.Reads as reads
-use Rattle.clock.proofs.time.set_turbo.Lts as lts
-use Rattle.whole.proofs.limits.good_turbo.Reads as good-turbo-reads
 
 -- src/time.rt:31:8
 good-turbo-requires : tie.Need-good-turbo-requires

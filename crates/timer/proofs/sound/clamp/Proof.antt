@@ -1,9 +1,6 @@
-use borrow.Author.Needs.{needs}
 use Rattle.timer.specs.Sound.{clampOf}
 use Rattle.timer.proofs.sound.clamp.Statement.{statement}
 use Rattle.timer.proofs.sound.clamp.Tie as tie
-use Rattle.timer.proofs.sound.clamp.Reads as reads
-use Rattle.timer.proofs.sound.clamp.Lts as lts
 
 -- src/sound.rt:13:9
 returns : tie.Need-returns

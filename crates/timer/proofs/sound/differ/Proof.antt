@@ -1,9 +1,6 @@
-use borrow.Author.Needs.{needs}
 use Rattle.timer.proofs.Cases.{differ-first, differ-second}
 use Rattle.timer.proofs.sound.differ.Statement.{statement}
 use Rattle.timer.proofs.sound.differ.Tie as tie
-use Rattle.timer.proofs.sound.differ.Reads as reads
-use Rattle.timer.proofs.sound.differ.Lts as lts
 
 -- src/sound.rt:43:9
 returns : tie.Need-returns

@@ -1,14 +1,7 @@
 use borrow.Author.Needs.{needs}
-use mathlib.Core.Path.{_≡_, _∙_, ap, sym}
-use mathlib.Core.Bool.{Bool, true, false}
-use Rattle.timer.specs.Sound.{toneOf, differOf}
 use Rattle.timer.proofs.Cases.{sounds-same, sounds-full, sounds-new}
 use Rattle.timer.proofs.sound.sound_update.Statement.{statement}
 use Rattle.timer.proofs.sound.sound_update.Tie as tie
-use Rattle.timer.proofs.sound.sound_update.Reads as reads
-use Rattle.timer.proofs.sound.sound_update.Lts as lts
-use Rattle.timer.proofs.sound.differ.Reads as differ-reads
-use Rattle.timer.proofs.sound.tone.Reads as tone-reads
 
 -- src/sound.rt:60:9
 tone-requires : tie.Need-tone-requires

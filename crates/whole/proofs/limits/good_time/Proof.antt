@@ -6,9 +6,6 @@ use Rattle.whole.specs.Limits.{goodTime}
 use Rattle.whole.proofs.Bits.{no-nan, held}
 use Rattle.whole.proofs.limits.good_time.Statement.{statement}
 use Rattle.whole.proofs.limits.good_time.Tie as tie
-use Rattle.whole.proofs.limits.good_time.Reads as reads
-use Rattle.whole.proofs.limits.good_time.Lts as lts
-use Rattle.whole.proofs.limits.time_bits.Reads as time-bits-reads
 
 -- src/limits.rt:27:9
 returns : tie.Need-returns

@@ -6,9 +6,6 @@ use Rattle.whole.specs.Limits.{goodTurbo}
 use Rattle.whole.proofs.Bits.{no-nan, held}
 use Rattle.whole.proofs.limits.good_turbo.Statement.{statement}
 use Rattle.whole.proofs.limits.good_turbo.Tie as tie
-use Rattle.whole.proofs.limits.good_turbo.Reads as reads
-use Rattle.whole.proofs.limits.good_turbo.Lts as lts
-use Rattle.whole.proofs.limits.turbo_bits.Reads as turbo-bits-reads
 
 -- src/limits.rt:36:9
 returns : tie.Need-returns

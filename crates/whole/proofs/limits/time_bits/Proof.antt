@@ -1,8 +1,6 @@
 use Rattle.whole.proofs.Good.{time-bits}
 use Rattle.whole.proofs.limits.time_bits.Statement.{statement}
 use Rattle.whole.proofs.limits.time_bits.Tie as tie
-use Rattle.whole.proofs.limits.time_bits.Reads as reads
-use Rattle.whole.proofs.limits.time_bits.Lts as lts
 
 -- src/limits.rt:10:1
 returns : tie.Need-returns

@@ -4,9 +4,6 @@ use Rattle.whole.specs.Limits.{timeOf}
 use Rattle.whole.proofs.Good.{time-no-nan}
 use Rattle.whole.proofs.limits.time_of.Statement.{statement}
 use Rattle.whole.proofs.limits.time_of.Tie as tie
-use Rattle.whole.proofs.limits.time_of.Reads as reads
-use Rattle.whole.proofs.limits.time_of.Lts as lts
-use Rattle.whole.proofs.limits.time_bits.Reads as time-bits-reads
 
 -- src/limits.rt:45:8
 time-bits-requires : tie.Need-time-bits-requires

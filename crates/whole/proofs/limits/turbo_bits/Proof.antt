@@ -1,8 +1,6 @@
 use Rattle.whole.proofs.Good.{turbo-bits}
 use Rattle.whole.proofs.limits.turbo_bits.Statement.{statement}
 use Rattle.whole.proofs.limits.turbo_bits.Tie as tie
-use Rattle.whole.proofs.limits.turbo_bits.Reads as reads
-use Rattle.whole.proofs.limits.turbo_bits.Lts as lts
 
 -- src/limits.rt:16:1
 returns : tie.Need-returns

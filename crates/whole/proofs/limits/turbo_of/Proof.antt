@@ -4,9 +4,6 @@ use Rattle.whole.specs.Limits.{turboOf}
 use Rattle.whole.proofs.Good.{turbo-no-nan}
 use Rattle.whole.proofs.limits.turbo_of.Statement.{statement}
 use Rattle.whole.proofs.limits.turbo_of.Tie as tie
-use Rattle.whole.proofs.limits.turbo_of.Reads as reads
-use Rattle.whole.proofs.limits.turbo_of.Lts as lts
-use Rattle.whole.proofs.limits.turbo_bits.Reads as turbo-bits-reads
 
 -- src/limits.rt:54:8
 turbo-bits-requires : tie.Need-turbo-bits-requires

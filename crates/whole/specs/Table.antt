@@ -1,0 +1,16 @@
+-- A table of judged examples: what the definitions give beside what the paper says, under one claim.
+use mathlib.Core.List.{List, [], _∷_}
+use mathlib.Core.Path.{_≡_}
+use Prim.Native.Nat.{ℕ}
+
+pub record Example : Type 0 where
+  pub given : ℕ
+  pub said : ℕ
+
+-- the claim, of each example in turn
+abbrev pub Holds : Example → Type 0
+Holds e = e .given ≡ e .said
+
+abbrev pub All : List Example → Type 0
+All [] = Unit {0}
+All (e ∷ es) = Holds e × All es
