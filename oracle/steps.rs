@@ -2,24 +2,13 @@
 //! included unchanged. Standard input holds one step a line: `+` selects, `-`
 //! deselects, two lowercase hex digits transfer a byte.
 
+mod device;
+
 use std::io::{self, BufRead, BufWriter, Write};
 
 use cpu::Bus;
+use device::*;
 use sys::System;
-
-// Written by `build`: declares the modules `cpu` and `sys` by the paths of
-// their sources.
-include!(env!("ORACLE_DEVICE"));
-
-// The device takes its sizes from its crate root, and this file is the crate
-// root here. So naming a smaller array changes no line of the device: it
-// works as it would with its own size, over 65,536 bytes.
-pub const FLASH_SIZE: usize = 65_536;
-// No more RAM than the array: a step outside the array would panic, not pass.
-pub const RAM_SIZE: usize = FLASH_SIZE;
-pub const FLASH_BASE: u32 = 0x2000_0000;
-pub const SRAM_BASE: u32 = 0xF800_0000;
-pub const SRAM_SIZE: usize = 0x10_0000;
 
 const SELECT: u32 = 0xC015_0000;
 const SELECTED: u32 = 0x40;
@@ -47,14 +36,6 @@ fn parse(line: &[u8]) -> Option<Step> {
         [high, low] => Some(Step::Transfer(digit(high)? << 4 | digit(low)?)),
         _ => None,
     }
-}
-
-fn fresh() -> System {
-    let mut system = System::new(&[0xFF; FLASH_SIZE]);
-    // Both only serve to stop a processor that does not run here.
-    system.infrared_armed = false;
-    system.flash_first_use = false;
-    system
 }
 
 fn step(system: &mut System, step: Step, out: &mut impl Write) -> io::Result<()> {
