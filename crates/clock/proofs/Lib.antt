@@ -5,3 +5,4 @@ pub mod TimeLimits
 pub mod RtcLimits
 pub mod DayLimits
 pub mod SourceLimits
+pub mod Numbers

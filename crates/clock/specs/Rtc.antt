@@ -29,6 +29,11 @@ sixBytes regs from =
 unfoldable pub alarmOf : List ℕ → Alarm
 alarmOf regs = cond (lacks (getD regs 0x40 0) 6) Off (At (sixBytes regs 0x20))
 
+-- an alarm's values: 0 and 0 where it is off, else 1 and its ticks
+abbrev pub alarmValues : Alarm → ℕ × ℕ
+alarmValues Off = (0, 0)
+alarmValues (At t) = (1, t)
+
 abbrev pub rtcOf : List ℕ → Latch → Rtc
 rtcOf regs latch = record { regs = regs; latch = latch }
 

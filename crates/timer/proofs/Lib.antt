@@ -3,3 +3,4 @@ pub mod Cases
 pub mod Limits
 pub mod Held
 pub mod Judged
+pub mod Numbers

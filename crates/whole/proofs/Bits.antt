@@ -67,10 +67,6 @@ value b h =
 
 -- ---- a larger pattern stands for a larger number
 
-lead-le : (E : ℕ) → lead E ≤ 2 ^ 52
-lead-le zero = lit≤ tt
-lead-le (suc x) = lit≤ tt
-
 -- within a block of one exponent the digits decide
 same-block : (E t u : ℕ) → t < u → (lead E + t) * 2 ^ (E - 1) < (lead E + u) * 2 ^ (E - 1)
 same-block E t u h = mul-lt-mul-of-pos-right (grow (lead E) h) (pow-pos (E - 1))

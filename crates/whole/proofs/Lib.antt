@@ -6,3 +6,5 @@ pub mod Round
 pub mod Order
 pub mod Mono
 pub mod Words
+pub mod Unique
+pub mod Numbers

@@ -1,5 +1,4 @@
--- The order of floats. A value that the format holds is its own rounding, so adding what is not negative makes no value smaller, and
--- dividing by 1.0 changes nothing.
+-- The order of floats. A value that the format holds is its own rounding, so adding what is not negative makes no value smaller.
 use mathlib.Core.Path.{_≡_, refl, sym, ap, _∙_, subst}
 use mathlib.Core.Bool.{Bool, true, false, not, _&&_, _||_, true≢false}
 use mathlib.Core.Logic.{inl, inr}
@@ -15,8 +14,6 @@ use lib.Ieee.{Float, nan, inf, fin, binary64, ofBits, up, down, round, add, div,
 use borrow.Author.Tests.{ltb-false}
 use lib.Ieee.Fits.{down-pos, and-l, and-r}
 use lib.Ieee.Exact.{HasValue, round-exact}
-use lib.Ieee.Scale.{round-same}
-use Rattle.whole.proofs.Cuts.{cut-value}
 use lib.Ieee.Order.{le-of-values, round-mono}
 use Rattle.whole.specs.Bounds.{AtMost, Clear}
 
@@ -145,17 +142,6 @@ grows (fin false m e) (fin false k d) n f p q a =
   where
     more : (a e d b : ℕ) → a * (e * d) ≤ (a * d + b) * e
     more a e d b = le-trans (le-of-eq (ap (λ (z : ℕ). a * z) (mul-comm e d) ∙ sym (mul-assoc a d e))) (mul-le-mul-right e (le-add-right (a * d) b))
-
--- x / 1.0 is cut to what x is cut to
-pub cut-div-one : (x : Float) → T (fits binary64 x) → Clear x → toUnsigned 64 (div binary64 x (fin false 1 (pos 0))) ≡ toUnsigned 64 x
-unfolding div toUnsigned
-cut-div-one nan f p = absurd p
-cut-div-one (inf s) f p = absurd p
-cut-div-one (fin true m e) f p = absurd p
-cut-div-one (fin false m e) f p =
-    ap (toUnsigned 64) (round-same binary64 false (m * up e * 1) (1 * 1 * down e) (m * up e) (down e) (mul-pos (lit< tt) (down-pos e)) (down-pos e)
-    (ap (λ (z : ℕ). z * down e) (mul-one (m * up e)) ∙ ap (λ (z : ℕ). m * up e * z) (sym (one-mul (down e)))))
-    ∙ cut-value (round binary64 false (m * up e) (down e)) (m * up e) (down e) (down-pos e) (own false m e f)
 
 -- as an i64 it is the same number
 pub signed-same : (x : Float) (k : ℕ) → k < 63 → AtMost x (2 ^ k) → toSigned 63 x ≡ pos (toUnsigned 64 x)

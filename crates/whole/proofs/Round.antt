@@ -1,5 +1,5 @@
 -- Bounds that binary64's operations keep. Every bound is a power of two, which the format holds, so rounding does not pass it.
-use mathlib.Core.Path.{_≡_, refl, sym, ap, _∙_, subst}
+use mathlib.Core.Path.{_≡_, sym, ap, _∙_, subst}
 use mathlib.Core.Logic.{_⊎_, inl, inr}
 use mathlib.Core.Bool.{Bool, true, false, not, cond, _||_, _&&_, true≢false}
 use Prim.Native.Nat.{ℕ, zero, suc, _+_, _-_, _*_, _/_, _^_, _≤_, _<_, min}
@@ -11,13 +11,11 @@ use lib.Pow.{pow-pos, pow-add, pow-lt}
 use lib.Ieee.{Float, nan, inf, fin, binary64, up, down, odd, units, round, add, sub, mul, div, le, lt, ofInt, toUnsigned}
 use lib.Ieee.Fits.{round-is, down-pos, and-l, and-r}
 use lib.Ieee.Exact.{HasValue, round-exact}
-use lib.Ieee.Positive.{first-pos, positive}
+use lib.Ieee.Positive.{first-pos}
 use borrow.Author.Tests.{ne-eqb, le-ltb}
 use Rattle.whole.specs.Limits.{upTo, downTo, goodTime, goodTurbo}
 use Rattle.whole.specs.Bounds.{AtMost, AtLeast}
-use lib.Ieee.Back.{round-whole}
-use lib.Ieee.Scale.{round-same}
-use lib.Ieee.Order.{le-of-values, round-mono, kept, drop}
+use lib.Ieee.Order.{round-mono, kept, drop}
 
 -- ---- the sign of what is rounded
 abbrev pub clear : Float → Bool
@@ -253,32 +251,3 @@ div-pow-least (fin false m e) j k b h p f =
 pub ofInt-at-least : (n b : ℕ) → 0 < n → AtMost (ofInt binary64 (pos n)) b → AtLeast (ofInt binary64 (pos n)) 1
 unfolding ofInt
 ofInt-at-least n b h f = round-at-least 0 n 1 b (lit≤ tt) (lit< tt) (le-trans h (le-of-eq (sym (mul-one n)))) f
-
--- ---- whole numbers up to 2 ^ 53
-pub le-whole : (x : Float) (n : ℕ) → n ≤ 2 ^ 53 → AtMost x n → T (le x (ofInt binary64 (pos n)))
-unfolding ofInt
-le-whole nan n h p = absurd p
-le-whole (inf s) n h p = absurd p
-le-whole (fin true m e) n h p = absurd p
-le-whole (fin false m e) n h p =
-    le-of-values (fin false m e) (round binary64 false n 1) (m * up e) (down e) n 1 (down-pos e) (lit< tt) (refl, refl) (round-whole binary64 false n h)
-    (le-trans (le-of-eq (mul-one (m * up e))) p)
-
-mul-one-at : (x : Float) (n : ℕ) → HasValue x false n 1 → mul binary64 x (fin false 1 (pos 0)) ≡ round binary64 false n 1
-unfolding mul
-mul-one-at nan n v = absurd v
-mul-one-at (inf s) n v = absurd v
-mul-one-at (fin true m e) n v = absurd (true≢false (v .0))
-mul-one-at (fin false m e) n v = round-same binary64 false (m * up e * 1) (down e * 1) n 1 (mul-pos (down-pos e) (lit< tt)) (lit< tt)
-    (mul-one (m * up e * 1) ∙ v .1 ∙ ap (λ (z : ℕ). n * z) (sym (mul-one (down e))))
-
--- a whole number times 1.0 is itself
-pub times-one : (n : ℕ) → n ≤ 2 ^ 53 → mul binary64 (ofInt binary64 (pos n)) (fin false 1 (pos 0)) ≡ ofInt binary64 (pos n)
-unfolding ofInt
-times-one n h = mul-one-at (round binary64 false n 1) n (round-whole binary64 false n h)
-
-pub positive-clear : (x : Float) → T (positive x) → T (clear x)
-positive-clear nan h = absurd h
-positive-clear (inf s) h = absurd h
-positive-clear (fin true m e) h = absurd h
-positive-clear (fin false m e) h = tt

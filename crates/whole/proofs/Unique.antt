@@ -1,0 +1,12 @@
+-- What meets a contract is the only thing that does.
+use mathlib.Core.Path.{_≡_, sym, _∙_}
+use Prim.Native.Nat.{ℕ}
+use lib.Ieee.{Float}
+use Rattle.whole.specs.Cut.{Cut}
+
+-- a contract that is an equation
+pub unique : {A : Type 0} {d x y : A} → x ≡ d → y ≡ d → x ≡ y
+unique p q = p ∙ sym q
+
+pub one-whole : (x : Float) (m n : ℕ) → Cut x m → Cut x n → m ≡ n
+one-whole x m n p q = unique (p .cast) (q .cast)
