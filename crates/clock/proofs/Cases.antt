@@ -83,7 +83,8 @@ module _ (latch : Latch) (regs : List ℕ) (game : Float) (address word cmd : �
   abbrev stored : List ℕ
   stored = set regs (address % 256) (word % 256)
 
-  pub commands-latch : (r : Latch) → bitAnd cmd 1 ≢ 0 → address % 256 ≡ 0x15 → r ≡ latchedOf latch stored game → rtcOf stored r ≡ commandedOf (rtcOf regs latch) game address word cmd
+  pub commands-latch : (r : Latch) → bitAnd cmd 1 ≢ 0 → address % 256 ≡ 0x15 → r ≡ latchedOf latch stored game
+      → rtcOf stored r ≡ commandedOf (rtcOf regs latch) game address word cmd
   unfolding commandedOf
   commands-latch r c h e = rw (has-some cmd 1 c, eq-eqb (address % 256) 0x15 h, e)
 

@@ -38,8 +38,10 @@ module _ (irq : RtcIrq) (game : Float) (d : DaySet irq game) (g : AtMost game (2
 
   set-before : T (le (irq .set) sum)
   set-before =
-      le-trans-clear (irq .set) game sum (at-most-clear (irq .set) (2 ^ 31) (d .set .limit)) (at-most-clear game (2 ^ 31) g) (at-most-clear sum (2 ^ 32) sum-limit) (d .set .before)
-      (add-grows game (ofInt binary64 (pos (irq .base))) (2 ^ 32) f (at-most-clear game (2 ^ 31) g) (at-most-clear (ofInt binary64 (pos (irq .base))) (2 ^ 31) base-limit) sum-limit)
+      le-trans-clear (irq .set) game sum (at-most-clear (irq .set) (2 ^ 31) (d .set .limit)) (at-most-clear game (2 ^ 31) g)
+      (at-most-clear sum (2 ^ 32) sum-limit) (d .set .before)
+      (add-grows game (ofInt binary64 (pos (irq .base))) (2 ^ 32) f (at-most-clear game (2 ^ 31) g)
+      (at-most-clear (ofInt binary64 (pos (irq .base))) (2 ^ 31) base-limit) sum-limit)
 
   seconds-limit : AtMost (seconds irq game) (2 ^ 32)
   seconds-limit = sub-at-most sum (irq .set) (2 ^ 31) 32 (lit< tt) sum-limit (d .set .limit) set-before
@@ -55,7 +57,8 @@ module _ (irq : RtcIrq) (game : Float) (d : DaySet irq game) (g : AtMost game (2
 pub later-day : (irq : RtcIrq) (game later : Float) → AtMost game (2 ^ 31) → AtMost later (2 ^ 31) → T (le game later) → DaySet irq game → DaySet irq later
 later-day irq game later g k l d = record { base = d .base; set = past-later (irq .set) game later g k l (d .set) }
 
-pub seconds-go-on : (irq : RtcIrq) (game later : Float) → DaySet irq game → AtMost game (2 ^ 31) → T (fits binary64 game) → AtMost later (2 ^ 31) → T (fits binary64 later) → T (le game later)
+pub seconds-go-on : (irq : RtcIrq) (game later : Float) → DaySet irq game → AtMost game (2 ^ 31) → T (fits binary64 game) → AtMost later (2 ^ 31)
+    → T (fits binary64 later) → T (le game later)
     → toUnsigned 64 (seconds irq game) ≤ toUnsigned 64 (seconds irq later)
 seconds-go-on irq game later d g f k e l =
     let u : DaySet irq later = later-day irq game later g k l d in
@@ -63,8 +66,10 @@ seconds-go-on irq game later d g f k e l =
     let x = add binary64 b game in
     let y = add binary64 b later in
     let c = at-most-clear b (2 ^ 31) (base-limit irq game d g f) in
-    cut-mono (seconds irq game) (seconds irq later) (at-most-clear (seconds irq game) (2 ^ 32) (seconds-limit irq game d g f)) (at-most-clear (seconds irq later) (2 ^ 32) (seconds-limit irq later u k e))
-    (sub-mono x y (irq .set) (at-most-clear x (2 ^ 32) (sum-limit irq game d g f)) (at-most-clear y (2 ^ 32) (sum-limit irq later u k e)) (at-most-clear (irq .set) (2 ^ 31) (d .set .limit))
+    cut-mono (seconds irq game) (seconds irq later) (at-most-clear (seconds irq game) (2 ^ 32) (seconds-limit irq game d g f))
+    (at-most-clear (seconds irq later) (2 ^ 32) (seconds-limit irq later u k e))
+    (sub-mono x y (irq .set) (at-most-clear x (2 ^ 32) (sum-limit irq game d g f)) (at-most-clear y (2 ^ 32) (sum-limit irq later u k e))
+    (at-most-clear (irq .set) (2 ^ 31) (d .set .limit))
     (add-mono b b game later c c (at-most-clear game (2 ^ 31) g) (at-most-clear later (2 ^ 31) k) (le-refl-clear b c) l)
     (set-before irq game d g f) (set-before irq later u k e))
 

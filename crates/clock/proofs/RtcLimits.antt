@@ -61,7 +61,8 @@ module _ (latch : Latch) (game : Float) (p : Past (latch .since) game) (g : AtMo
       small : (a n : ℕ) → a < 2 ^ 48 → n ≤ 2 ^ 46 → a + n < 2 ^ 63
       small a n h k = omega arith
 
-pub ticks-go-on : (latch : Latch) (game later : Float) → latch .base < 2 ^ 48 → Past (latch .since) game → AtMost game (2 ^ 31) → AtMost later (2 ^ 31) → T (le game later)
+pub ticks-go-on : (latch : Latch) (game later : Float) → latch .base < 2 ^ 48 → Past (latch .since) game → AtMost game (2 ^ 31)
+    → AtMost later (2 ^ 31) → T (le game later)
     → ticksOf latch game ≤ ticksOf latch later
 unfolding ofBits
 ticks-go-on latch game later b p g k l =
@@ -70,10 +71,12 @@ ticks-go-on latch game later b p g k l =
     let y = sub binary64 later (latch .since) in
     let more : T (le (passed latch game) (passed latch later)) =
     mul-mono x y (fin false 1 (pos 15)) (at-most-clear x (2 ^ 31) (gone latch game p g)) (at-most-clear y (2 ^ 31) (gone latch later q k)) tt
-    (sub-mono game later (latch .since) (at-most-clear game (2 ^ 31) g) (at-most-clear later (2 ^ 31) k) (at-most-clear (latch .since) (2 ^ 31) (p .limit)) l (p .before) (q .before))
+    (sub-mono game later (latch .since) (at-most-clear game (2 ^ 31) g) (at-most-clear later (2 ^ 31) k)
+    (at-most-clear (latch .since) (2 ^ 31) (p .limit)) l (p .before) (q .before))
     in
     let fewer : toUnsigned 64 (passed latch game) ≤ toUnsigned 64 (passed latch later) =
-    cut-mono (passed latch game) (passed latch later) (at-most-clear (passed latch game) (2 ^ 46) (passed-limit latch game p g)) (at-most-clear (passed latch later) (2 ^ 46) (passed-limit latch later q k)) more
+    cut-mono (passed latch game) (passed latch later) (at-most-clear (passed latch game) (2 ^ 46) (passed-limit latch game p g))
+    (at-most-clear (passed latch later) (2 ^ 46) (passed-limit latch later q k)) more
     in
     le-trans (le-of-eq (ticks-exact latch game p g b)) (le-trans (add (latch .base) fewer) (le-of-eq (sym (ticks-exact latch later q k b))))
   where
@@ -92,7 +95,8 @@ six-limit : (regs : List ℕ) (from : ℕ) → ((i : ℕ) → getD regs i 0 < 2 
 unfolding sixBytes
 six-limit regs from h = joined (h from) (h (from + 1)) (h (from + 2)) (h (from + 3)) (h (from + 4)) (h (from + 5))
   where
-    joined : {a b c d e f : ℕ} → a < 2 ^ 8 → b < 2 ^ 8 → c < 2 ^ 8 → d < 2 ^ 8 → e < 2 ^ 8 → f < 2 ^ 8 → a + b * 2 ^ 8 + c * 2 ^ 16 + d * 2 ^ 24 + e * 2 ^ 32 + f * 2 ^ 40 < 2 ^ 48
+    joined : {a b c d e f : ℕ} → a < 2 ^ 8 → b < 2 ^ 8 → c < 2 ^ 8 → d < 2 ^ 8 → e < 2 ^ 8 → f < 2 ^ 8
+        → a + b * 2 ^ 8 + c * 2 ^ 16 + d * 2 ^ 24 + e * 2 ^ 32 + f * 2 ^ 40 < 2 ^ 48
     joined p q r s t u = omega arith
 
 -- A COMMAND KEEPS THEM
@@ -121,7 +125,8 @@ commands-latched rtc game address word cmd h g =
         (record { bytes = bytes; base = six-limit (set (rtc .regs) at byte) 0x10 bytes; since = past-now game g })
         (record { bytes = bytes; base = h .base; since = h .since })
 
-pub later-latched : (regs : List ℕ) (latch : Latch) (game later : Float) → AtMost game (2 ^ 31) → AtMost later (2 ^ 31) → T (le game later) → Latched regs latch game → Latched regs latch later
+pub later-latched : (regs : List ℕ) (latch : Latch) (game later : Float) → AtMost game (2 ^ 31) → AtMost later (2 ^ 31) → T (le game later)
+    → Latched regs latch game → Latched regs latch later
 later-latched regs latch game later g k l h = record { bytes = h .bytes; base = h .base; since = past-later (latch .since) game later g k l (h .since) }
 
 pub fresh-latched : (game : Float) → AtMost game (2 ^ 31) → Latched (freshRtc .regs) (freshRtc .latch) game

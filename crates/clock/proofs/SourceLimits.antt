@@ -13,7 +13,7 @@ use Rattle.whole.specs.Bounds.{AtMost, WholePart}
 use Rattle.whole.specs.Limits.{goodTime}
 use Rattle.whole.proofs.Cuts.{whole-part}
 use Rattle.whole.proofs.Round.{mul-at-most, div-pow, good-at-most}
-use Rattle.whole.proofs.Order.{at-most-clear}
+use Rattle.whole.proofs.Order.{at-most-clear, good-clear}
 use Rattle.whole.proofs.Mono.{mul-mono, div-mono, cut-mono}
 use Rattle.clock.specs.declared.Signal.{Signal}
 use Rattle.clock.specs.Sources.{signalOf, vsyncOf, tickOf}
@@ -40,12 +40,14 @@ second-limit game g = div-pow game 0 31 (lit< tt) g
 pub second-exact : (game : Float) → AtMost game (2 ^ 31) → WholePart (second game) (toUnsigned 64 (second game))
 second-exact game g = whole-part (second game) (2 ^ 31) (lit< tt) (second-limit game g)
 
-pub ticks-seconds : (fired status : ℕ) (game later : Float) → SecondsSeen fired game → AtMost game (2 ^ 31) → AtMost later (2 ^ 31) → T (le game later) → SecondsSeen (tickOf fired later status .seen) later
+pub ticks-seconds : (fired status : ℕ) (game later : Float) → SecondsSeen fired game → AtMost game (2 ^ 31) → AtMost later (2 ^ 31)
+    → T (le game later) → SecondsSeen (tickOf fired later status .seen) later
 unfolding ofBits
 ticks-seconds fired status game later h g k l =
     signals (toUnsigned 64 (second later)) fired status 2
     (le-trans (le-of-eq h)
-    (cut-mono (second game) (second later) (at-most-clear (second game) (2 ^ 31) (second-limit game g)) (at-most-clear (second later) (2 ^ 31) (second-limit later k))
+    (cut-mono (second game) (second later) (at-most-clear (second game) (2 ^ 31) (second-limit game g))
+    (at-most-clear (second later) (2 ^ 31) (second-limit later k))
     (div-mono game later 1 (pos 0) 1 (at-most-clear game (2 ^ 31) g) (at-most-clear later (2 ^ 31) k) (lit≤ tt) l)))
 
 -- 60.0, which is 15 * 2 ^ 2
@@ -59,13 +61,15 @@ sixtieth-limit now g = mul-at-most now (fin false 15 (pos 2)) 21 6 (lit< tt) (go
 pub sixtieth-exact : (now : Float) → T (goodTime now) → WholePart (sixtieth now) (toUnsigned 64 (sixtieth now))
 sixtieth-exact now g = whole-part (sixtieth now) (2 ^ 27) (lit< tt) (sixtieth-limit now g)
 
-pub vsyncs-seen : (last status : ℕ) (now later : Float) → SyncsSeen last now → T (goodTime now) → T (goodTime later) → T (le now later) → SyncsSeen (vsyncOf last later status .seen) later
+pub vsyncs-seen : (last status : ℕ) (now later : Float) → SyncsSeen last now → T (goodTime now) → T (goodTime later) → T (le now later)
+    → SyncsSeen (vsyncOf last later status .seen) later
 unfolding ofBits
 vsyncs-seen last status now later h g k l =
     signals (toUnsigned 64 (sixtieth later)) last status 0x2000
     (le-trans (le-of-eq h)
-    (cut-mono (sixtieth now) (sixtieth later) (at-most-clear (sixtieth now) (2 ^ 27) (sixtieth-limit now g)) (at-most-clear (sixtieth later) (2 ^ 27) (sixtieth-limit later k))
-    (mul-mono now later (fin false 15 (pos 2)) (at-most-clear now (2 ^ 21) (good-at-most now g)) (at-most-clear later (2 ^ 21) (good-at-most later k)) tt l)))
+    (cut-mono (sixtieth now) (sixtieth later) (at-most-clear (sixtieth now) (2 ^ 27) (sixtieth-limit now g))
+    (at-most-clear (sixtieth later) (2 ^ 27) (sixtieth-limit later k))
+    (mul-mono now later (fin false 15 (pos 2)) (good-clear now g) (good-clear later k) tt l)))
 
 pub fresh-seconds : SecondsSeen 0 (ofBits binary64 0)
 unfolding ofBits div toUnsigned

@@ -10,7 +10,7 @@ use lib.Ieee.Fits.{add-fits}
 use Rattle.whole.specs.Bounds.{AtMost}
 use Rattle.whole.specs.Limits.{goodTime, goodTurbo}
 use Rattle.whole.proofs.Round.{mul-at-most, add-at-most, sub-at-most, good-at-most, turbo-at-most}
-use Rattle.whole.proofs.Order.{at-most-clear, grows, le-trans-clear, le-refl-clear, le-of-not-lt, at-most-of-not-lt, zero-least}
+use Rattle.whole.proofs.Order.{at-most-clear, good-clear, grows, le-trans-clear, le-refl-clear, le-of-not-lt, at-most-of-not-lt, zero-least}
 use Rattle.clock.specs.declared.Times.{Times}
 use Rattle.clock.specs.declared.Moved.the-variants.{To, BadTime}
 use Rattle.clock.specs.declared.Paced.the-variants.{By, BadTurbo}
@@ -21,7 +21,7 @@ use Rattle.clock.specs.Within.{Within, Later, Past}
 -- (to - now) * turbo is at most 2 ^ 31, and the sum with game time at most 2 ^ 32
 module _ (s : Times) (to : Float) (v : Within s) (g : T (goodTime to)) (l : lt to (s .now) ≡ false) where
   now-le : T (le (s .now) to)
-  now-le = le-of-not-lt (s .now) to (at-most-clear (s .now) (2 ^ 21) (good-at-most (s .now) (v .now-good))) (at-most-clear to (2 ^ 21) (good-at-most to g)) l
+  now-le = le-of-not-lt (s .now) to (good-clear (s .now) (v .now-good)) (good-clear to g) l
 
   abbrev passed : Float
   passed = mul binary64 (sub binary64 to (s .now)) (s .turbo)
@@ -29,7 +29,8 @@ module _ (s : Times) (to : Float) (v : Within s) (g : T (goodTime to)) (l : lt t
   passed-limit : AtMost passed (2 ^ 31)
   passed-limit =
       mul-at-most (sub binary64 to (s .now)) (s .turbo) 21 10 (lit< tt)
-      (sub-at-most to (s .now) (2 ^ 21) 21 (lit< tt) (good-at-most to g) (good-at-most (s .now) (v .now-good)) now-le) (turbo-at-most (s .turbo) (v .turbo-good))
+      (sub-at-most to (s .now) (2 ^ 21) 21 (lit< tt) (good-at-most to g) (good-at-most (s .now) (v .now-good)) now-le)
+      (turbo-at-most (s .turbo) (v .turbo-good))
 
   sum-limit : AtMost (gameAfter s to) (2 ^ 32)
   sum-limit = add-at-most (s .game) passed 31 (lit< tt) (v .game-limit) passed-limit
@@ -38,8 +39,17 @@ module _ (s : Times) (to : Float) (v : Within s) (g : T (goodTime to)) (l : lt t
       → Within (record { now = to; game = gameAfter s to; turbo = s .turbo }) × Later s (record { now = to; game = gameAfter s to; turbo = s .turbo })
   unfolding ofBits
   goes-on h = (
-    record { now-good = g; turbo-good = v .turbo-good; game-limit = at-most-of-not-lt (gameAfter s to) (2 ^ 31) 31 (2 ^ 32) refl sum-limit h; game-fits = add-fits binary64 (s .game) passed },
-    record { now-later = now-le; game-later = grows (s .game) passed (2 ^ 32) (v .game-fits) (at-most-clear (s .game) (2 ^ 31) (v .game-limit)) (at-most-clear passed (2 ^ 31) passed-limit) sum-limit },
+    record {
+      now-good = g;
+      turbo-good = v .turbo-good;
+      game-limit = at-most-of-not-lt (gameAfter s to) (2 ^ 31) 31 (2 ^ 32) refl sum-limit h;
+      game-fits = add-fits binary64 (s .game) passed;
+    },
+    record {
+      now-later = now-le;
+      game-later = grows (s .game) passed (2 ^ 32) (v .game-fits) (at-most-clear (s .game) (2 ^ 31) (v .game-limit))
+          (at-most-clear passed (2 ^ 31) passed-limit) sum-limit;
+    },
   )
 
 -- AN ADVANCE KEEPS THE LIMITS, and neither time goes back
@@ -67,7 +77,8 @@ paces-within s t to v e = by (goodTurbo to) refl e
     never : (t : Times) → BadTurbo ≡ By t → ⊥
     never t e = let z : _≡_ {A = ℕ} 0 1 = cc in omega arith
 
-    by : (a : Bool) → goodTurbo to ≡ a → cond a (By (record { now = s .now; game = s .game; turbo = to })) BadTurbo ≡ By t → Within t × (t .now ≡ s .now) × (t .game ≡ s .game)
+    by : (a : Bool) → goodTurbo to ≡ a → cond a (By (record { now = s .now; game = s .game; turbo = to })) BadTurbo ≡ By t
+        → Within t × (t .now ≡ s .now) × (t .game ≡ s .game)
     by true p e =
         let same : record { now = s .now; game = s .game; turbo = to } ≡ t = cc in
         subst (λ (u : Times). Within u × (u .now ≡ s .now) × (u .game ≡ s .game)) same
@@ -82,7 +93,9 @@ fresh-within = record { now-good = tt; turbo-good = tt; game-limit = lit≤ tt; 
 pub past-later : (then game later : Float) → AtMost game (2 ^ 31) → AtMost later (2 ^ 31) → T (le game later) → Past then game → Past then later
 past-later then game later g k l p = record {
   limit = p .limit;
-  before = le-trans-clear then game later (at-most-clear then (2 ^ 31) (p .limit)) (at-most-clear game (2 ^ 31) g) (at-most-clear later (2 ^ 31) k) (p .before) l;
+  before =
+      le-trans-clear then game later (at-most-clear then (2 ^ 31) (p .limit)) (at-most-clear game (2 ^ 31) g) (at-most-clear later (2 ^ 31) k)
+      (p .before) l;
 }
 
 pub past-now : (game : Float) → AtMost game (2 ^ 31) → Past game game

@@ -14,7 +14,8 @@ use Rattle.timer.specs.declared.Sounded.the-variants.{Same, Change, Soun
 use Rattle.timer.specs.Timers.{periodOf, rateOf, elapsedOf, counterOf, noted, advancedOf}
 use Rattle.timer.specs.Sound.{differOf, soundedOf}
 
-pub counter-stands : (t : Timer) (now : Float) (clock control reload stored : ℕ) → bitAnd control 0x2000 ≡ 0 → stored ≡ counterOf t now clock control reload stored
+pub counter-stands : (t : Timer) (now : Float) (clock control reload stored : ℕ) → bitAnd control 0x2000 ≡ 0
+    → stored ≡ counterOf t now clock control reload stored
 unfolding counterOf
 counter-stands t now clock control reload stored h = rw (has-not control 0x2000 h)
 
@@ -27,7 +28,8 @@ pub advance-stands : (t : Timer) (now : Float) (clock control reload : ℕ) → 
 unfolding advancedOf
 advance-stands t now clock control reload h = rw (has-not control 0x2000 h)
 
-module _ (t : Timer) (now : Float) (clock control reload e p : ℕ) (r : Float) (h : bitAnd control 0x2000 ≢ 0) (k : r ≡ rateOf clock control) (i : e ≡ elapsedOf (t .start) now r) (j : p ≡ periodOf reload) where
+module _ (t : Timer) (now : Float) (clock control reload e p : ℕ) (r : Float) (h : bitAnd control 0x2000 ≢ 0) (k : r ≡ rateOf clock control)
+    (i : e ≡ elapsedOf (t .start) now r) (j : p ≡ periodOf reload) where
   runs : advancedOf t now clock control reload ≡ noted t (e / p) control
   unfolding advancedOf
   runs = rw (has-some control 0x2000 h, ← k, ← i, ← j)
@@ -35,7 +37,8 @@ module _ (t : Timer) (now : Float) (clock control reload e p : ℕ) (r : Float) 
   pub advance-within : e / p ≤ t .seen → t ≡ advancedOf t now clock control reload
   advance-within l = sym (runs ∙ rw (le-ltb (t .seen) (e / p) l))
 
-  pub advance-counts : t .seen < e / p → record { start = t .start; seen = e / p; pending = t .pending || has control 0x4000 } ≡ advancedOf t now clock control reload
+  pub advance-counts : t .seen < e / p
+      → record { start = t .start; seen = e / p; pending = t .pending || has control 0x4000 } ≡ advancedOf t now clock control reload
   advance-counts l = sym (runs ∙ rw (lt-ltb (t .seen) (e / p) l))
 
 -- ---- the buzzer

@@ -48,8 +48,15 @@ held clock control reload compare h = by (has control 0x2000)
     ratio : Float
     ratio = div binary64 (ofInt binary64 (pos (periodOf compare))) (ofInt binary64 (pos (periodOf reload)))
 
-    by : (b : Bool) → Held (cond b (record { frequency = div binary64 (rateOf clock control) (ofInt binary64 (pos (periodOf reload))); duty = clampOf ratio }) silence)
+    by : (b : Bool)
+        → Held (cond b (record { frequency = div binary64 (rateOf clock control) (ofInt binary64 (pos (periodOf reload))); duty = clampOf ratio }) silence)
     by true =
-        let c = clamped ratio (at-most-clear ratio (2 ^ 16) (div-at-most (ofInt binary64 (pos (periodOf compare))) (ofInt binary64 (pos (periodOf reload))) 16 0 (lit< tt) (top compare) least)) in
-        record { frequency = div-at-most (rateOf clock control) (ofInt binary64 (pos (periodOf reload))) 31 0 (lit< tt) (rate-at-most clock control h) least; from = c .0; to = c .1 }
+        let c = clamped ratio (at-most-clear ratio (2 ^ 16) (div-at-most (ofInt binary64 (pos (periodOf compare)))
+        (ofInt binary64 (pos (periodOf reload))) 16 0 (lit< tt) (top compare) least)) in
+        record {
+          frequency = div-at-most (rateOf clock control) (ofInt binary64 (pos (periodOf reload))) 31 0 (lit< tt) (rate-at-most clock control h)
+              least;
+          from = c .0;
+          to = c .1;
+        }
     by false = unfold ofBits le in record { frequency = lit≤ tt; from = tt; to = tt }

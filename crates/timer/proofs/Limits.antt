@@ -8,12 +8,12 @@ use lib.IntN.{pos}
 use lib.Dec.{T, eqb, ltb, lit<, lit≤}
 use lib.Ieee.{Float, fin, binary64, ofBits, ofInt, sub, mul, div, le, lt, toUnsigned}
 use borrow.Author.Tests.{ne-eqb}
-use Rattle.whole.specs.Bounds.{Clear, AtMost, AtLeast, WholePart}
+use Rattle.whole.specs.Bounds.{AtMost, AtLeast, WholePart}
 use Rattle.whole.specs.Limits.{goodTime}
 use Rattle.whole.specs.Words.{has, lacks}
 use Rattle.whole.proofs.Cuts.{whole-part, above-zero}
 use Rattle.whole.proofs.Round.{weaken, weaken-least, ofInt-at-most, ofInt-at-least, mul-at-most, sub-at-most, div-pow, div-pow-least, cut-at-most, good-at-most}
-use Rattle.whole.proofs.Order.{at-most-clear, le-trans-clear, le-refl-clear, zero-least}
+use Rattle.whole.proofs.Order.{at-most-clear, good-clear, le-trans-clear, le-refl-clear, zero-least}
 use Rattle.whole.proofs.Mono.{sub-mono, mul-mono, cut-mono}
 use Rattle.timer.specs.declared.Timer.{Timer}
 use Rattle.timer.specs.Timers.{sysclkOf, rateOf, ticks, elapsedOf, writtenOf, clearedOf, noted, advancedOf, periodOf, freshTimer}
@@ -50,15 +50,18 @@ module _ (clock control : ℕ) (h : clock < 2 ^ 32) where
   pub rate-at-most : AtMost (rateOf clock control) (2 ^ 31)
   unfolding rateOf ofBits
   rate-at-most =
-      either (λ (x : Float). AtMost x (2 ^ 31)) (has control 1) (div binary64 (sysclkOf clock) (fin false 1 (pos 8))) (div binary64 (sysclkOf clock) (fin false 1 (pos 1)))
+      either (λ (x : Float). AtMost x (2 ^ 31)) (has control 1) (div binary64 (sysclkOf clock) (fin false 1 (pos 8)))
+      (div binary64 (sysclkOf clock) (fin false 1 (pos 1)))
       (weaken (div binary64 (sysclkOf clock) (fin false 1 (pos 8))) (2 ^ 24) (2 ^ 31) (lit≤ tt) slow) fast
 
   pub rate-at-least : AtLeast (rateOf clock control) (2 ^ 8)
   unfolding rateOf ofBits
   rate-at-least =
-      either (λ (x : Float). AtLeast x (2 ^ 8)) (has control 1) (div binary64 (sysclkOf clock) (fin false 1 (pos 8))) (div binary64 (sysclkOf clock) (fin false 1 (pos 1)))
+      either (λ (x : Float). AtLeast x (2 ^ 8)) (has control 1) (div binary64 (sysclkOf clock) (fin false 1 (pos 8)))
+      (div binary64 (sysclkOf clock) (fin false 1 (pos 1)))
       (div-pow-least (sysclkOf clock) 8 0 (2 ^ 24) (lit≤ tt) (clock-at-least clock h) slow)
-      (weaken-least (div binary64 (sysclkOf clock) (fin false 1 (pos 1))) 2 (2 ^ 8) (lit≤ tt) (div-pow-least (sysclkOf clock) 1 0 (2 ^ 31) (lit≤ tt) (clock-at-least clock h) fast))
+      (weaken-least (div binary64 (sysclkOf clock) (fin false 1 (pos 1))) 2 (2 ^ 8) (lit≤ tt)
+      (div-pow-least (sysclkOf clock) 1 0 (2 ^ 31) (lit≤ tt) (clock-at-least clock h) fast))
 
 -- ---- what is cut
 module _ (t : Timer) (now : Float) (clock control : ℕ) (s : Started t now) (g : T (goodTime now)) (h : clock < 2 ^ 32) where
@@ -88,33 +91,36 @@ module _ (t : Timer) (now : Float) (clock control : ℕ) (s : Started t now) (g 
       let periods = elapsedOf (t .start) now (rateOf clock control) / periodOf reload in
       either (λ (u : Timer). Started u now) (has control 0x2000) (noted t periods control) t
       (either (λ (u : Timer). Started u now) (ltb (t .seen) periods) (record { start = t .start; seen = periods; pending = t .pending || has control 0x4000 }) t
-      (record { good = s .good; before = s .before; limit = le-trans (div-le-self (elapsedOf (t .start) now (rateOf clock control)) (periodOf reload)) elapsed-limit }) s) s
+      (record {
+        good = s .good;
+        before = s .before;
+        limit = le-trans (div-le-self (elapsedOf (t .start) now (rateOf clock control)) (periodOf reload))
+            elapsed-limit;
+      }) s) s
 
 -- a fresh timer, a write of the control word, and time that goes on
 pub fresh-started : (now : Float) → T (goodTime now) → Started freshTimer now
 unfolding ofBits
-fresh-started now g = record { good = tt; before = zero-least now (at-most-clear now (2 ^ 21) (good-at-most now g)); limit = lit≤ tt }
+fresh-started now g = record { good = tt; before = zero-least now (good-clear now g); limit = lit≤ tt }
 
 pub write-started : (t : Timer) (now : Float) (val old : ℕ) → Started t now → T (goodTime now) → Started (writtenOf t now val old .timer) now
 unfolding writtenOf
 write-started t now val old s g =
     either (λ (u : Timer). Started u now) (has val 0x2000 && lacks old 0x2000)
     (record { start = now; seen = 0; pending = clearedOf t val }) (record { start = t .start; seen = t .seen; pending = clearedOf t val })
-    (record { good = g; before = le-refl-clear now (at-most-clear now (2 ^ 21) (good-at-most now g)); limit = lit≤ tt })
+    (record { good = g; before = le-refl-clear now (good-clear now g); limit = lit≤ tt })
     (record { good = s .good; before = s .before; limit = s .limit })
-
-clear : (x : Float) → T (goodTime x) → Clear x
-clear x h = at-most-clear x (2 ^ 21) (good-at-most x h)
 
 pub later-started : (t : Timer) (now later : Float) → Started t now → T (goodTime now) → T (goodTime later) → T (le now later) → Started t later
 later-started t now later s g k l = record {
   good = s .good;
-  before = le-trans-clear (t .start) now later (clear (t .start) (s .good)) (clear now g) (clear later k) (s .before) l;
+  before = le-trans-clear (t .start) now later (good-clear (t .start) (s .good)) (good-clear now g) (good-clear later k) (s .before) l;
   limit = s .limit;
 }
 
 -- TIME GOES ON: at a later time no fewer ticks have elapsed
-pub elapsed-goes-on : (t : Timer) (now later : Float) (clock control : ℕ) → Started t now → T (goodTime now) → T (goodTime later) → T (le now later) → clock < 2 ^ 32
+pub elapsed-goes-on : (t : Timer) (now later : Float) (clock control : ℕ) → Started t now → T (goodTime now) → T (goodTime later) → T (le now later)
+    → clock < 2 ^ 32
     → elapsedOf (t .start) now (rateOf clock control) ≤ elapsedOf (t .start) later (rateOf clock control)
 elapsed-goes-on t now later clock control s g k l h =
     let r = rateOf clock control in
@@ -124,10 +130,12 @@ elapsed-goes-on t now later clock control s g k l h =
     let a : AtMost (sub binary64 now (t .start)) (2 ^ 21) = passed now s g in
     let b : AtMost (sub binary64 later (t .start)) (2 ^ 21) = passed later u k in
     le-trans (le-of-eq (elapsed-is t now clock control s g h))
-    (le-trans (cut-mono (ticks (t .start) now r) (ticks (t .start) later r) (at-most-clear (ticks (t .start) now r) (2 ^ 52) first) (at-most-clear (ticks (t .start) later r) (2 ^ 52) last)
-    (mul-mono (sub binary64 now (t .start)) (sub binary64 later (t .start)) r (at-most-clear (sub binary64 now (t .start)) (2 ^ 21) a) (at-most-clear (sub binary64 later (t .start)) (2 ^ 21) b)
+    (le-trans (cut-mono (ticks (t .start) now r) (ticks (t .start) later r) (at-most-clear (ticks (t .start) now r) (2 ^ 52) first)
+    (at-most-clear (ticks (t .start) later r) (2 ^ 52) last)
+    (mul-mono (sub binary64 now (t .start)) (sub binary64 later (t .start)) r (at-most-clear (sub binary64 now (t .start)) (2 ^ 21) a)
+    (at-most-clear (sub binary64 later (t .start)) (2 ^ 21) b)
     (at-most-clear r (2 ^ 31) (rate-at-most clock control h))
-    (sub-mono now later (t .start) (clear now g) (clear later k) (clear (t .start) (s .good)) l (s .before) (u .before))))
+    (sub-mono now later (t .start) (good-clear now g) (good-clear later k) (good-clear (t .start) (s .good)) l (s .before) (u .before))))
     (le-of-eq (sym (elapsed-is t later clock control u k h))))
   where
     passed : (x : Float) → Started t x → T (goodTime x) → AtMost (sub binary64 x (t .start)) (2 ^ 21)

@@ -1,7 +1,6 @@
 -- The refusal by its number, given exactly when its rule says.
 use mathlib.Core.Path.{_≡_, refl}
 use mathlib.Core.Bool.{Bool, true, false, cond, _&&_}
-use Prim.Native.Nat.{ℕ}
 use Rattle.timer.specs.declared.Tone.{Tone}
 use Rattle.timer.specs.declared.Sounded.the-variants.{Same, Change, SoundFull}
 use Rattle.timer.specs.Sound.{differOf, soundedOf, soundRefusal}

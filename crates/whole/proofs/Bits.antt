@@ -54,8 +54,10 @@ unfolding ofFields
 at-fields zero t h = subst (λ (n : ℕ). HasValue (odd 53 false t 0 1074) false (n * 2 ^ 0) (2 ^ 1074)) (omega arith) (odd-sign 53 false t 0 1074)
 at-fields (suc x) t h =
     subst (λ (v : Float). HasValue v false ((2 ^ 52 + t) * 2 ^ (suc x - 1)) (2 ^ 1074))
-    (sym (cond-no (eqb (suc x) 2047) (cond (eqb t 0) (inf false) nan) (odd 53 false (2 ^ 52 + t) x 1074) (not-T (eqb (suc x) 2047) (λ (u : T (eqb (suc x) 2047)). differ x h (eqb→eq (suc x) 2047 u)))))
-    (subst (λ (k : ℕ). HasValue (odd 53 false (2 ^ 52 + t) x 1074) false ((2 ^ 52 + t) * 2 ^ k) (2 ^ 1074)) (omega arith) (odd-sign 53 false (2 ^ 52 + t) x 1074))
+    (sym (cond-no (eqb (suc x) 2047) (cond (eqb t 0) (inf false) nan) (odd 53 false (2 ^ 52 + t) x 1074)
+    (not-T (eqb (suc x) 2047) (λ (u : T (eqb (suc x) 2047)). differ x h (eqb→eq (suc x) 2047 u)))))
+    (subst (λ (k : ℕ). HasValue (odd 53 false (2 ^ 52 + t) x 1074) false ((2 ^ 52 + t) * 2 ^ k) (2 ^ 1074)) (omega arith)
+    (odd-sign 53 false (2 ^ 52 + t) x 1074))
 
 under : (b : ℕ) → b < 2047 * 2 ^ 52 → (b < 2 ^ 63) × (b / 2 ^ 52 < 2047)
 under b h = (omega arith, omega arith)
@@ -63,7 +65,8 @@ under b h = (omega arith, omega arith)
 -- 2047 * 2 ^ 52 is the pattern of the infinity
 pub value : (b : ℕ) → b < 2047 * 2 ^ 52 → HasValue (ofBits binary64 b) false (val b) (2 ^ 1074)
 value b h =
-    subst (λ (v : Float). HasValue v false (val b) (2 ^ 1074)) (sym (fields b (b / 2 ^ 52) (under b h .0) refl)) (at-fields (b / 2 ^ 52) (b % 2 ^ 52) (under b h .1))
+    subst (λ (v : Float). HasValue v false (val b) (2 ^ 1074)) (sym (fields b (b / 2 ^ 52) (under b h .0) refl))
+    (at-fields (b / 2 ^ 52) (b % 2 ^ 52) (under b h .1))
 
 -- ---- a larger pattern stands for a larger number
 

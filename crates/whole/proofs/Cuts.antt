@@ -175,8 +175,11 @@ within n c h = omega arith
 pub signed-least : (x : Float) (n : ℕ) → lt x (ofBits binary64 0) ≡ true → n ≡ toUnsigned 64 (neg x) → 2 ^ 63 ≤ n → 2 ^ 63 ≡ twos (toSigned 63 x)
 signed-least x n h e l = sym (ap twos (signed-below x h ∙ ap (λ (q : ℕ). negℤ (pos q)) (ap (λ (q : ℕ). min q (2 ^ 63)) (sym e) ∙ least n (2 ^ 63) l)))
 
-pub signed-negative : (x : Float) (n : ℕ) → lt x (ofBits binary64 0) ≡ true → n ≡ toUnsigned 64 (neg x) → n < 2 ^ 63 → (2 ^ 64 - 1 - n + 1) % 2 ^ 64 ≡ twos (toSigned 63 x)
-signed-negative x n h e l = below-bits n l ∙ sym (ap twos (signed-below x h ∙ ap (λ (q : ℕ). negℤ (pos q)) (ap (λ (q : ℕ). min q (2 ^ 63)) (sym e) ∙ within n (2 ^ 63) (le-of-lt l))))
+pub signed-negative : (x : Float) (n : ℕ) → lt x (ofBits binary64 0) ≡ true → n ≡ toUnsigned 64 (neg x) → n < 2 ^ 63
+    → (2 ^ 64 - 1 - n + 1) % 2 ^ 64 ≡ twos (toSigned 63 x)
+signed-negative x n h e l =
+    below-bits n l ∙ sym (ap twos (signed-below x h ∙ ap (λ (q : ℕ). negℤ (pos q))
+    (ap (λ (q : ℕ). min q (2 ^ 63)) (sym e) ∙ within n (2 ^ 63) (le-of-lt l))))
 
 pub signed-greatest : (x : Float) (n : ℕ) → lt x (ofBits binary64 0) ≡ false → n ≡ toUnsigned 64 x → 2 ^ 63 ≤ n → 2 ^ 63 - 1 ≡ twos (toSigned 63 x)
 signed-greatest x n h e l = sym (ap twos (signed-from x h ∙ ap (λ (q : ℕ). pos (min q (2 ^ 63 - 1))) (sym e) ∙ ap pos (least n (2 ^ 63 - 1) (omega arith))))
@@ -189,7 +192,8 @@ pub whole-part : (x : Float) (n : ℕ) → n < 2 ^ 64 → AtMost x n → WholePa
 whole-part nan n h p = p
 whole-part (inf s) n h p = p
 whole-part (fin true m e) n h p = p
-whole-part (fin false m e) n h p = cut-of (fin false m e) (toUnsigned 64 (fin false m e)) refl .cut m e refl (lt-of-le-of-lt p (mul-lt-mul-of-pos-right h (down-pos e)))
+whole-part (fin false m e) n h p =
+    cut-of (fin false m e) (toUnsigned 64 (fin false m e)) refl .cut m e refl (lt-of-le-of-lt p (mul-lt-mul-of-pos-right h (down-pos e)))
 
 -- what is not above 0.0 is cut to 0
 pub above-zero : (x : Float) → Clear x → cond (lt (ofBits binary64 0) x) (toUnsigned 64 x) 0 ≡ toUnsigned 64 x
@@ -204,4 +208,6 @@ above-zero (fin false m e) c = by (ltb (0 * 1 * down e) (m * up e * 1)) refl
 
     by : (b : Bool) → ltb (0 * 1 * down e) (m * up e * 1) ≡ b → cond b (min (m * up e / down e) (2 ^ 64 - 1)) 0 ≡ min (m * up e / down e) (2 ^ 64 - 1)
     by true h = refl
-    by false h = sym (ap (λ (a : ℕ). min (a / down e) (2 ^ 64 - 1)) (none (m * up e) (down e) (ltb-false (0 * 1 * down e) (m * up e * 1) h)) ∙ ap (λ (q : ℕ). min q (2 ^ 64 - 1)) (zero-div (down e)))
+    by false h =
+        sym (ap (λ (a : ℕ). min (a / down e) (2 ^ 64 - 1)) (none (m * up e) (down e) (ltb-false (0 * 1 * down e) (m * up e * 1) h)) ∙ ap
+        (λ (q : ℕ). min q (2 ^ 64 - 1)) (zero-div (down e)))

@@ -83,7 +83,8 @@ time-bits b = up-to-bits 2097152 0x4140_0000_0000_0000 b (lit< tt) refl
 pub turbo-bits : (b : ℕ) → (leb 0x3F50_0000_0000_0000 b && leb b 0x4090_0000_0000_0000) ≡ goodTurbo (ofBits binary64 b)
 turbo-bits b = elim (lt-or-ge 0x4090_0000_0000_0000 b) [
   | inl h ↦ last (leb 0x3F50_0000_0000_0000 b) (downTo 1024 (ofBits binary64 b)) (lt-leb b 0x4090_0000_0000_0000 h)
-  | inr h ↦ ap (λ (t : Bool). t && leb b 0x4090_0000_0000_0000) (down-to-bits 1024 0x3F50_0000_0000_0000 b (lit< tt) (omega arith) refl) ∙ ap (λ (t : Bool). downTo 1024 (ofBits binary64 b) && t) hi
+  | inr h ↦ ap (λ (t : Bool). t && leb b 0x4090_0000_0000_0000) (down-to-bits 1024 0x3F50_0000_0000_0000 b (lit< tt) (omega arith) refl) ∙ ap
+      (λ (t : Bool). downTo 1024 (ofBits binary64 b) && t) hi
 ]
   where
     hi : leb b 0x4090_0000_0000_0000 ≡ upTo 1024 (ofBits binary64 b)

@@ -77,7 +77,8 @@ add-at : (m : ℕ) (e : ℤ) (m' : ℕ) (e' : ℤ) → T (le (fin false m e) (fi
 unfolding add
 add-at m e m' e' h y y' q q' k =
     any2 (λ (y y' : Float). T (le y y') → T (le (add binary64 (fin false m e) y) (add binary64 (fin false m' e') y')))
-    (λ n d n' d' k. round-mono binary64 (m * up e * down d + n * up d * down e) (down e * down d) (m' * up e' * down d' + n' * up d' * down e') (down e' * down d')
+    (λ n d n' d' k. round-mono binary64 (m * up e * down d + n * up d * down e) (down e * down d) (m' * up e' * down d' + n' * up d' * down e')
+    (down e' * down d')
     (mul-pos (down-pos e) (down-pos d)) (mul-pos (down-pos e') (down-pos d'))
     (add-cross (m * up e) (down e) (m' * up e') (down e') (n * up d) (down d) (n' * up d') (down d') (cross m e m' e' h) (cross n d n' d' k)))
     y y' q q' k
@@ -105,10 +106,12 @@ sub-is : (m : ℕ) (e : ℤ) (n : ℕ) (d : ℤ) → T (le (fin false n d) (fin 
     → sub binary64 (fin false m e) (fin false n d) ≡ round binary64 false (m * up e * down d - n * up d * down e) (down e * down d)
 unfolding sub
 sub-is m e n d l =
-    ap (λ (t : Bool). cond t (round binary64 true (n * up d * down e - m * up e * down d) (down e * down d)) (round binary64 false (m * up e * down d - n * up d * down e) (down e * down d)))
+    ap (λ (t : Bool). cond t (round binary64 true (n * up d * down e - m * up e * down d) (down e * down d))
+    (round binary64 false (m * up e * down d - n * up d * down e) (down e * down d)))
     (le-ltb (m * up e * down d) (n * up d * down e) (cross n d m e l))
 
-sub-at : (m : ℕ) (e : ℤ) (m' : ℕ) (e' : ℤ) (n : ℕ) (d : ℤ) → T (le (fin false m e) (fin false m' e')) → T (le (fin false n d) (fin false m e)) → T (le (fin false n d) (fin false m' e'))
+sub-at : (m : ℕ) (e : ℤ) (m' : ℕ) (e' : ℤ) (n : ℕ) (d : ℤ) → T (le (fin false m e) (fin false m' e')) → T (le (fin false n d) (fin false m e))
+    → T (le (fin false n d) (fin false m' e'))
     → T (le (sub binary64 (fin false m e) (fin false n d)) (sub binary64 (fin false m' e') (fin false n d)))
 sub-at m e m' e' n d h l l' =
     subst (λ (z : Float). T (le z (sub binary64 (fin false m' e') (fin false n d)))) (sym (sub-is m e n d l))
@@ -120,7 +123,8 @@ sub-at m e m' e' n d h l l' =
 pub sub-mono : (x x' y : Float) → Clear x → Clear x' → Clear y → T (le x x') → T (le y x) → T (le y x') → T (le (sub binary64 x y) (sub binary64 x' y))
 sub-mono x x' y p p' q h l l' =
     any2 (λ (x x' : Float). T (le x x') → T (le y x) → T (le y x') → T (le (sub binary64 x y) (sub binary64 x' y)))
-    (λ m e m' e' h l l'. any (λ (y : Float). T (le y (fin false m e)) → T (le y (fin false m' e')) → T (le (sub binary64 (fin false m e) y) (sub binary64 (fin false m' e') y)))
+    (λ m e m' e' h l l'. any (λ (y : Float). T (le y (fin false m e)) → T (le y (fin false m' e')) → T
+    (le (sub binary64 (fin false m e) y) (sub binary64 (fin false m' e') y)))
     (λ n d l l'. sub-at m e m' e' n d h l l') y q l l') x x' p p' h l l'
 
 -- y is no zero
@@ -139,13 +143,17 @@ div-at m e m' e' n d k q h =
     some : (n : ℕ) → 0 < n → n ≡ 0 → ⊥
     some n h e = omega arith
 
-pub div-mono : (x x' : Float) (n : ℕ) (d : ℤ) (k : ℕ) → Clear x → Clear x' → AtLeast (fin false n d) k → T (le x x') → T (le (div binary64 x (fin false n d)) (div binary64 x' (fin false n d)))
+pub div-mono : (x x' : Float) (n : ℕ) (d : ℤ) (k : ℕ) → Clear x → Clear x' → AtLeast (fin false n d) k → T (le x x')
+    → T (le (div binary64 x (fin false n d)) (div binary64 x' (fin false n d)))
 div-mono x x' n d k p p' q h =
-    any2 (λ (x x' : Float). T (le x x') → T (le (div binary64 x (fin false n d)) (div binary64 x' (fin false n d)))) (λ m e m' e' h. div-at m e m' e' n d k q h) x x' p p' h
+    any2 (λ (x x' : Float). T (le x x') → T (le (div binary64 x (fin false n d)) (div binary64 x' (fin false n d))))
+    (λ m e m' e' h. div-at m e m' e' n d k q h) x x' p p' h
 
 cut-at : (m : ℕ) (e : ℤ) (m' : ℕ) (e' : ℤ) → T (le (fin false m e) (fin false m' e')) → toUnsigned 64 (fin false m e) ≤ toUnsigned 64 (fin false m' e')
 unfolding toUnsigned
-cut-at m e m' e' h = capped (m * up e / down e) (m' * up e' / down e') (cut-cross (m * up e) (down e) (m' * up e') (down e') (down-pos e) (down-pos e') (cross m e m' e' h))
+cut-at m e m' e' h =
+    capped (m * up e / down e) (m' * up e' / down e') (cut-cross (m * up e) (down e) (m' * up e') (down e') (down-pos e) (down-pos e')
+    (cross m e m' e' h))
   where
     capped : (a b : ℕ) → a ≤ b → min a (2 ^ 64 - 1) ≤ min b (2 ^ 64 - 1)
     capped a b h = omega arith

@@ -3,7 +3,8 @@ use mathlib.Core.Path.{_≡_, refl, sym, ap, _∙_, subst}
 use mathlib.Core.Bool.{Bool, true, false, not, _&&_, _||_, true≢false}
 use mathlib.Core.Logic.{inl, inr}
 use lib.Ieee.Positive.{through}
-use Rattle.whole.proofs.Round.{or-split}
+use Rattle.whole.specs.Limits.{goodTime}
+use Rattle.whole.proofs.Round.{or-split, good-at-most}
 use Prim.Native.Nat.{ℕ, zero, suc, _+_, _-_, _*_, _/_, _%_, _^_, _≤_, _<_, zero-le, min}
 use native.Mathlib.Nat.{le-trans, le-of-eq, le-of-lt, lt-of-lt-of-le, lt-of-le-of-lt, mul-one, one-mul, mul-assoc, mul-comm, mul-pos, mul-le-mul-right, mul-lt-mul-of-pos-right, le-add-right, not-le-of-lt, le-of-suc-le-suc, div-lt-iff-lt-mul, lt-suc-self}
 use native.Mathlib.Omega.{arith}
@@ -34,7 +35,8 @@ own-down : (m k : ℕ) → m < 2 ^ 53 → k ≤ 1074 → HasValue (round binary6
 own-down m k h l =
     round-exact binary64 false (m * 1) (2 ^ k) m (1074 - k) (pow-pos k) h
     (lt-of-lt-of-le (shl-lt 53 (1074 - k) h) (pow-mono (room k)))
-    (ap (λ (z : ℕ). z * 2 ^ 1074) (mul-one m) ∙ ap (λ (z : ℕ). m * 2 ^ z) (whole k l) ∙ ap (λ (z : ℕ). m * z) (pow-add 2 (1074 - k) k) ∙ sym (mul-assoc m (2 ^ (1074 - k)) (2 ^ k)))
+    (ap (λ (z : ℕ). z * 2 ^ 1074) (mul-one m) ∙ ap (λ (z : ℕ). m * 2 ^ z) (whole k l) ∙ ap (λ (z : ℕ). m * z) (pow-add 2 (1074 - k) k) ∙ sym
+    (mul-assoc m (2 ^ (1074 - k)) (2 ^ k)))
   where
     room : (k : ℕ) → 53 + (1074 - k) ≤ 2098
     room k = omega arith
@@ -49,13 +51,15 @@ own s zero (pos k) f = own-up 0 k (lit< tt) (lt-of-le-of-lt (le-of-eq (nothing (
   where
     nothing : (p : ℕ) → 0 * p ≡ 0
     nothing p = omega arith
-own s zero (negsuc k) f = own-down 0 (suc k) (lit< tt) (same-power (suc k) 1074 (le-trans (le-of-eq (sym (one-mul (2 ^ suc k)) ∙ eqb→eq (1 * 2 ^ suc k) 1 f)) (lit≤ tt)))
+own s zero (negsuc k) f =
+    own-down 0 (suc k) (lit< tt) (same-power (suc k) 1074 (le-trans (le-of-eq (sym (one-mul (2 ^ suc k)) ∙ eqb→eq (1 * 2 ^ suc k) 1 f)) (lit≤ tt)))
 own s (suc m) (pos k) f =
     let A = eqb (suc m % 2) 1 in
     let B = ltb (suc m) (2 ^ 53) in
     let C = leb 1 (2 ^ 1074) in
     let D = ltb (suc m * 2 ^ k) (2 ^ 1024 * 1) in
-    own-up (suc m) k (ltb→lt (suc m) (2 ^ 53) (and-r A B (and-l (A && B) C (and-l (A && B && C) D f)))) (ltb→lt (suc m * 2 ^ k) (2 ^ 1024 * 1) (and-r (A && B && C) D f))
+    own-up (suc m) k (ltb→lt (suc m) (2 ^ 53) (and-r A B (and-l (A && B) C (and-l (A && B && C) D f))))
+    (ltb→lt (suc m * 2 ^ k) (2 ^ 1024 * 1) (and-r (A && B && C) D f))
 own s (suc m) (negsuc k) f =
     let A = eqb (suc m % 2) 1 in
     let B = ltb (suc m) (2 ^ 53) in
@@ -69,6 +73,9 @@ at-most-clear nan n p = p
 at-most-clear (inf s) n p = p
 at-most-clear (fin true m e) n p = p
 at-most-clear (fin false m e) n p = tt
+
+pub good-clear : (x : Float) → T (goodTime x) → Clear x
+good-clear x h = at-most-clear x (2 ^ 21) (good-at-most x h)
 
 lt-or-eq : (a b : ℕ) → T (ltb a b || (eqb a b && true)) → a ≤ b
 lt-or-eq a b t = elim (or-split (ltb a b) (eqb a b && true) t) [ inl u ↦ le-of-lt (ltb→lt a b u) | inr u ↦ le-of-eq (eqb→eq a b (and-l (eqb a b) true u)) ]
@@ -114,7 +121,8 @@ add-grows (fin false m e) nan n f p q a = absurd q
 add-grows (fin false m e) (inf t) n f p q a = absurd q
 add-grows (fin false m e) (fin true k d) n f p q a = absurd q
 add-grows (fin false m e) (fin false k d) n f p q a =
-    above (fin false m e) (round binary64 false (m * up e) (down e)) (round binary64 false (k * up d * down e + m * up e * down d) (down d * down e)) (m * up e) (down e) n
+    above (fin false m e) (round binary64 false (m * up e) (down e)) (round binary64 false (k * up d * down e + m * up e * down d) (down d * down e))
+    (m * up e) (down e) n
     (down-pos e) (refl, refl) (own false m e f) a
     (round-mono binary64 (m * up e) (down e) (k * up d * down e + m * up e * down d) (down d * down e) (down-pos e) (mul-pos (down-pos d) (down-pos e))
     (more (m * up e) (down e) (down d) (k * up d * down e)))
@@ -135,7 +143,8 @@ grows (fin false m e) nan n f p q a = absurd q
 grows (fin false m e) (inf t) n f p q a = absurd q
 grows (fin false m e) (fin true k d) n f p q a = absurd q
 grows (fin false m e) (fin false k d) n f p q a =
-    above (fin false m e) (round binary64 false (m * up e) (down e)) (round binary64 false (m * up e * down d + k * up d * down e) (down e * down d)) (m * up e) (down e) n
+    above (fin false m e) (round binary64 false (m * up e) (down e)) (round binary64 false (m * up e * down d + k * up d * down e) (down e * down d))
+    (m * up e) (down e) n
     (down-pos e) (refl, refl) (own false m e f) a
     (round-mono binary64 (m * up e) (down e) (m * up e * down d + k * up d * down e) (down e * down d) (down-pos e) (mul-pos (down-pos e) (down-pos d))
     (more (m * up e) (down e) (down d) (k * up d * down e)))
@@ -178,7 +187,8 @@ at-most-of-not-lt nan N k n i p h = absurd p
 at-most-of-not-lt (inf s) N k n i p h = absurd p
 at-most-of-not-lt (fin true m e) N k n i p h = absurd p
 at-most-of-not-lt (fin false m e) N k n i p h =
-    le-trans (le-of-eq (sym (mul-one (m * up e)))) (le-trans (ltb-false (1 * 2 ^ k * down e) (m * up e * 1) h) (le-of-eq (ap (λ (z : ℕ). z * down e) (one-mul (2 ^ k) ∙ sym i))))
+    le-trans (le-of-eq (sym (mul-one (m * up e)))) (le-trans (ltb-false (1 * 2 ^ k * down e) (m * up e * 1) h)
+    (le-of-eq (ap (λ (z : ℕ). z * down e) (one-mul (2 ^ k) ∙ sym i))))
 
 pub le-refl-clear : (x : Float) → Clear x → T (le x x)
 le-refl-clear nan c = absurd c
@@ -193,4 +203,5 @@ unfolding ofBits
 zero-least nan c = absurd c
 zero-least (inf s) c = absurd c
 zero-least (fin true m e) c = absurd c
-zero-least (fin false m e) c = le-of-values (fin false 0 (pos 0)) (fin false m e) 0 1 (m * up e) (down e) (lit< tt) (down-pos e) (refl, refl) (refl, refl) (omega arith)
+zero-least (fin false m e) c =
+    le-of-values (fin false 0 (pos 0)) (fin false m e) 0 1 (m * up e) (down e) (lit< tt) (down-pos e) (refl, refl) (refl, refl) (omega arith)

@@ -239,7 +239,8 @@ div-pow (fin false m e) j k h p =
     round-at-most k (m * up e * 1) (1 * 2 ^ j * down e) h (mul-pos (mul-pos (lit< tt) (pow-pos j)) (down-pos e))
     (le-trans (le-of-eq (mul-one (m * up e))) (le-trans p (le-of-eq (simp (pow-add, mul-assoc, one-mul)))))
 
-pub div-pow-least : (x : Float) (j k b : ℕ) → k + j ≤ 1074 → AtLeast x (2 ^ k) → AtMost (div binary64 x (fin false 1 (pos j))) b → AtLeast (div binary64 x (fin false 1 (pos j))) (2 ^ (k + j))
+pub div-pow-least : (x : Float) (j k b : ℕ) → k + j ≤ 1074 → AtLeast x (2 ^ k) → AtMost (div binary64 x (fin false 1 (pos j))) b
+    → AtLeast (div binary64 x (fin false 1 (pos j))) (2 ^ (k + j))
 unfolding div
 div-pow-least nan j k b h p f = absurd p
 div-pow-least (inf s) j k b h p f = absurd p

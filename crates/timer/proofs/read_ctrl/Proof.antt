@@ -2,12 +2,10 @@ use Rattle.timer.specs.Timers.{controlOf}
 use Rattle.timer.proofs.read_ctrl.Statement.{statement}
 use Rattle.timer.proofs.read_ctrl.Tie as tie
 
--- src/lib.rt:70:1
 returns : tie.Need-returns
 unfolding controlOf
 returns c = rw (c .if1 .taken)
 
--- src/lib.rt:70:1
 returns-2 : tie.Need-returns-2
 unfolding controlOf
 returns-2 c = rw (c .if1 .left)

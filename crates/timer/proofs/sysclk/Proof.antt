@@ -4,16 +4,13 @@ use Rattle.timer.specs.Timers.{sysclkOf}
 use Rattle.timer.proofs.sysclk.Statement.{statement}
 use Rattle.timer.proofs.sysclk.Tie as tie
 
--- src/lib.rt:34:41
 int-to-float-result : tie.Need-int-to-float-result
 int-to-float-result c = search needs
 
--- src/lib.rt:31:1
 returns : tie.Need-returns
 unfolding sysclkOf
 returns c = rw (eq-eqb _ _ (c .if1 .taken))
 
--- src/lib.rt:31:1
 returns-2 : tie.Need-returns-2
 unfolding sysclkOf
 returns-2 c = rw (ne-eqb _ _ (c .before .if1 .left))

@@ -3,16 +3,13 @@ use Rattle.timer.specs.Timers.{writtenOf}
 use Rattle.timer.proofs.write_ctrl.Statement.{statement}
 use Rattle.timer.proofs.write_ctrl.Tie as tie
 
--- src/lib.rt:86:9
 cleared-requires : tie.Need-cleared-requires
 cleared-requires c κs = search needs
 
--- src/lib.rt:89:9
 returns : tie.Need-returns
 unfolding writtenOf
 returns c = rw ((c .if1 .taken), ← (c .before .cleared .ensures))
 
--- src/lib.rt:83:1
 returns-2 : tie.Need-returns-2
 unfolding writtenOf
 returns-2 c = rw ((c .if1 .left), ← (c .before .cleared .ensures))

@@ -4,35 +4,29 @@ use Rattle.whole.proofs.Cuts.{signed-least, signed-negative, signed-gre
 use Rattle.whole.proofs.whole_signed.Statement.{statement}
 use Rattle.whole.proofs.whole_signed.Tie as tie
 
--- src/lib.rt:51:13
 whole-requires : tie.Need-whole-requires
 whole-requires c κs = search needs
 
--- src/lib.rt:53:13
 returns : tie.Need-returns
 returns c = signed-least _ _ (c .before .before .if1 .taken) (c .before .whole .ensures .cast) (c .if2 .taken)
 
--- src/lib.rt:55:43
 sub-wrapping-add-u64 : tie.Need-sub-wrapping-add-u64
 sub-wrapping-add-u64 c = search needs
 
--- src/lib.rt:55:9
 wrapping-add-u64-requires : tie.Need-wrapping-add-u64-requires
 wrapping-add-u64-requires c κs = search needs
 
--- src/lib.rt:55:9
 returns-2 : tie.Need-returns-2
-returns-2 c = (c .wrapping-add-u64 .ensures) ∙ signed-negative _ _ (c .before .before .before .if1 .taken) (c .before .before .whole .ensures .cast) (c .before .if2 .left)
+returns-2 c =
+    (c .wrapping-add-u64 .ensures) ∙ signed-negative _ _ (c .before .before .before .if1 .taken) (c .before .before .whole .ensures .cast)
+    (c .before .if2 .left)
 
--- src/lib.rt:57:9
 whole-requires-2 : tie.Need-whole-requires-2
 whole-requires-2 c κs = search needs
 
--- src/lib.rt:59:9
 returns-3 : tie.Need-returns-3
 returns-3 c = signed-greatest _ _ (c .before .before .if1 .left) (c .before .whole2 .ensures .cast) (c .if3 .taken)
 
--- src/lib.rt:47:1
 returns-4 : tie.Need-returns-4
 returns-4 c = signed-within _ _ (c .before .before .if1 .left) (c .before .whole2 .ensures .cast) (c .if3 .left)
 

@@ -6,20 +6,16 @@ use Rattle.clock.specs.Rtc.{alarmOf}
 use Rattle.clock.proofs.chip.alarm_ticks.Statement.{statement}
 use Rattle.clock.proofs.chip.alarm_ticks.Tie as tie
 
--- src/chip.rt:51:8
 get-requires : tie.Need-get-requires
 get-requires c κs = search needs
 
--- src/chip.rt:52:9
 returns : tie.Need-returns
 unfolding alarmOf
 returns c = rw (← (c .before .get .ensures), eq-eqb _ _ (c .if1 .taken))
 
--- src/chip.rt:54:15
 six-bytes-requires : tie.Need-six-bytes-requires
 six-bytes-requires c κs = search needs
 
--- src/chip.rt:48:1
 returns-2 : tie.Need-returns-2
 unfolding alarmOf
 returns-2 c = rw (← (c .before .before .get .ensures), ne-eqb _ _ (c .before .if1 .left)) (ap At (c .six-bytes .ensures))

@@ -3,7 +3,6 @@ use Rattle.clock.specs.Rtc.{freshRtc}
 use Rattle.clock.proofs.chip.fresh.Statement.{statement}
 use Rattle.clock.proofs.chip.fresh.Tie as tie
 
--- src/chip.rt:11:1
 returns : tie.Need-returns
 unfolding freshRtc
 returns c = refl

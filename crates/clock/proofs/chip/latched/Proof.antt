@@ -2,11 +2,9 @@ use borrow.Author.Needs.{needs}
 use Rattle.clock.proofs.chip.latched.Statement.{statement}
 use Rattle.clock.proofs.chip.latched.Tie as tie
 
--- src/chip.rt:41:15
 six-bytes-requires : tie.Need-six-bytes-requires
 six-bytes-requires c κs = search needs
 
--- src/chip.rt:37:1
 returns : tie.Need-returns
 returns c = cc
 

@@ -2,12 +2,10 @@ use Rattle.clock.specs.Adc.{convertedOf}
 use Rattle.clock.proofs.convert.adc_advance.Statement.{statement}
 use Rattle.clock.proofs.convert.adc_advance.Tie as tie
 
--- src/convert.rt:30:9
 returns : tie.Need-returns
 unfolding convertedOf
 returns c = rw (c .before .if1 .taken)
 
--- src/convert.rt:26:1
 returns-2 : tie.Need-returns-2
 unfolding convertedOf
 returns-2 c = rw (c .if1 .left)

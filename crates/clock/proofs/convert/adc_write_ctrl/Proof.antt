@@ -2,11 +2,9 @@ use borrow.Author.Needs.{needs}
 use Rattle.clock.proofs.convert.adc_write_ctrl.Statement.{statement}
 use Rattle.clock.proofs.convert.adc_write_ctrl.Tie as tie
 
--- src/convert.rt:21:18
 stored-requires : tie.Need-stored-requires
 stored-requires c κs = search needs
 
--- src/convert.rt:15:1
 returns : tie.Need-returns
 returns c = cc
 

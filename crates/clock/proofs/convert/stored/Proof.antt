@@ -2,12 +2,10 @@ use Rattle.clock.specs.Adc.{storedOf}
 use Rattle.clock.proofs.convert.stored.Statement.{statement}
 use Rattle.clock.proofs.convert.stored.Tie as tie
 
--- src/convert.rt:10:9
 returns : tie.Need-returns
 unfolding storedOf
 returns c = rw (c .if1 .taken)
 
--- src/convert.rt:6:1
 returns-2 : tie.Need-returns-2
 unfolding storedOf
 returns-2 c = rw (c .if1 .left)

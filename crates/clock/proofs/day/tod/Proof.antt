@@ -4,28 +4,22 @@ use Rattle.clock.proofs.Cases.{day-from, day-below}
 use Rattle.clock.proofs.day.tod.Statement.{statement}
 use Rattle.clock.proofs.day.tod.Tie as tie
 
--- src/day.rt:11:33
 int-to-float-whole-signed : tie.Need-int-to-float-whole-signed
 int-to-float-whole-signed c = search needs
 
--- src/day.rt:11:9
 whole-signed-requires : tie.Need-whole-signed-requires
 whole-signed-requires c κs = search needs
 
--- src/day.rt:13:9
 returns : tie.Need-returns
 unfolding todOf
 returns c = day-from _ _ (c .before .whole-signed .ensures) (c .if1 .taken)
 
--- src/day.rt:15:14
 sub-result : tie.Need-sub-result
 sub-result c = search needs
 
--- src/day.rt:15:5
 sub-result-2 : tie.Need-sub-result-2
 sub-result-2 c = search needs
 
--- src/day.rt:8:1
 returns-2 : tie.Need-returns-2
 unfolding todOf
 returns-2 c = day-below _ _ (c .before .whole-signed .ensures) (c .if1 .left)

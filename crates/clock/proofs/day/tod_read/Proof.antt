@@ -4,21 +4,17 @@ use Rattle.clock.specs.Day.{fieldOf}
 use Rattle.clock.proofs.day.tod_read.Statement.{statement}
 use Rattle.clock.proofs.day.tod_read.Tie as tie
 
--- src/day.rt:22:9
 tod-requires : tie.Need-tod-requires
 tod-requires c κs = search needs
 
--- src/day.rt:24:9
 returns : tie.Need-returns
 unfolding fieldOf
 returns c = rw (← (c .before .tod .ensures), eq-eqb _ _ (c .if1 .taken))
 
--- src/day.rt:27:9
 returns-2 : tie.Need-returns-2
 unfolding fieldOf
 returns-2 c = rw (← (c .before .before .tod .ensures), ne-eqb _ _ (c .before .if1 .left), eq-eqb _ _ (c .if2 .taken))
 
--- src/day.rt:19:1
 returns-3 : tie.Need-returns-3
 unfolding fieldOf
 returns-3 c = rw (← (c .before .before .tod .ensures), ne-eqb _ _ (c .before .if1 .left), ne-eqb _ _ (c .if2 .left))

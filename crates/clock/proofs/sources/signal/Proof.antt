@@ -3,12 +3,10 @@ use Rattle.clock.specs.Sources.{signalOf}
 use Rattle.clock.proofs.sources.signal.Statement.{statement}
 use Rattle.clock.proofs.sources.signal.Tie as tie
 
--- src/sources.rt:13:9
 returns : tie.Need-returns
 unfolding signalOf
 returns c = rw (lt-ltb _ _ (c .if1 .taken))
 
--- src/sources.rt:9:1
 returns-2 : tie.Need-returns-2
 unfolding signalOf
 returns-2 c = rw (le-ltb _ _ (c .if1 .left))

@@ -4,16 +4,13 @@ use Rattle.clock.specs.Times.{pacedOf}
 use Rattle.clock.proofs.time.set_turbo.Statement.{statement}
 use Rattle.clock.proofs.time.set_turbo.Tie as tie
 
--- src/time.rt:31:8
 good-turbo-requires : tie.Need-good-turbo-requires
 good-turbo-requires c κs = search needs
 
--- src/time.rt:32:9
 returns : tie.Need-returns
 unfolding pacedOf
 returns c = rw (sym (c .before .good-turbo .ensures) ∙ (c .if1 .taken))
 
--- src/time.rt:28:1
 returns-2 : tie.Need-returns-2
 unfolding pacedOf
 returns-2 c = rw (sym (c .before .good-turbo .ensures) ∙ (c .if1 .left))

@@ -2,17 +2,14 @@ use Rattle.timer.specs.Sound.{clampOf}
 use Rattle.timer.proofs.sound.clamp.Statement.{statement}
 use Rattle.timer.proofs.sound.clamp.Tie as tie
 
--- src/sound.rt:13:9
 returns : tie.Need-returns
 unfolding clampOf
 returns c = rw (c .if1 .taken)
 
--- src/sound.rt:16:9
 returns-2 : tie.Need-returns-2
 unfolding clampOf
 returns-2 c = rw ((c .before .if1 .left), (c .if2 .taken))
 
--- src/sound.rt:9:1
 returns-3 : tie.Need-returns-3
 unfolding clampOf
 returns-3 c = rw ((c .before .if1 .left), (c .if2 .left))

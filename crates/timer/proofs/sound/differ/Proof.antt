@@ -2,11 +2,9 @@ use Rattle.timer.proofs.Cases.{differ-first, differ-second}
 use Rattle.timer.proofs.sound.differ.Statement.{statement}
 use Rattle.timer.proofs.sound.differ.Tie as tie
 
--- src/sound.rt:43:9
 returns : tie.Need-returns
 returns c = differ-first _ _ (c .if1 .taken)
 
--- src/sound.rt:39:1
 returns-2 : tie.Need-returns-2
 returns-2 c = differ-second _ _ (c .before .before .if1 .left)
 

@@ -3,23 +3,22 @@ use Rattle.timer.proofs.Cases.{sounds-same, sounds-full, sounds-new}
 use Rattle.timer.proofs.sound.sound_update.Statement.{statement}
 use Rattle.timer.proofs.sound.sound_update.Tie as tie
 
--- src/sound.rt:60:9
 tone-requires : tie.Need-tone-requires
 tone-requires c κs = search needs
 
--- src/sound.rt:61:8
 differ-requires : tie.Need-differ-requires
 differ-requires c κs = search needs
 
--- src/sound.rt:63:13
 returns : tie.Need-returns
-returns c = sounds-full _ _ _ _ _ (c .before .before .before .tone .ensures) (c .before .before .differ .ensures) (c .before .if1 .taken) (c .if2 .taken)
+returns c =
+    sounds-full _ _ _ _ _ (c .before .before .before .tone .ensures) (c .before .before .differ .ensures) (c .before .if1 .taken)
+    (c .if2 .taken)
 
--- src/sound.rt:65:9
 returns-2 : tie.Need-returns-2
-returns-2 c = sounds-new _ _ _ _ _ (c .before .before .before .tone .ensures) (c .before .before .differ .ensures) (c .before .if1 .taken) (c .if2 .left)
+returns-2 c =
+    sounds-new _ _ _ _ _ (c .before .before .before .tone .ensures) (c .before .before .differ .ensures) (c .before .if1 .taken)
+    (c .if2 .left)
 
--- src/sound.rt:50:1
 returns-3 : tie.Need-returns-3
 returns-3 c = sounds-same _ _ _ _ _ (c .before .before .tone .ensures) (c .before .differ .ensures) (c .if1 .left)
 

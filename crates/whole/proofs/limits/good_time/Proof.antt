@@ -7,19 +7,15 @@ use Rattle.whole.proofs.Bits.{no-nan, held}
 use Rattle.whole.proofs.limits.good_time.Statement.{statement}
 use Rattle.whole.proofs.limits.good_time.Tie as tie
 
--- src/limits.rt:27:9
 returns : tie.Need-returns
 returns c = sym (ap goodTime (differs-from-itself (c .before .args .x) (subst T (sym (c .if1 .taken)) tt)))
 
--- src/limits.rt:29:15
 float-to-bits-time-bits : tie.Need-float-to-bits-time-bits
 float-to-bits-time-bits c = no-nan (c .before .args .x) (c .if1 .left)
 
--- src/limits.rt:29:5
 time-bits-requires : tie.Need-time-bits-requires
 time-bits-requires c κs = search needs
 
--- src/limits.rt:23:1
 returns-2 : tie.Need-returns-2
 returns-2 c = (c .time-bits .ensures) ∙ ap goodTime (held (c .before .before .args .x) (c .before .before .good .0 .1))
 

@@ -7,19 +7,15 @@ use Rattle.whole.proofs.Bits.{no-nan, held}
 use Rattle.whole.proofs.limits.good_turbo.Statement.{statement}
 use Rattle.whole.proofs.limits.good_turbo.Tie as tie
 
--- src/limits.rt:36:9
 returns : tie.Need-returns
 returns c = sym (ap goodTurbo (differs-from-itself (c .before .args .x) (subst T (sym (c .if1 .taken)) tt)))
 
--- src/limits.rt:38:16
 float-to-bits-turbo-bits : tie.Need-float-to-bits-turbo-bits
 float-to-bits-turbo-bits c = no-nan (c .before .args .x) (c .if1 .left)
 
--- src/limits.rt:38:5
 turbo-bits-requires : tie.Need-turbo-bits-requires
 turbo-bits-requires c κs = search needs
 
--- src/limits.rt:32:1
 returns-2 : tie.Need-returns-2
 returns-2 c = (c .turbo-bits .ensures) ∙ ap goodTurbo (held (c .before .before .args .x) (c .before .before .good .0 .1))
 

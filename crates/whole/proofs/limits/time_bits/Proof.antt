@@ -2,7 +2,6 @@ use Rattle.whole.proofs.Good.{time-bits}
 use Rattle.whole.proofs.limits.time_bits.Statement.{statement}
 use Rattle.whole.proofs.limits.time_bits.Tie as tie
 
--- src/limits.rt:10:1
 returns : tie.Need-returns
 returns c = time-bits (c .args .bits)
 

@@ -5,20 +5,16 @@ use Rattle.whole.proofs.Good.{time-no-nan}
 use Rattle.whole.proofs.limits.time_of.Statement.{statement}
 use Rattle.whole.proofs.limits.time_of.Tie as tie
 
--- src/limits.rt:45:8
 time-bits-requires : tie.Need-time-bits-requires
 time-bits-requires c κs = search needs
 
--- src/limits.rt:46:25
 float-from-bits-t3 : tie.Need-float-from-bits-t3
 float-from-bits-t3 c = time-no-nan (c .before .before .args .bits) (sym (c .before .time-bits .ensures) ∙ (c .if1 .taken))
 
--- src/limits.rt:46:9
 returns : tie.Need-returns
 unfolding timeOf
 returns c = rw (sym (c .before .time-bits .ensures) ∙ (c .if1 .taken))
 
--- src/limits.rt:42:1
 returns-2 : tie.Need-returns-2
 unfolding timeOf
 returns-2 c = rw (sym (c .before .time-bits .ensures) ∙ (c .if1 .left))

@@ -2,7 +2,6 @@ use Rattle.whole.proofs.Good.{turbo-bits}
 use Rattle.whole.proofs.limits.turbo_bits.Statement.{statement}
 use Rattle.whole.proofs.limits.turbo_bits.Tie as tie
 
--- src/limits.rt:16:1
 returns : tie.Need-returns
 returns c = turbo-bits (c .args .bits)
 

@@ -5,20 +5,16 @@ use Rattle.whole.proofs.Good.{turbo-no-nan}
 use Rattle.whole.proofs.limits.turbo_of.Statement.{statement}
 use Rattle.whole.proofs.limits.turbo_of.Tie as tie
 
--- src/limits.rt:54:8
 turbo-bits-requires : tie.Need-turbo-bits-requires
 turbo-bits-requires c κs = search needs
 
--- src/limits.rt:55:26
 float-from-bits-t3 : tie.Need-float-from-bits-t3
 float-from-bits-t3 c = turbo-no-nan (c .before .before .args .bits) (sym (c .before .turbo-bits .ensures) ∙ (c .if1 .taken))
 
--- src/limits.rt:55:9
 returns : tie.Need-returns
 unfolding turboOf
 returns c = rw (sym (c .before .turbo-bits .ensures) ∙ (c .if1 .taken))
 
--- src/limits.rt:51:1
 returns-2 : tie.Need-returns-2
 unfolding turboOf
 returns-2 c = rw (sym (c .before .turbo-bits .ensures) ∙ (c .if1 .left))
