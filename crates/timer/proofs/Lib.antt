@@ -4,3 +4,11 @@ pub mod Limits
 pub mod Held
 pub mod Judged
 pub mod Numbers
+pub mod Arrays
+pub mod Shared
+pub mod Laid
+pub mod Places
+pub mod Waiting
+pub mod Tidy
+pub mod Fifo
+pub mod Unique

@@ -3,3 +3,6 @@ pub mod Timers
 pub mod Sound
 pub mod Within
 pub mod Table
+pub mod Events
+pub mod Canonical
+pub mod Story

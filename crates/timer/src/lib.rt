@@ -2,6 +2,7 @@
 ghost use mathlib.Core.Path.{_≡_};
 ghost use Rattle.timer.specs.Timers.{freshTimer, periodOf, sysclkOf, rateOf, elapsedOf, counterOf, controlOf, clearedOf, writtenOf, advancedOf};
 
+pub mod events;
 pub mod sound;
 
 pub struct Timer {
@@ -28,6 +29,72 @@ pub enum Sounded {
     Change(Tone),
     SoundFull,
 }
+
+// ---- sound events
+
+// What sounds from a time on.
+pub struct Event {
+    pub time: f64,
+    pub frequency: f64,
+    pub duty: f64,
+}
+
+// The place of the oldest event, and how many wait. Any value is a state: a count above 256 goes round.
+pub struct Ring {
+    pub head: u8,
+    pub count: usize,
+}
+
+// The waiting events: an event has one place in the three arrays, since an array of structs cannot be lent.
+pub struct Queue {
+    pub times: [f64; 256],
+    pub frequencies: [f64; 256],
+    pub duties: [f64; 256],
+    pub ring: Ring,
+}
+
+pub enum Refusal {
+    Done,
+    SoundFull,
+    NoEvent,
+}
+
+// What `put_in` and `put` answer: over lent arrays the ring alone comes back, by value the whole queue.
+pub struct Added {
+    pub refusal: Refusal,
+    pub ring: Ring,
+}
+
+pub struct Stored {
+    pub refusal: Refusal,
+    pub queue: Queue,
+}
+
+// What `take_from` and `take` answer.
+pub struct Oldest {
+    pub refusal: Refusal,
+    pub event: Event,
+    pub ring: Ring,
+}
+
+pub struct Taken {
+    pub refusal: Refusal,
+    pub event: Event,
+    pub queue: Queue,
+}
+
+// What `take_into` and `take_events` answer.
+pub struct Batch {
+    pub count: usize,
+    pub ring: Ring,
+}
+
+pub struct Bulk {
+    pub count: usize,
+    pub queue: Queue,
+}
+
+// ---- timers
 
 // A timer as it is after a wipe.
 pub fn fresh() -> Timer

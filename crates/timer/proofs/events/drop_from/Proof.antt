@@ -1,0 +1,95 @@
+-- After i turns the places of the i oldest events are zero.
+use mathlib.Core.Path.{_≡_, refl}
+use mathlib.Core.List.{List}
+use Prim.Native.Nat.{ℕ, _≤_, _+_, _-_}
+use native.Mathlib.Omega.{arith}
+use native.Mathlib.Numerals.{add-one}
+use lib.Ieee.{Float}
+use lib.ListN.{set}
+use borrow.Author.Needs.{needs}
+use Rattle.timer.specs.declared.Ring.{Ring}
+use Rattle.timer.specs.Events.{cleared, placeOf, nought}
+use Rattle.timer.proofs.events.drop_from.Statement.{statement}
+use Rattle.timer.proofs.events.drop_from.Tie as tie
+
+one-more : (ring : Ring) (i place : ℕ) (before now : List Float) → now ≡ cleared ring i before → place ≡ placeOf ring i
+    → set now place nought ≡ cleared ring (i + 1) before
+unfolding cleared
+one-more ring i place before now now-is place-is = rw (add-one i, now-is, place-is)
+
+abbrev Inv-loop : tie.InvT-loop
+Inv-loop times₀ frequencies₀ duties₀ ring n i₀ times frequencies duties i =
+    (i ≤ n) × (times ≡ cleared ring i times₀) × (frequencies ≡ cleared ring i frequencies₀) × (duties ≡ cleared ring i duties₀)
+
+abbrev μ-loop : tie.MeasureT-loop
+μ-loop times₀ frequencies₀ duties₀ ring n i₀ times frequencies duties i = n - i
+
+loop-holds : tie.Need-loop-holds Inv-loop μ-loop
+unfolding cleared
+loop-holds c = (omega arith, refl, refl, refl)
+
+place-requires : tie.Need-place-requires Inv-loop μ-loop
+place-requires c κs = search needs
+
+mul-times : tie.Need-mul-times Inv-loop μ-loop
+mul-times c = search needs
+
+element-write-times : tie.Need-element-write-times Inv-loop μ-loop
+element-write-times c = search needs
+
+mul-frequencies : tie.Need-mul-frequencies Inv-loop μ-loop
+mul-frequencies c = search needs
+
+element-write-frequencies : tie.Need-element-write-frequencies Inv-loop μ-loop
+element-write-frequencies c = search needs
+
+mul-duties : tie.Need-mul-duties Inv-loop μ-loop
+mul-duties c = search needs
+
+element-write-duties : tie.Need-element-write-duties Inv-loop μ-loop
+element-write-duties c = search needs
+
+add-i : tie.Need-add-i Inv-loop μ-loop
+add-i c = search needs
+
+loop-less : tie.Need-loop-less Inv-loop μ-loop
+loop-less c = search needs
+
+loop-again : tie.Need-loop-again Inv-loop μ-loop
+loop-again c =
+    let start = c .before .before .before .args in
+    let lp = c .before .before .loop in
+    let at = c .place .ensures in (
+      omega arith,
+      one-more (start .ring) (lp .i) _ (start .times .now) (lp .times) (lp .inv .1) at,
+      one-more (start .ring) (lp .i) _ (start .frequencies .now) (lp .frequencies) (lp .inv .2) at,
+      one-more (start .ring) (lp .i) _ (start .duties .now) (lp .duties) (lp .inv .3) at,
+    )
+
+skip-requires : tie.Need-skip-requires Inv-loop μ-loop
+skip-requires c κs = search needs
+
+returns : tie.Need-returns Inv-loop μ-loop
+returns c =
+    let all : c .before .before .loop .i ≡ c .before .before .before .args .n = omega arith in
+    cc
+
+pub drop-from-spec : {M : Type 1} → statement M
+drop-from-spec =
+    tie.close
+    (tie.spec
+    Inv-loop
+    μ-loop
+    loop-holds
+    place-requires
+    mul-times
+    element-write-times
+    mul-frequencies
+    element-write-frequencies
+    mul-duties
+    element-write-duties
+    add-i
+    loop-less
+    loop-again
+    skip-requires
+    returns)
