@@ -1,5 +1,5 @@
 -- Within the limits the time of day is exact and never negative; and the clock stays within them, and does not go back.
-use mathlib.Core.Path.{_≡_, refl}
+use mathlib.Core.Path.{subst, sym, _≡_, refl}
 use mathlib.Core.Bool.{cond}
 use Prim.Native.Nat.{ℕ, _+_, _*_, _/_, _%_, _^_, _≤_, _<_}
 use native.Mathlib.Nat.{le-trans}
@@ -8,10 +8,11 @@ use lib.IntN.{pos}
 use lib.Dec.{T, eqb, ltb, lit<}
 use lib.ListN.{set}
 use lib.Ieee.{Float, binary64, ofInt, fits, add, sub, le, toUnsigned}
-use Rattle.whole.specs.Bounds.{AtMost, WholePart}
-use Rattle.whole.proofs.Cuts.{whole-part}
+use Rattle.whole.specs.Bounds.{Clear, AtMost, WholePart}
+use Rattle.whole.proofs.Clear.{at-most-clear}
+use Rattle.whole.proofs.Cuts.{whole-part, signed-same}
 use Rattle.whole.proofs.Round.{ofInt-at-most, add-at-most, sub-at-most}
-use Rattle.whole.proofs.Order.{at-most-clear, add-grows, le-trans-clear, le-refl-clear, signed-same}
+use Rattle.whole.proofs.Order.{grows, add-turns, le-trans-clear, le-refl-clear}
 use Rattle.whole.proofs.Mono.{add-mono, sub-mono, cut-mono}
 use Rattle.clock.specs.declared.Rtc.{Rtc}
 use Rattle.clock.specs.declared.RtcIrq.{RtcIrq}
@@ -36,12 +37,24 @@ module _ (irq : RtcIrq) (game : Float) (d : DaySet irq game) (g : AtMost game (2
   sum-limit : AtMost sum (2 ^ 32)
   sum-limit = add-at-most (ofInt binary64 (pos (irq .base))) game 31 (lit< tt) base-limit g
 
+  game-clear : Clear game
+  game-clear = at-most-clear game (2 ^ 31) g
+
+  base-clear : Clear (ofInt binary64 (pos (irq .base)))
+  base-clear = at-most-clear (ofInt binary64 (pos (irq .base))) (2 ^ 31) base-limit
+
+  sum-turns : add binary64 game (ofInt binary64 (pos (irq .base))) ≡ sum
+  sum-turns = add-turns game (ofInt binary64 (pos (irq .base))) game-clear base-clear
+
+  game-before : T (le game sum)
+  game-before =
+      subst (λ (z : Float). T (le game z)) sum-turns
+      (grows game (ofInt binary64 (pos (irq .base))) (2 ^ 32) f game-clear base-clear (subst (λ (z : Float). AtMost z (2 ^ 32)) (sym sum-turns) sum-limit))
+
   set-before : T (le (irq .set) sum)
   set-before =
-      le-trans-clear (irq .set) game sum (at-most-clear (irq .set) (2 ^ 31) (d .set .limit)) (at-most-clear game (2 ^ 31) g)
-      (at-most-clear sum (2 ^ 32) sum-limit) (d .set .before)
-      (add-grows game (ofInt binary64 (pos (irq .base))) (2 ^ 32) f (at-most-clear game (2 ^ 31) g)
-      (at-most-clear (ofInt binary64 (pos (irq .base))) (2 ^ 31) base-limit) sum-limit)
+      le-trans-clear (irq .set) game sum (at-most-clear (irq .set) (2 ^ 31) (d .set .limit)) game-clear (at-most-clear sum (2 ^ 32) sum-limit)
+      (d .set .before) game-before
 
   seconds-limit : AtMost (seconds irq game) (2 ^ 32)
   seconds-limit = sub-at-most sum (irq .set) (2 ^ 31) 32 (lit< tt) sum-limit (d .set .limit) set-before

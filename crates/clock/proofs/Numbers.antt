@@ -24,7 +24,12 @@ unfolding movedOf
 moved-number s to = by (goodTime to) (lt to (s .now)) (lt (ofBits binary64 0x41E0_0000_0000_0000) (gameAfter s to))
   where
     by : (a b c : Bool)
-        → movedRefusal (cond a (cond b BadTime (cond c BadTime (To (record { now = to; game = gameAfter s to; turbo = s .turbo })))) BadTime) ≡ cond (a && not b && not c) 0 1
+        → movedRefusal (cond a (cond b BadTime (cond c BadTime (To (record {
+          now =
+              to;
+          game = gameAfter s to;
+          turbo = s .turbo;
+        })))) BadTime) ≡ cond (a && not b && not c) 0 1
     by false b c = refl
     by true true c = refl
     by true false true = refl

@@ -12,9 +12,9 @@ use lib.Ieee.{Float, fin, binary64, ofBits, add, sub, mul, le, toUnsigned}
 use Rattle.whole.specs.Bounds.{AtMost, WholePart}
 use Rattle.whole.specs.Cut.{twos}
 use Rattle.whole.specs.Words.{has}
-use Rattle.whole.proofs.Cuts.{whole-part}
+use Rattle.whole.proofs.Clear.{at-most-clear}
+use Rattle.whole.proofs.Cuts.{whole-part, signed-same}
 use Rattle.whole.proofs.Round.{mul-at-most, sub-at-most, cut-at-most}
-use Rattle.whole.proofs.Order.{at-most-clear, signed-same}
 use Rattle.whole.proofs.Mono.{sub-mono, mul-mono, cut-mono}
 use Rattle.clock.specs.declared.Latch.{Latch}
 use Rattle.clock.specs.declared.Rtc.{Rtc}

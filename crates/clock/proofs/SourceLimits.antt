@@ -11,9 +11,10 @@ use lib.Ieee.{Float, fin, binary64, ofBits, mul, div, le, toUnsigned}
 use borrow.Author.Tests.{ltb-false}
 use Rattle.whole.specs.Bounds.{AtMost, WholePart}
 use Rattle.whole.specs.Limits.{goodTime}
+use Rattle.whole.proofs.Clear.{at-most-clear}
 use Rattle.whole.proofs.Cuts.{whole-part}
 use Rattle.whole.proofs.Round.{mul-at-most, div-pow, good-at-most}
-use Rattle.whole.proofs.Order.{at-most-clear, good-clear}
+use Rattle.whole.proofs.Order.{good-clear}
 use Rattle.whole.proofs.Mono.{mul-mono, div-mono, cut-mono}
 use Rattle.clock.specs.declared.Signal.{Signal}
 use Rattle.clock.specs.Sources.{signalOf, vsyncOf, tickOf}

@@ -9,8 +9,9 @@ use lib.Ieee.{Float, binary64, ofBits, fits, add, sub, mul, lt, le}
 use lib.Ieee.Fits.{add-fits}
 use Rattle.whole.specs.Bounds.{AtMost}
 use Rattle.whole.specs.Limits.{goodTime, goodTurbo}
+use Rattle.whole.proofs.Clear.{at-most-clear}
 use Rattle.whole.proofs.Round.{mul-at-most, add-at-most, sub-at-most, good-at-most, turbo-at-most}
-use Rattle.whole.proofs.Order.{at-most-clear, good-clear, grows, le-trans-clear, le-refl-clear, le-of-not-lt, at-most-of-not-lt, zero-least}
+use Rattle.whole.proofs.Order.{good-clear, grows, le-trans-clear, le-refl-clear, le-of-not-lt, at-most-of-not-lt, zero-least}
 use Rattle.clock.specs.declared.Times.{Times}
 use Rattle.clock.specs.declared.Moved.the-variants.{To, BadTime}
 use Rattle.clock.specs.declared.Paced.the-variants.{By, BadTurbo}
@@ -42,7 +43,7 @@ module _ (s : Times) (to : Float) (v : Within s) (g : T (goodTime to)) (l : lt t
     record {
       now-good = g;
       turbo-good = v .turbo-good;
-      game-limit = at-most-of-not-lt (gameAfter s to) (2 ^ 31) 31 (2 ^ 32) refl sum-limit h;
+      game-limit = at-most-of-not-lt (gameAfter s to) (2 ^ 31) 31 refl (at-most-clear (gameAfter s to) (2 ^ 32) sum-limit) h;
       game-fits = add-fits binary64 (s .game) passed;
     },
     record {

@@ -8,8 +8,9 @@ use lib.Dec.{T, lit<, lit≤}
 use lib.Ieee.{Float, binary64, ofBits, ofInt, div, le, lt}
 use Rattle.whole.specs.Bounds.{Clear, AtMost, AtLeast}
 use Rattle.whole.specs.Words.{has}
+use Rattle.whole.proofs.Clear.{at-most-clear}
 use Rattle.whole.proofs.Round.{ofInt-at-most, ofInt-at-least, div-at-most}
-use Rattle.whole.proofs.Order.{at-most-clear, le-of-not-lt}
+use Rattle.whole.proofs.Order.{le-of-not-lt}
 use Rattle.timer.specs.declared.Tone.{Tone}
 use Rattle.timer.specs.Timers.{periodOf, rateOf}
 use Rattle.timer.specs.Sound.{clampOf, toneOf, silence}

@@ -7,7 +7,7 @@ use native.Mathlib.Nat.{le-of-lt, le-trans, le-of-eq, lt-of-le-of-lt, mod-eq-of-
 use native.Mathlib.Omega.{arith}
 use lib.IntN.{ℤ, pos}
 use lib.Dec.{T, ltb}
-use lib.Pow.{pow-pos, pow-add}
+use lib.Pow.{pow-lt, pow-pos, pow-add}
 use lib.Ieee.{Float, nan, inf, fin, binary64, up, down, ofBits, toBits, fits, ne, toUnsigned, isNan}
 use lib.Ieee.Compare.{differs-from-itself}
 use lib.Ieee.Fits.{down-pos}
@@ -17,6 +17,8 @@ use lib.Ieee.Casts.{toUnsigned-lt}
 use Rattle.whole.specs.Cut.{Cut}
 use Rattle.whole.specs.Cut.{twos}
 use Rattle.whole.specs.Bounds.{Clear, AtMost, WholePart}
+use Rattle.whole.proofs.Clear.{any, at-most-clear}
+use Rattle.whole.proofs.Round.{cut-within}
 use Rattle.whole.proofs.Bits.{lt-or-ge, lead, val, val-lt, val-le, value, signed-any, top-any, held}
 use borrow.Author.Tests.{le-ltb, ltb-false}
 use lib.Ieee.{neg, toSigned, lt}
@@ -189,25 +191,37 @@ signed-within x n h e l = sym (ap twos (signed-from x h ∙ ap (λ (q : ℕ). po
 
 -- ---- within a bound nothing is brought to an end of the range
 pub whole-part : (x : Float) (n : ℕ) → n < 2 ^ 64 → AtMost x n → WholePart x (toUnsigned 64 x)
-whole-part nan n h p = p
-whole-part (inf s) n h p = p
-whole-part (fin true m e) n h p = p
-whole-part (fin false m e) n h p =
-    cut-of (fin false m e) (toUnsigned 64 (fin false m e)) refl .cut m e refl (lt-of-le-of-lt p (mul-lt-mul-of-pos-right h (down-pos e)))
+whole-part x n h p =
+    any (λ (x : Float). AtMost x n → WholePart x (toUnsigned 64 x))
+    (λ m e p. cut-of (fin false m e) (toUnsigned 64 (fin false m e)) refl .cut m e refl (lt-of-le-of-lt p (mul-lt-mul-of-pos-right h (down-pos e))))
+    x (at-most-clear x n p) p
+
+-- as an i64 it is the same number
+pub signed-same : (x : Float) (k : ℕ) → k < 63 → AtMost x (2 ^ k) → toSigned 63 x ≡ pos (toUnsigned 64 x)
+unfolding toUnsigned toSigned
+signed-same x k h p =
+    any (λ (x : Float). AtMost x (2 ^ k) → toSigned 63 x ≡ pos (toUnsigned 64 x))
+    (λ m e p. ap pos (both (m * up e / down e) (2 ^ k) (pow-lt h) (cut-within (m * up e) (down e) (2 ^ k) (down-pos e) p)))
+    x (at-most-clear x (2 ^ k) p) p
+  where
+    both : (q p : ℕ) → p < 2 ^ 63 → q ≤ p → min q (2 ^ 63 - 1) ≡ min q (2 ^ 64 - 1)
+    both q p h l = omega arith
 
 -- what is not above 0.0 is cut to 0
-pub above-zero : (x : Float) → Clear x → cond (lt (ofBits binary64 0) x) (toUnsigned 64 x) 0 ≡ toUnsigned 64 x
-unfolding lt ofBits toUnsigned
-above-zero nan c = absurd c
-above-zero (inf s) c = absurd c
-above-zero (fin true m e) c = absurd c
-above-zero (fin false m e) c = by (ltb (0 * 1 * down e) (m * up e * 1)) refl
+above-at : (m : ℕ) (e : ℤ) → cond (lt (fin false 0 (pos 0)) (fin false m e)) (toUnsigned 64 (fin false m e)) 0 ≡ toUnsigned 64 (fin false m e)
+unfolding lt toUnsigned
+above-at m e = by (ltb (0 * 1 * down e) (m * up e * 1)) refl
   where
     none : (a c : ℕ) → a * 1 ≤ 0 * 1 * c → a ≡ 0
     none a c h = omega arith
 
-    by : (b : Bool) → ltb (0 * 1 * down e) (m * up e * 1) ≡ b → cond b (min (m * up e / down e) (2 ^ 64 - 1)) 0 ≡ min (m * up e / down e) (2 ^ 64 - 1)
+    by : (b : Bool) → ltb (0 * 1 * down e) (m * up e * 1) ≡ b
+        → cond b (min (m * up e / down e) (2 ^ 64 - 1)) 0 ≡ min (m * up e / down e) (2 ^ 64 - 1)
     by true h = refl
     by false h =
-        sym (ap (λ (a : ℕ). min (a / down e) (2 ^ 64 - 1)) (none (m * up e) (down e) (ltb-false (0 * 1 * down e) (m * up e * 1) h)) ∙ ap
-        (λ (q : ℕ). min q (2 ^ 64 - 1)) (zero-div (down e)))
+        let z : m * up e ≡ 0 = none (m * up e) (down e) (ltb-false (0 * 1 * down e) (m * up e * 1) h) in
+        sym (ap (λ (a : ℕ). min (a / down e) (2 ^ 64 - 1)) z ∙ ap (λ (q : ℕ). min q (2 ^ 64 - 1)) (zero-div (down e)))
+
+pub above-zero : (x : Float) → Clear x → cond (lt (ofBits binary64 0) x) (toUnsigned 64 x) 0 ≡ toUnsigned 64 x
+unfolding ofBits
+above-zero x c = any (λ (x : Float). cond (lt (fin false 0 (pos 0)) x) (toUnsigned 64 x) 0 ≡ toUnsigned 64 x) above-at x c

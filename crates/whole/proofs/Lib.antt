@@ -1,4 +1,5 @@
 -- The laws of IEEE 754 that this crate and those above it cite.
+pub mod Clear
 pub mod Bits
 pub mod Cuts
 pub mod Good

@@ -1,18 +1,17 @@
 -- Monotony: of two floats that are finite with clear signs the larger has the larger sum, difference, product, quotient and whole part.
 use mathlib.Core.Path.{_≡_, refl, sym, ap, _∙_, subst}
-use mathlib.Core.Bool.{Bool, true, false, cond}
+use mathlib.Core.Bool.{false}
 use Prim.Native.Nat.{ℕ, _+_, _-_, _*_, _/_, _^_, _≤_, _<_, min}
-use native.Mathlib.Nat.{le-refl, le-trans, le-of-eq, lt-of-lt-of-le, mul-assoc, mul-comm, mul-left-comm, mul-right-comm, mul-mul-mul-comm, mul-pos, mul-le-mul, mul-le-mul-right, le-of-mul-le-mul-right, add-mul, mul-sub, add-le-add, div-mul-le-self, le-div-iff-mul-le}
+use native.Mathlib.Nat.{le-refl, le-trans, le-of-eq, mul-assoc, mul-comm, mul-left-comm, mul-right-comm, mul-mul-mul-comm, mul-pos, mul-le-mul, mul-le-mul-right, le-of-mul-le-mul-right, add-mul, mul-sub, add-le-add, div-mul-le-self, le-div-iff-mul-le}
 use native.Mathlib.Omega.{arith}
 use lib.IntN.{ℤ}
-use lib.Dec.{T, eqb}
-use lib.Ieee.{Float, nan, inf, fin, binary64, up, down, round, add, sub, mul, div, le, toUnsigned}
+use lib.Dec.{T}
+use lib.Ieee.{Float, fin, binary64, up, down, round, add, sub, mul, div, le, toUnsigned}
 use lib.Ieee.Fits.{down-pos}
 use lib.Ieee.Order.{round-mono}
-use lib.Ieee.Positive.{first-pos}
-use borrow.Author.Tests.{ne-eqb, le-ltb}
 use Rattle.whole.specs.Bounds.{Clear, AtLeast}
-use Rattle.whole.proofs.Order.{cross}
+use Rattle.whole.proofs.Clear.{any, any2, cross}
+use Rattle.whole.proofs.Round.{sub-is, div-is}
 
 -- ---- fractions
 -- a / A ≤ b / B and c / C ≤ d / D
@@ -62,16 +61,6 @@ cut-cross a A b B P Q h =
     (le-of-mul-le-mul-right (le-trans (le-of-eq (mul-right-comm (a / A) B A)) (le-trans (mul-le-mul-right B (div-mul-le-self a A)) h)) P)
 
 -- ---- floats
--- what holds of each m * 2 ^ e holds of all that is finite with a clear sign
-any : (P : Float → Type 0) → ((m : ℕ) (e : ℤ) → P (fin false m e)) → (x : Float) → Clear x → P x
-any P h nan c = absurd c
-any P h (inf s) c = absurd c
-any P h (fin true m e) c = absurd c
-any P h (fin false m e) c = h m e
-
-any2 : (P : Float → Float → Type 0) → ((m : ℕ) (e : ℤ) (n : ℕ) (d : ℤ) → P (fin false m e) (fin false n d)) → (x y : Float) → Clear x → Clear y → P x y
-any2 P h x y p q = any (λ (x : Float). P x y) (λ m e. any (P (fin false m e)) (h m e) y q) x p
-
 add-at : (m : ℕ) (e : ℤ) (m' : ℕ) (e' : ℤ) → T (le (fin false m e) (fin false m' e')) → (y y' : Float) → Clear y → Clear y' → T (le y y')
     → T (le (add binary64 (fin false m e) y) (add binary64 (fin false m' e') y'))
 unfolding add
@@ -102,14 +91,6 @@ mul-mono x x' y p p' q h =
     any2 (λ (x x' : Float). T (le x x') → T (le (mul binary64 x y) (mul binary64 x' y))) (λ m e m' e' h. mul-at m e m' e' h y q) x x' p p' h
 
 -- y ≤ x
-sub-is : (m : ℕ) (e : ℤ) (n : ℕ) (d : ℤ) → T (le (fin false n d) (fin false m e))
-    → sub binary64 (fin false m e) (fin false n d) ≡ round binary64 false (m * up e * down d - n * up d * down e) (down e * down d)
-unfolding sub
-sub-is m e n d l =
-    ap (λ (t : Bool). cond t (round binary64 true (n * up d * down e - m * up e * down d) (down e * down d))
-    (round binary64 false (m * up e * down d - n * up d * down e) (down e * down d)))
-    (le-ltb (m * up e * down d) (n * up d * down e) (cross n d m e l))
-
 sub-at : (m : ℕ) (e : ℤ) (m' : ℕ) (e' : ℤ) (n : ℕ) (d : ℤ) → T (le (fin false m e) (fin false m' e')) → T (le (fin false n d) (fin false m e))
     → T (le (fin false n d) (fin false m' e'))
     → T (le (sub binary64 (fin false m e) (fin false n d)) (sub binary64 (fin false m' e') (fin false n d)))
@@ -127,21 +108,15 @@ sub-mono x x' y p p' q h l l' =
     (le (sub binary64 (fin false m e) y) (sub binary64 (fin false m' e') y)))
     (λ n d l l'. sub-at m e m' e' n d h l l') y q l l') x x' p p' h l l'
 
--- y is no zero
 div-at : (m : ℕ) (e : ℤ) (m' : ℕ) (e' : ℤ) (n : ℕ) (d : ℤ) (k : ℕ) → AtLeast (fin false n d) k → T (le (fin false m e) (fin false m' e'))
     → T (le (div binary64 (fin false m e) (fin false n d)) (div binary64 (fin false m' e') (fin false n d)))
-unfolding div
 div-at m e m' e' n d k q h =
-    let N : 0 < n * up d = first-pos (n * up d) k (lt-of-lt-of-le (down-pos d) q) in
-    subst (λ (b : Bool). T (le (cond b (cond (eqb m 0) nan (inf false)) (round binary64 false (m * up e * down d) (n * up d * down e)))
-    (cond b (cond (eqb m' 0) nan (inf false)) (round binary64 false (m' * up e' * down d) (n * up d * down e')))))
-    (sym (ne-eqb n 0 (some n (first-pos n (up d) N))))
-    (round-mono binary64 (m * up e * down d) (n * up d * down e) (m' * up e' * down d) (n * up d * down e')
-    (mul-pos N (down-pos e)) (mul-pos N (down-pos e'))
-    (div-cross (m * up e) (down e) (m' * up e') (down e') (n * up d) (down d) (cross m e m' e' h)))
-  where
-    some : (n : ℕ) → 0 < n → n ≡ 0 → ⊥
-    some n h e = omega arith
+    let is = div-is m e n d k q in
+    let is' = div-is m' e' n d k q in
+    subst (λ (z : Float). T (le z (div binary64 (fin false m' e') (fin false n d)))) (sym (is .1))
+    (subst (λ (z : Float). T (le (round binary64 false (m * up e * down d) (n * up d * down e)) z)) (sym (is' .1))
+    (round-mono binary64 (m * up e * down d) (n * up d * down e) (m' * up e' * down d) (n * up d * down e') (mul-pos (is .0) (down-pos e))
+    (mul-pos (is' .0) (down-pos e')) (div-cross (m * up e) (down e) (m' * up e') (down e') (n * up d) (down d) (cross m e m' e' h))))
 
 pub div-mono : (x x' : Float) (n : ℕ) (d : ℤ) (k : ℕ) → Clear x → Clear x' → AtLeast (fin false n d) k → T (le x x')
     → T (le (div binary64 x (fin false n d)) (div binary64 x' (fin false n d)))

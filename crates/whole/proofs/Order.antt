@@ -1,17 +1,17 @@
 -- The order of floats. A value that the format holds is its own rounding, so adding what is not negative makes no value smaller.
 use mathlib.Core.Path.{_≡_, refl, sym, ap, _∙_, subst}
-use mathlib.Core.Bool.{Bool, true, false, not, _&&_, _||_, true≢false}
-use mathlib.Core.Logic.{inl, inr}
+use mathlib.Core.Bool.{Bool, true, false, not, _&&_, true≢false}
 use lib.Ieee.Positive.{through}
 use Rattle.whole.specs.Limits.{goodTime}
-use Rattle.whole.proofs.Round.{or-split, good-at-most}
-use Prim.Native.Nat.{ℕ, zero, suc, _+_, _-_, _*_, _/_, _%_, _^_, _≤_, _<_, zero-le, min}
-use native.Mathlib.Nat.{le-trans, le-of-eq, le-of-lt, lt-of-lt-of-le, lt-of-le-of-lt, mul-one, one-mul, mul-assoc, mul-comm, mul-pos, mul-le-mul-right, mul-lt-mul-of-pos-right, le-add-right, not-le-of-lt, le-of-suc-le-suc, div-lt-iff-lt-mul, lt-suc-self}
+use Rattle.whole.proofs.Clear.{any, any2, at-most-clear, cross}
+use Rattle.whole.proofs.Round.{good-at-most}
+use Prim.Native.Nat.{ℕ, zero, suc, _+_, _-_, _*_, _%_, _^_, _≤_, _<_, zero-le}
+use native.Mathlib.Nat.{le-trans, le-of-eq, le-of-lt, lt-of-lt-of-le, lt-of-le-of-lt, mul-one, one-mul, mul-assoc, mul-comm, mul-pos, mul-le-mul-right, mul-lt-mul-of-pos-right, le-add-right, add-comm, not-le-of-lt}
 use native.Mathlib.Omega.{arith}
 use lib.IntN.{ℤ, pos, negsuc}
 use lib.Dec.{T, leb, ltb, eqb, leb→le, ltb→lt, eqb→eq, lit<, lit≤}
 use lib.Pow.{pow-pos, pow-mono, pow-add, pow-lt, shl-lt}
-use lib.Ieee.{Float, nan, inf, fin, binary64, ofBits, up, down, round, add, div, le, lt, fits, toUnsigned, toSigned}
+use lib.Ieee.{Float, nan, inf, fin, binary64, ofBits, up, down, round, add, le, lt, fits}
 use borrow.Author.Tests.{ltb-false}
 use lib.Ieee.Fits.{down-pos, and-l, and-r}
 use lib.Ieee.Exact.{HasValue, round-exact}
@@ -68,22 +68,8 @@ own s (suc m) (negsuc k) f =
     own-down (suc m) (suc k) (ltb→lt (suc m) (2 ^ 53) (and-r A B (and-l (A && B) C (and-l (A && B && C) D f))))
     (same-power (suc k) 1074 (leb→le (2 ^ suc k) (2 ^ 1074) (and-r (A && B) C (and-l (A && B && C) D f))))
 
-pub at-most-clear : (x : Float) (n : ℕ) → AtMost x n → Clear x
-at-most-clear nan n p = p
-at-most-clear (inf s) n p = p
-at-most-clear (fin true m e) n p = p
-at-most-clear (fin false m e) n p = tt
-
 pub good-clear : (x : Float) → T (goodTime x) → Clear x
 good-clear x h = at-most-clear x (2 ^ 21) (good-at-most x h)
-
-lt-or-eq : (a b : ℕ) → T (ltb a b || (eqb a b && true)) → a ≤ b
-lt-or-eq a b t = elim (or-split (ltb a b) (eqb a b && true) t) [ inl u ↦ le-of-lt (ltb→lt a b u) | inr u ↦ le-of-eq (eqb→eq a b (and-l (eqb a b) true u)) ]
-
--- the order of two that are clear is that of their fractions
-pub cross : (m : ℕ) (e : ℤ) (n : ℕ) (d : ℤ) → T (le (fin false m e) (fin false n d)) → m * up e * down d ≤ n * up d * down e
-unfolding le
-cross m e n d h = lt-or-eq (m * up e * down d) (n * up d * down e) h
 
 -- x and y are the same number, and y ≤ z
 above : (x y z : Float) (a c n : ℕ) → 0 < c → HasValue x false a c → HasValue y false a c → AtMost z n → T (le y z) → T (le x z)
@@ -98,110 +84,63 @@ above x (fin false m e) (fin false k d) a c n C p q t h =
     (through a (m * up e) (k * up d) c (down e) (down d) (down-pos e) (le-of-eq (sym (q .1))) (cross m e k d h))
 
 pub le-trans-clear : (x y z : Float) → Clear x → Clear y → Clear z → T (le x y) → T (le y z) → T (le x z)
-le-trans-clear nan y z p q r h k = absurd p
-le-trans-clear (inf s) y z p q r h k = absurd p
-le-trans-clear (fin true m e) y z p q r h k = absurd p
-le-trans-clear (fin false m e) nan z p q r h k = absurd q
-le-trans-clear (fin false m e) (inf s) z p q r h k = absurd q
-le-trans-clear (fin false m e) (fin true n d) z p q r h k = absurd q
-le-trans-clear (fin false m e) (fin false n d) nan p q r h k = absurd r
-le-trans-clear (fin false m e) (fin false n d) (inf s) p q r h k = absurd r
-le-trans-clear (fin false m e) (fin false n d) (fin true l c) p q r h k = absurd r
-le-trans-clear (fin false m e) (fin false n d) (fin false l c) p q r h k =
-    le-of-values (fin false m e) (fin false l c) (m * up e) (down e) (l * up c) (down c) (down-pos e) (down-pos c) (refl, refl) (refl, refl)
-    (through (m * up e) (n * up d) (l * up c) (down e) (down d) (down c) (down-pos d) (cross m e n d h) (cross n d l c k))
-
--- x ≤ y + x, whatever y that is not negative, if the sum does not overflow
-pub add-grows : (x y : Float) (n : ℕ) → T (fits binary64 x) → Clear x → Clear y → AtMost (add binary64 y x) n → T (le x (add binary64 y x))
-unfolding add
-add-grows nan y n f p q a = absurd p
-add-grows (inf s) y n f p q a = absurd p
-add-grows (fin true m e) y n f p q a = absurd p
-add-grows (fin false m e) nan n f p q a = absurd q
-add-grows (fin false m e) (inf t) n f p q a = absurd q
-add-grows (fin false m e) (fin true k d) n f p q a = absurd q
-add-grows (fin false m e) (fin false k d) n f p q a =
-    above (fin false m e) (round binary64 false (m * up e) (down e)) (round binary64 false (k * up d * down e + m * up e * down d) (down d * down e))
-    (m * up e) (down e) n
-    (down-pos e) (refl, refl) (own false m e f) a
-    (round-mono binary64 (m * up e) (down e) (k * up d * down e + m * up e * down d) (down d * down e) (down-pos e) (mul-pos (down-pos d) (down-pos e))
-    (more (m * up e) (down e) (down d) (k * up d * down e)))
-  where
-    more : (a e d b : ℕ) → a * (d * e) ≤ (b + a * d) * e
-    more a e d b = le-trans (le-of-eq (sym (mul-assoc a d e))) (mul-le-mul-right e (grow (a * d) b))
-      where
-        grow : (x b : ℕ) → x ≤ b + x
-        grow x b = omega arith
-
--- x ≤ x + y
-pub grows : (x y : Float) (n : ℕ) → T (fits binary64 x) → Clear x → Clear y → AtMost (add binary64 x y) n → T (le x (add binary64 x y))
-unfolding add
-grows nan y n f p q a = absurd p
-grows (inf s) y n f p q a = absurd p
-grows (fin true m e) y n f p q a = absurd p
-grows (fin false m e) nan n f p q a = absurd q
-grows (fin false m e) (inf t) n f p q a = absurd q
-grows (fin false m e) (fin true k d) n f p q a = absurd q
-grows (fin false m e) (fin false k d) n f p q a =
-    above (fin false m e) (round binary64 false (m * up e) (down e)) (round binary64 false (m * up e * down d + k * up d * down e) (down e * down d))
-    (m * up e) (down e) n
-    (down-pos e) (refl, refl) (own false m e f) a
-    (round-mono binary64 (m * up e) (down e) (m * up e * down d + k * up d * down e) (down e * down d) (down-pos e) (mul-pos (down-pos e) (down-pos d))
-    (more (m * up e) (down e) (down d) (k * up d * down e)))
-  where
-    more : (a e d b : ℕ) → a * (e * d) ≤ (a * d + b) * e
-    more a e d b = le-trans (le-of-eq (ap (λ (z : ℕ). a * z) (mul-comm e d) ∙ sym (mul-assoc a d e))) (mul-le-mul-right e (le-add-right (a * d) b))
-
--- as an i64 it is the same number
-pub signed-same : (x : Float) (k : ℕ) → k < 63 → AtMost x (2 ^ k) → toSigned 63 x ≡ pos (toUnsigned 64 x)
-unfolding toUnsigned toSigned
-signed-same nan k h p = absurd p
-signed-same (inf s) k h p = absurd p
-signed-same (fin true m e) k h p = absurd p
-signed-same (fin false m e) k h p =
-    ap pos (both (m * up e / down e) (2 ^ k) (pow-lt h) (cut (m * up e) (down e) (2 ^ k) (down-pos e) p))
-  where
-    cut : (a c n : ℕ) → 0 < c → a ≤ n * c → a / c ≤ n
-    cut a c n C h = le-of-suc-le-suc (div-lt-iff-lt-mul C .1 (lt-of-le-of-lt h (mul-lt-mul-of-pos-right (lt-suc-self n) C)))
-
-    both : (q p : ℕ) → p < 2 ^ 63 → q ≤ p → min q (2 ^ 63 - 1) ≡ min q (2 ^ 64 - 1)
-    both q p h l = omega arith
-
--- ---- a comparison that failed
-pub le-of-not-lt : (x y : Float) → Clear x → Clear y → lt y x ≡ false → T (le x y)
-unfolding lt
-le-of-not-lt nan y p q h = absurd p
-le-of-not-lt (inf s) y p q h = absurd p
-le-of-not-lt (fin true m e) y p q h = absurd p
-le-of-not-lt (fin false m e) nan p q h = absurd q
-le-of-not-lt (fin false m e) (inf t) p q h = absurd q
-le-of-not-lt (fin false m e) (fin true n d) p q h = absurd q
-le-of-not-lt (fin false m e) (fin false n d) p q h =
-    le-of-values (fin false m e) (fin false n d) (m * up e) (down e) (n * up d) (down d) (down-pos e) (down-pos d) (refl, refl) (refl, refl)
-    (ltb-false (n * up d * down e) (m * up e * down d) h)
-
--- x is not above 2 ^ k
-pub at-most-of-not-lt : (x : Float) (N k n : ℕ) → N ≡ 2 ^ k → AtMost x n → lt (fin false 1 (pos k)) x ≡ false → AtMost x N
-unfolding lt
-at-most-of-not-lt nan N k n i p h = absurd p
-at-most-of-not-lt (inf s) N k n i p h = absurd p
-at-most-of-not-lt (fin true m e) N k n i p h = absurd p
-at-most-of-not-lt (fin false m e) N k n i p h =
-    le-trans (le-of-eq (sym (mul-one (m * up e)))) (le-trans (ltb-false (1 * 2 ^ k * down e) (m * up e * 1) h)
-    (le-of-eq (ap (λ (z : ℕ). z * down e) (one-mul (2 ^ k) ∙ sym i))))
+le-trans-clear x y z p q r h k =
+    any2 (λ (x y : Float). T (le x y) → T (le y z) → T (le x z))
+    (λ m e n d h k. any (λ (z : Float). T (le (fin false n d) z) → T (le (fin false m e) z))
+    (λ l c k. le-of-values (fin false m e) (fin false l c) (m * up e) (down e) (l * up c) (down c) (down-pos e) (down-pos c) (refl, refl) (refl, refl)
+    (through (m * up e) (n * up d) (l * up c) (down e) (down d) (down c) (down-pos d) (cross m e n d h) (cross n d l c k))) z r k)
+    x y p q h k
 
 pub le-refl-clear : (x : Float) → Clear x → T (le x x)
-le-refl-clear nan c = absurd c
-le-refl-clear (inf s) c = absurd c
-le-refl-clear (fin true m e) c = absurd c
-le-refl-clear (fin false m e) c =
-    le-of-values (fin false m e) (fin false m e) (m * up e) (down e) (m * up e) (down e) (down-pos e) (down-pos e) (refl, refl) (refl, refl) (le-of-eq refl)
+le-refl-clear x c =
+    any (λ (x : Float). T (le x x))
+    (λ m e. le-of-values (fin false m e) (fin false m e) (m * up e) (down e) (m * up e) (down e) (down-pos e) (down-pos e) (refl, refl) (refl, refl)
+    (le-of-eq refl))
+    x c
 
 -- 0.0 is the least
 pub zero-least : (x : Float) → Clear x → T (le (ofBits binary64 0) x)
 unfolding ofBits
-zero-least nan c = absurd c
-zero-least (inf s) c = absurd c
-zero-least (fin true m e) c = absurd c
-zero-least (fin false m e) c =
-    le-of-values (fin false 0 (pos 0)) (fin false m e) 0 1 (m * up e) (down e) (lit< tt) (down-pos e) (refl, refl) (refl, refl) (omega arith)
+zero-least x c =
+    any (λ (x : Float). T (le (fin false 0 (pos 0)) x))
+    (λ m e. le-of-values (fin false 0 (pos 0)) (fin false m e) 0 1 (m * up e) (down e) (lit< tt) (down-pos e) (refl, refl) (refl, refl) (omega arith)) x c
+
+-- ---- x ≤ x + y, whatever y that is not negative, if the sum does not overflow
+more : (a e d b : ℕ) → a * (e * d) ≤ (a * d + b) * e
+more a e d b = le-trans (le-of-eq (ap (λ (z : ℕ). a * z) (mul-comm e d) ∙ sym (mul-assoc a d e))) (mul-le-mul-right e (le-add-right (a * d) b))
+
+pub grows : (x y : Float) (n : ℕ) → T (fits binary64 x) → Clear x → Clear y → AtMost (add binary64 x y) n → T (le x (add binary64 x y))
+unfolding add
+grows x y n f p q a =
+    any2 (λ (x y : Float). T (fits binary64 x) → AtMost (add binary64 x y) n → T (le x (add binary64 x y)))
+    (λ m e k d f a. above (fin false m e) (round binary64 false (m * up e) (down e))
+    (round binary64 false (m * up e * down d + k * up d * down e) (down e * down d)) (m * up e) (down e) n (down-pos e) (refl, refl) (own false m e f) a
+    (round-mono binary64 (m * up e) (down e) (m * up e * down d + k * up d * down e) (down e * down d) (down-pos e) (mul-pos (down-pos e) (down-pos d))
+    (more (m * up e) (down e) (down d) (k * up d * down e))))
+    x y p q f a
+
+pub add-turns : (x y : Float) → Clear x → Clear y → add binary64 x y ≡ add binary64 y x
+unfolding add
+add-turns x y p q =
+    any2 (λ (x y : Float). add binary64 x y ≡ add binary64 y x)
+    (λ m e n d. ap (λ (a : ℕ). round binary64 false a (down e * down d)) (add-comm (m * up e * down d) (n * up d * down e))
+    ∙ ap (λ (c : ℕ). round binary64 false (n * up d * down e + m * up e * down d) c) (mul-comm (down e) (down d)))
+    x y p q
+
+-- ---- a comparison that failed
+pub le-of-not-lt : (x y : Float) → Clear x → Clear y → lt y x ≡ false → T (le x y)
+unfolding lt
+le-of-not-lt x y p q h =
+    any2 (λ (x y : Float). lt y x ≡ false → T (le x y))
+    (λ m e n d h. le-of-values (fin false m e) (fin false n d) (m * up e) (down e) (n * up d) (down d) (down-pos e) (down-pos d) (refl, refl) (refl, refl)
+    (ltb-false (n * up d * down e) (m * up e * down d) h))
+    x y p q h
+
+-- x is not above 2 ^ k
+pub at-most-of-not-lt : (x : Float) (N k : ℕ) → N ≡ 2 ^ k → Clear x → lt (fin false 1 (pos k)) x ≡ false → AtMost x N
+unfolding lt
+at-most-of-not-lt x N k i p h =
+    any (λ (x : Float). lt (fin false 1 (pos k)) x ≡ false → AtMost x N)
+    (λ m e h. le-trans (le-of-eq (sym (mul-one (m * up e)))) (le-trans (ltb-false (1 * 2 ^ k * down e) (m * up e * 1) h)
+    (le-of-eq (ap (λ (z : ℕ). z * down e) (one-mul (2 ^ k) ∙ sym i)))))
+    x p h
