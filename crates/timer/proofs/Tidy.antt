@@ -9,12 +9,12 @@ use lib.Seq.{getD-set-other, ext-getD}
 use Prim.Native.Nat.{ℕ, zero, suc, _+_, _-_, _%_, _<_, _≤_}
 use native.Mathlib.Omega.{arith}
 use native.Mathlib.Nat.{add-zero, add-suc, suc-add, zero-add, le-of-suc-le-suc}
-use borrow.Author.Tests.{ltb-true, ltb-false}
+use borrow.Author.Tests.{leb-false, ltb-true, ltb-false}
 use Rattle.timer.specs.declared.Event.{Event}
 use Rattle.timer.specs.declared.Queue.{Queue}
 use Rattle.timer.specs.declared.Ring.{Ring}
 use Rattle.timer.specs.Events.{ringOf, queueOf, placeOf, skipped, cleared, nought, nothing, emptyQueue, eventAt, eventOf}
-use Rattle.timer.specs.Events.{waitingFrom, waiting, withLast, without, putOf, takeOf}
+use Rattle.timer.specs.Events.{waitingFrom, waiting, withLast, without, fullOf, putOf, takeOf}
 use Rattle.timer.specs.Canonical.{Tidy, Canonical}
 use Rattle.timer.proofs.Places.{ring-is, place-apart, place-moves, skipped-some, skipped-all, cleared-length, cleared-stays, cleared-goes}
 use Rattle.timer.proofs.Waiting.{waiting-count}
@@ -59,13 +59,13 @@ last-canonical q e good room = record {
   start = λ none. absurd (omega arith);
 }
 
-put-canonical-at : (q : Queue) (e : Event) (t : Bool) → ltb (q .ring .count) 256 ≡ t → Canonical q → Canonical (putOf q e .queue)
+put-canonical-at : (q : Queue) (e : Event) (t : Bool) → fullOf (q .ring) ≡ t → Canonical q → Canonical (putOf q e .queue)
 unfolding putOf
-put-canonical-at q e true h good = rw h (last-canonical q e good (ltb-true (q .ring .count) 256 h))
-put-canonical-at q e false h good = rw h good
+put-canonical-at q e true h good = rw h good
+put-canonical-at q e false h good = rw h (last-canonical q e good (leb-false 256 (q .ring .count) h))
 
 pub put-canonical : (q : Queue) (e : Event) → Canonical q → Canonical (putOf q e .queue)
-put-canonical q e good = put-canonical-at q e (ltb (q .ring .count) 256) refl good
+put-canonical q e good = put-canonical-at q e (fullOf (q .ring)) refl good
 
 -- ---- events gone
 

@@ -11,7 +11,7 @@ use Prim.Native.Nat.{ℕ, zero, suc, _+_, _-_, _<_, _≤_}
 use native.Mathlib.Omega.{arith}
 use native.Mathlib.Nat.{add-zero, add-suc, suc-add, zero-add, sub-zero, zero-sub, suc-sub-suc}
 use native.Mathlib.Numerals.{add-one}
-use borrow.Author.Tests.{lt-ltb, le-ltb, ltb-true, ltb-false, ne-eqb, eq-eqb}
+use borrow.Author.Tests.{le-leb, lt-leb, ltb-true, ltb-false, ne-eqb, eq-eqb}
 use Rattle.timer.specs.declared.Event.{Event}
 use Rattle.timer.specs.declared.Queue.{Queue}
 use Rattle.timer.specs.declared.Ring.{Ring}
@@ -122,11 +122,11 @@ last-waits q e good small =
 
 pub put-done : (q : Queue) (e : Event) → q .ring .count < 256 → putOf q e ≡ putOutcome Done (withLast q e)
 unfolding putOf
-put-done q e room = rw (lt-ltb (q .ring .count) 256 room)
+put-done q e room = rw (lt-leb 256 (q .ring .count) room)
 
 pub put-full : (q : Queue) (e : Event) → 256 ≤ q .ring .count → putOf q e ≡ putOutcome SoundFull q
 unfolding putOf
-put-full q e full = rw (le-ltb (q .ring .count) 256 full)
+put-full q e full = rw (le-leb 256 (q .ring .count) full)
 
 pub take-none : (q : Queue) → q .ring .count ≡ 0 → takeOf q ≡ takeOutcome NoEvent nothing q
 unfolding takeOf

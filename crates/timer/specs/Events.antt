@@ -1,7 +1,7 @@
 -- Sound events that wait, oldest first: a list; and how 256 places in a ring hold it.
-use mathlib.Core.Bool.{cond}
+use mathlib.Core.Bool.{Bool, cond}
 use mathlib.Core.List.{List, [], _∷_}
-use lib.Dec.{ltb, eqb}
+use lib.Dec.{leb, ltb, eqb}
 use lib.Ieee.{Float, nan, binary64, ofBits}
 use lib.ListN.{length, getD, set, replicate}
 use Prim.Native.Nat.{ℕ, zero, suc, _+_, _-_, _%_}
@@ -88,9 +88,13 @@ withLast q e =
     (set (q .duties) (placeOf (q .ring) (q .ring .count)) (e .duty))
     (ringOf (q .ring .head) (q .ring .count + 1))
 
+-- 256 wait
+abbrev pub fullOf : Ring → Bool
+fullOf ring = leb 256 (ring .count)
+
 -- with 256 waiting nothing changes
 unfoldable pub putOf : Queue → Event → PutOutcome
-putOf q e = cond (ltb (q .ring .count) 256) (putOutcome Done (withLast q e)) (putOutcome SoundFull q)
+putOf q e = cond (fullOf (q .ring)) (putOutcome SoundFull q) (putOutcome Done (withLast q e))
 
 -- ---- one event out
 

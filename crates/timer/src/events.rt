@@ -1,7 +1,7 @@
 // Sound events that wait: a ring of 256 places, oldest first. A place that is given back holds zeros, and an empty ring starts at
 // place 0 again, so that what waits says all of the state but where it starts.
 ghost use mathlib.Core.Path.{_≡_};
-ghost use Rattle.timer.specs.Events.{nothing, placeOf, skipped, queueOf, emptyQueue, eventOf, without, fitOf};
+ghost use Rattle.timer.specs.Events.{nothing, placeOf, skipped, queueOf, emptyQueue, eventOf, without, fullOf, fitOf};
 ghost use Rattle.timer.specs.Events.{putOutcome, putOf, takeOutcome, takeOf, layOutcome, layOf, dropOf, batched, bulkOutcome, bulkOf};
 use crate::Added;
 use crate::Batch;
@@ -46,6 +46,13 @@ fn nothing() -> Event
     }
 }
 
+// Whether there is no room for one event more.
+pub fn full(ring: Ring) -> bool
+    ensures { λ r. ⌜ r ≡ fullOf ring ⌝ }
+{
+    ring.count >= 256
+}
+
 // One event more, the youngest. Three numbers are stored, and nothing is moved.
 pub fn put_in(
     times: &mut [f64; 256],
@@ -58,22 +65,22 @@ pub fn put_in(
         ≡ putOf (queueOf (now (times .entry)) (now (frequencies .entry)) (now (duties .entry)) ring) event ⌝ }
 {
     let count = ring.count;
-    if count < 256 {
-        let at = place(ring, count);
-        times[at] = event.time;
-        frequencies[at] = event.frequency;
-        duties[at] = event.duty;
+    if count >= 256 {
         return Added {
-            refusal: Refusal::Done,
-            ring: Ring {
-                head: ring.head,
-                count: count + 1,
-            },
+            refusal: Refusal::SoundFull,
+            ring,
         };
     }
+    let at = place(ring, count);
+    times[at] = event.time;
+    frequencies[at] = event.frequency;
+    duties[at] = event.duty;
     Added {
-        refusal: Refusal::SoundFull,
-        ring,
+        refusal: Refusal::Done,
+        ring: Ring {
+            head: ring.head,
+            count: count + 1,
+        },
     }
 }
 
