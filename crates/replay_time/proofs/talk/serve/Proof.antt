@@ -1,0 +1,56 @@
+-- `talk::serve` is safe and ends: the turns are counted down.
+use borrow.Author.Needs.{needs}
+use Prim.Native.Nat.{_≤_}
+use Rattle.replay_time.proofs.talk.serve.Statement.{statement}
+use Rattle.replay_time.proofs.talk.serve.Tie as tie
+
+abbrev Inv-loop : tie.InvT-loop
+Inv-loop input output words₀ s₀ more₀ turns₀ words s more turns =
+    turns ≤ 0xFFFF_FFFF_FFFF_FFFF
+
+abbrev μ-loop : tie.MeasureT-loop
+μ-loop input output words₀ s₀ more₀ turns₀ words s more turns =
+    turns
+
+fresh-requires : tie.Need-fresh-requires Inv-loop μ-loop
+fresh-requires c κs = search needs
+
+empty-requires : tie.Need-empty-requires Inv-loop μ-loop
+empty-requires c κs = search needs
+
+loop-holds : tie.Need-loop-holds Inv-loop μ-loop
+loop-holds c = search needs
+
+listen-requires : tie.Need-listen-requires Inv-loop μ-loop
+listen-requires c κs = search needs
+
+sub-turns : tie.Need-sub-turns Inv-loop μ-loop
+sub-turns c = search needs
+
+loop-less : tie.Need-loop-less Inv-loop μ-loop
+loop-less c = search needs
+
+loop-again : tie.Need-loop-again Inv-loop μ-loop
+loop-again c = search needs
+
+returns : tie.Need-returns Inv-loop μ-loop
+returns c = search needs
+
+returns-2 : tie.Need-returns-2 Inv-loop μ-loop
+returns-2 c = search needs
+
+pub serve-spec : {M : Type 1} → statement M
+serve-spec =
+    tie.close
+    (tie.spec
+    Inv-loop
+    μ-loop
+    fresh-requires
+    empty-requires
+    loop-holds
+    listen-requires
+    sub-turns
+    loop-less
+    loop-again
+    returns
+    returns-2)

@@ -1,0 +1,64 @@
+// A step of the list.
+use crate::advance::advance;
+use crate::advance::turbo;
+use crate::line::Line;
+use crate::look::look;
+use crate::machine::Answer;
+use crate::machine::Machine;
+use crate::machine::Stepped;
+use crate::machine::answered;
+use crate::machine::done;
+use crate::machine::refused;
+use crate::numbers::bits_of;
+use crate::numbers::low;
+use crate::put::put;
+use crate::read::read;
+use crate::write::write;
+use timer::Refusal;
+
+fn said(machine: Machine, answer: Answer) -> Stepped {
+    Stepped { machine, answer }
+}
+
+fn take(machine: Machine) -> Stepped {
+    let taken = timer::events::take(machine.queue);
+    let refusal = taken.refusal;
+    let event = taken.event;
+    let rest = taken.queue;
+    let mut next = machine;
+    next.queue = rest;
+    match refusal {
+        Refusal::Done => said(
+            next,
+            answered(
+                bits_of(event.time),
+                bits_of(event.frequency),
+                bits_of(event.duty),
+            ),
+        ),
+        Refusal::NoEvent => refused(machine, 12),
+        Refusal::SoundFull => refused(machine, 5),
+    }
+}
+
+// Kinds a, b and c are for tests only. Any other kind does nothing.
+pub(crate) fn step(machine: Machine, words: &mut [u32; 62], line: Line) -> Stepped {
+    let kind = line.kind;
+    let address = line.address;
+    let value = line.value;
+    let at = low(address);
+    match kind {
+        1 => said(machine, answered(read(machine, words, at), 0, 0)),
+        2 => write(machine, words, at, low(value)),
+        3 => advance(machine, words, value),
+        6 => turbo(machine, value),
+        9 => take(machine),
+        10 => {
+            words[61] = low(value);
+            done(machine)
+        }
+        11 => said(machine, look(machine, words, address)),
+        12 => done(put(machine, address, value)),
+        _ => done(machine),
+    }
+}
