@@ -56,7 +56,7 @@ module _ (irq : RtcIrq) (game : Float) (d : DaySet irq game) (g : AtMost game (2
       le-trans-clear (irq .set) game sum (at-most-clear (irq .set) (2 ^ 31) (d .set .limit)) game-clear (at-most-clear sum (2 ^ 32) sum-limit)
       (d .set .before) game-before
 
-  seconds-limit : AtMost (seconds irq game) (2 ^ 32)
+  pub seconds-limit : AtMost (seconds irq game) (2 ^ 32)
   seconds-limit = sub-at-most sum (irq .set) (2 ^ 31) 32 (lit< tt) sum-limit (d .set .limit) set-before
 
   -- THE CUT IS EXACT, and no second is negative

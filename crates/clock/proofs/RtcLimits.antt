@@ -35,7 +35,7 @@ module _ (latch : Latch) (game : Float) (p : Past (latch .since) game) (g : AtMo
   gone : AtMost (sub binary64 game (latch .since)) (2 ^ 31)
   gone = sub-at-most game (latch .since) (2 ^ 31) 31 (lit< tt) g (p .limit) (p .before)
 
-  passed-limit : AtMost (passed latch game) (2 ^ 46)
+  pub passed-limit : AtMost (passed latch game) (2 ^ 46)
   unfolding ofBits
   passed-limit = mul-at-most (sub binary64 game (latch .since)) (fin false 1 (pos 15)) 31 15 (lit< tt) gone (lit≤ tt)
 

@@ -33,7 +33,7 @@ signals n seen status bit h = by (ltb seen n) refl
 abbrev second : Float → Float
 second game = div binary64 game (ofBits binary64 0x3FF0_0000_0000_0000)
 
-second-limit : (game : Float) → AtMost game (2 ^ 31) → AtMost (second game) (2 ^ 31)
+pub second-limit : (game : Float) → AtMost game (2 ^ 31) → AtMost (second game) (2 ^ 31)
 unfolding ofBits
 second-limit game g = div-pow game 0 31 (lit< tt) g
 
@@ -55,7 +55,7 @@ ticks-seconds fired status game later h g k l =
 abbrev sixtieth : Float → Float
 sixtieth now = mul binary64 now (ofBits binary64 0x404E_0000_0000_0000)
 
-sixtieth-limit : (now : Float) → T (goodTime now) → AtMost (sixtieth now) (2 ^ 27)
+pub sixtieth-limit : (now : Float) → T (goodTime now) → AtMost (sixtieth now) (2 ^ 27)
 unfolding ofBits
 sixtieth-limit now g = mul-at-most now (fin false 15 (pos 2)) 21 6 (lit< tt) (good-at-most now g) (lit≤ tt)
 

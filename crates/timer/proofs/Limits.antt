@@ -69,7 +69,7 @@ module _ (t : Timer) (now : Float) (clock control : ℕ) (s : Started t now) (g 
   abbrev since : Float
   since = ticks (t .start) now (rateOf clock control)
 
-  ticks-at-most : AtMost since (2 ^ 52)
+  pub ticks-at-most : AtMost since (2 ^ 52)
   ticks-at-most =
       mul-at-most (sub binary64 now (t .start)) (rateOf clock control) 21 31 (lit< tt)
       (sub-at-most now (t .start) (2 ^ 21) 21 (lit< tt) (good-at-most now g) (good-at-most (t .start) (s .good)) (s .before)) (rate-at-most clock control h)

@@ -9,3 +9,4 @@ pub mod Mono
 pub mod Words
 pub mod Unique
 pub mod Numbers
+pub mod Judged

@@ -4,3 +4,4 @@ pub mod Limits
 pub mod Bounds
 pub mod Words
 pub mod Table
+pub mod Edges
