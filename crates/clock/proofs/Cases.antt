@@ -1,5 +1,5 @@
 -- The branches of the definitions, as the functions meet them.
-use mathlib.Core.Path.{_≡_, ap}
+use mathlib.Core.Path.{_≡_, sym, _∙_, ap}
 use mathlib.Core.Bool.{true, false, not}
 use mathlib.Core.List.{List}
 use mathlib.Core.Logic.{_≢_}
@@ -13,13 +13,21 @@ use lib.Ieee.{Float, binary64, ofBits, lt, toSigned}
 use lib.Ieee.Casts.{toSigned-in}
 use borrow.Author.Tests.{eq-eqb, ne-eqb, le-leb, lt-leb}
 use Rattle.whole.specs.Cut.{twos}
-use Rattle.whole.specs.Limits.{goodTime}
+use Rattle.whole.specs.Limits.{goodTime, timeOf, turboOf}
+use Rattle.whole.specs.declared.Time.{Time}
+use Rattle.whole.specs.declared.Time.the-variants.{At, BadTime as NoTime}
+use Rattle.whole.specs.declared.Turbo.{Turbo}
+use Rattle.whole.specs.declared.Turbo.the-variants.{By, BadTurbo as NoTurbo}
+use Rattle.whole.proofs.Numbers.{time-at, time-bad, turbo-at, turbo-bad}
+use Rattle.clock.specs.declared.Moved.{Moved}
+use Rattle.clock.specs.declared.Paced.{Paced}
+use Rattle.clock.specs.declared.Paced.the-variants.{BadTurbo}
 use Rattle.whole.specs.Words.{has}
 use Rattle.whole.proofs.Words.{has-some, has-not}
 use Rattle.clock.specs.declared.Times.{Times}
 use Rattle.clock.specs.declared.Moved.the-variants.{To, BadTime}
 use Rattle.clock.specs.declared.Latch.{Latch}
-use Rattle.clock.specs.Times.{gameAfter, movedOf}
+use Rattle.clock.specs.Times.{gameAfter, movedOf, pacedOf}
 use Rattle.clock.specs.Rtc.{ticksOf, outputOf, rtcOf, latchedOf, commandedOf}
 use Rattle.clock.specs.Day.{remEuclid}
 
@@ -100,3 +108,18 @@ module _ (latch : Latch) (regs : List ℕ) (game : Float) (address word cmd : �
   pub commands-nothing : bitAnd cmd 1 ≡ 0 → bitAnd cmd 2 ≡ 0 → rtcOf regs latch ≡ commandedOf (rtcOf regs latch) game address word cmd
   unfolding commandedOf
   commands-nothing c d = rw (has-not cmd 1 c, has-not cmd 2 d)
+
+-- ---- from bits: what is read is the float of the pattern, and what is not is refused as it would be
+pub moves-from : (s : Times) (bits : ℕ) (t : Time) (x : Float) (r : Moved) → t ≡ timeOf bits → t ≡ At x → r ≡ movedOf s x → r ≡ movedOf s (ofBits binary64 bits)
+moves-from s bits t x r h e k = k ∙ ap (movedOf s) (time-at bits x (sym e ∙ h))
+
+pub moves-from-none : (s : Times) (bits : ℕ) (t : Time) → t ≡ timeOf bits → t ≡ NoTime → BadTime ≡ movedOf s (ofBits binary64 bits)
+moves-from-none s bits t h e = moves-not s (ofBits binary64 bits) (time-bad bits (sym e ∙ h))
+
+pub paces-from : (s : Times) (bits : ℕ) (t : Turbo) (x : Float) (r : Paced) → t ≡ turboOf bits → t ≡ By x → r ≡ pacedOf s x
+    → r ≡ pacedOf s (ofBits binary64 bits)
+paces-from s bits t x r h e k = k ∙ ap (pacedOf s) (turbo-at bits x (sym e ∙ h))
+
+pub paces-from-none : (s : Times) (bits : ℕ) (t : Turbo) → t ≡ turboOf bits → t ≡ NoTurbo → BadTurbo ≡ pacedOf s (ofBits binary64 bits)
+unfolding pacedOf
+paces-from-none s bits t h e = rw (turbo-bad bits (sym e ∙ h))

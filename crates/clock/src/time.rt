@@ -1,9 +1,12 @@
 // Time goes on, within the limits.
 ghost use mathlib.Core.Path.{_≡_};
+ghost use lib.Ieee.{ofBits, binary64};
 ghost use Rattle.clock.specs.Times.{freshTimes, movedOf, pacedOf};
 use crate::Moved;
 use crate::Paced;
 use crate::Times;
+use whole::Time;
+use whole::Turbo;
 
 // The times as they are after a wipe.
 pub fn fresh() -> Times
@@ -47,4 +50,25 @@ pub fn set_turbo(s: Times, to: f64) -> Paced
         });
     }
     Paced::BadTurbo
+}
+
+// The same from the bits of a float, as scripts have them: no NaN's pattern becomes a float.
+pub fn advance_bits(s: Times, bits: u64) -> Moved
+    ensures { λ r. ⌜ r ≡ movedOf s (ofBits binary64 bits) ⌝ }
+{
+    let to = whole::limits::time_of(bits);
+    match to {
+        Time::At(x) => advance(s, x),
+        Time::BadTime => Moved::BadTime,
+    }
+}
+
+pub fn turbo_bits(s: Times, bits: u64) -> Paced
+    ensures { λ r. ⌜ r ≡ pacedOf s (ofBits binary64 bits) ⌝ }
+{
+    let to = whole::limits::turbo_of(bits);
+    match to {
+        Turbo::By(x) => set_turbo(s, x),
+        Turbo::BadTurbo => Paced::BadTurbo,
+    }
 }

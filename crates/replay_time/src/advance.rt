@@ -12,8 +12,6 @@ use crate::machine::word_of;
 use clock::Moved;
 use clock::Paced;
 use clock::Times;
-use whole::Time;
-use whole::Turbo;
 
 fn timer_at(bank: Bank, words: &[u32; 62], time: f64, n: usize) -> Bank
     requires { ⌜ n < 6 ⌝ }
@@ -55,24 +53,16 @@ fn reached(machine: Machine, words: &mut [u32; 62], time: Times) -> Machine {
     next
 }
 
-fn advance_to(machine: Machine, words: &mut [u32; 62], to: f64) -> Stepped {
-    let moved = clock::time::advance(machine.time, to);
+pub(crate) fn advance(machine: Machine, words: &mut [u32; 62], bits: u64) -> Stepped {
+    let moved = clock::time::advance_bits(machine.time, bits);
     match moved {
         Moved::To(time) => done(reached(machine, words, time)),
         Moved::BadTime => refused(machine, 1),
     }
 }
 
-pub(crate) fn advance(machine: Machine, words: &mut [u32; 62], bits: u64) -> Stepped {
-    let to = whole::limits::time_of(bits);
-    match to {
-        Time::At(time) => advance_to(machine, words, time),
-        Time::BadTime => refused(machine, 1),
-    }
-}
-
-fn turbo_to(machine: Machine, to: f64) -> Stepped {
-    let paced = clock::time::set_turbo(machine.time, to);
+pub(crate) fn turbo(machine: Machine, bits: u64) -> Stepped {
+    let paced = clock::time::turbo_bits(machine.time, bits);
     match paced {
         Paced::By(time) => {
             let mut next = machine;
@@ -80,13 +70,5 @@ fn turbo_to(machine: Machine, to: f64) -> Stepped {
             done(next)
         }
         Paced::BadTurbo => refused(machine, 2),
-    }
-}
-
-pub(crate) fn turbo(machine: Machine, bits: u64) -> Stepped {
-    let to = whole::limits::turbo_of(bits);
-    match to {
-        Turbo::By(by) => turbo_to(machine, by),
-        Turbo::BadTurbo => refused(machine, 2),
     }
 }
