@@ -66,7 +66,7 @@ impl fmt::Display for Answer {
 
 impl fmt::Display for Step {
     fn fmt(&self, f: &mut fmt::Formatter) -> fmt::Result {
-        write!(f, "{:x} {:x} {:x}", self.kind, self.address, self.value)
+        write!(f, "{:02x} {:08x} {:016x}", self.kind, self.address, self.value)
     }
 }
 

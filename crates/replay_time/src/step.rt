@@ -1,7 +1,6 @@
 // A step of the list.
 use crate::advance::advance;
 use crate::advance::turbo;
-use crate::line::Line;
 use crate::look::look;
 use crate::machine::Answer;
 use crate::machine::Machine;
@@ -42,10 +41,13 @@ fn take(machine: Machine) -> Stepped {
 }
 
 // Kinds a, b and c are for tests only. Any other kind does nothing.
-pub(crate) fn step(machine: Machine, words: &mut [u32; 62], line: Line) -> Stepped {
-    let kind = line.kind;
-    let address = line.address;
-    let value = line.value;
+pub(crate) fn step(
+    machine: Machine,
+    words: &mut [u32; 62],
+    kind: u64,
+    address: u64,
+    value: u64,
+) -> Stepped {
     let at = low(address);
     match kind {
         1 => said(machine, answered(read(machine, words, at), 0, 0)),

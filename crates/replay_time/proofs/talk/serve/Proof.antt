@@ -5,24 +5,19 @@ use Rattle.replay_time.proofs.talk.serve.Statement.{statement}
 use Rattle.replay_time.proofs.talk.serve.Tie as tie
 
 abbrev Inv-loop : tie.InvT-loop
-Inv-loop input output words₀ s₀ more₀ turns₀ words s more turns =
-    turns ≤ 0xFFFF_FFFF_FFFF_FFFF
+Inv-loop input output words₀ s₀ more₀ turns₀ words s more turns = turns ≤ 0xFFFF_FFFF_FFFF_FFFF
 
 abbrev μ-loop : tie.MeasureT-loop
-μ-loop input output words₀ s₀ more₀ turns₀ words s more turns =
-    turns
+μ-loop input output words₀ s₀ more₀ turns₀ words s more turns = turns
 
 fresh-requires : tie.Need-fresh-requires Inv-loop μ-loop
 fresh-requires c κs = search needs
 
-empty-requires : tie.Need-empty-requires Inv-loop μ-loop
-empty-requires c κs = search needs
-
 loop-holds : tie.Need-loop-holds Inv-loop μ-loop
 loop-holds c = search needs
 
-listen-requires : tie.Need-listen-requires Inv-loop μ-loop
-listen-requires c κs = search needs
+take-turn-requires : tie.Need-take-turn-requires Inv-loop μ-loop
+take-turn-requires c κs = search needs
 
 sub-turns : tie.Need-sub-turns Inv-loop μ-loop
 sub-turns c = search needs
@@ -46,9 +41,8 @@ serve-spec =
     Inv-loop
     μ-loop
     fresh-requires
-    empty-requires
     loop-holds
-    listen-requires
+    take-turn-requires
     sub-turns
     loop-less
     loop-again
