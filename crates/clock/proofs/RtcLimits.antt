@@ -1,6 +1,6 @@
 -- Within the limits the RTC's ticks are exact and below 2 ^ 63; and the chip stays within them, and does not go back.
 use mathlib.Core.Path.{_≡_, sym, ap, _∙_}
-use mathlib.Core.Bool.{Bool, true, false, cond}
+use mathlib.Core.Bool.{false, cond}
 use mathlib.Core.List.{List, [], _∷_}
 use Prim.Native.Nat.{ℕ, zero, suc, _+_, _*_, _%_, _^_, _≤_, _<_}
 use native.Mathlib.Nat.{le-trans, le-of-eq, lt-of-le-of-lt, mod-eq-of-lt, mod-lt}
@@ -13,6 +13,7 @@ use Rattle.whole.specs.Bounds.{AtMost, WholePart}
 use Rattle.whole.specs.Cut.{twos}
 use Rattle.whole.specs.Words.{has}
 use Rattle.whole.proofs.Clear.{at-most-clear}
+use Rattle.whole.proofs.Words.{either}
 use Rattle.whole.proofs.Cuts.{whole-part, signed-same}
 use Rattle.whole.proofs.Round.{mul-at-most, sub-at-most, cut-at-most}
 use Rattle.whole.proofs.Mono.{sub-mono, mul-mono, cut-mono}
@@ -21,10 +22,6 @@ use Rattle.clock.specs.declared.Rtc.{Rtc}
 use Rattle.clock.specs.Rtc.{ticksOf, sixBytes, freshRtc, latchedOf, putOf, askedOf, commandedOf}
 use Rattle.clock.specs.Within.{Past, Latched}
 use Rattle.clock.proofs.TimeLimits.{past-later, past-now, past-start}
-
-either : {A : Type 0} (P : A → Type 0) (b : Bool) (x y : A) → P x → P y → P (cond b x y)
-either P true x y p q = p
-either P false x y p q = q
 
 -- ---- the RTC's ticks
 -- 32768.0 is 2 ^ 15

@@ -1,6 +1,6 @@
 -- Within the limits every number of ticks that is cut is at most 2 ^ 52, so the cut is its whole part; and timers stay within them.
 use mathlib.Core.Path.{_≡_, refl, sym, ap, subst}
-use mathlib.Core.Bool.{Bool, true, false, cond, _&&_, _||_}
+use mathlib.Core.Bool.{Bool, false, cond, _&&_, _||_}
 use Prim.Native.Nat.{ℕ, zero, suc, _/_, _^_, _≤_, _<_, zero-le}
 use native.Mathlib.Nat.{le-of-lt, le-of-eq, le-trans, zero-lt-suc, div-le-self}
 use native.Mathlib.Omega.{arith}
@@ -12,6 +12,7 @@ use Rattle.whole.specs.Bounds.{AtMost, AtLeast, WholePart}
 use Rattle.whole.specs.Limits.{goodTime}
 use Rattle.whole.specs.Words.{has, lacks}
 use Rattle.whole.proofs.Clear.{at-most-clear}
+use Rattle.whole.proofs.Words.{either}
 use Rattle.whole.proofs.Cuts.{whole-part, above-zero}
 use Rattle.whole.proofs.Round.{weaken, weaken-least, ofInt-at-most, ofInt-at-least, mul-at-most, sub-at-most, div-pow, div-pow-least, cut-at-most, good-at-most}
 use Rattle.whole.proofs.Order.{good-clear, le-trans-clear, le-refl-clear, zero-least}
@@ -19,10 +20,6 @@ use Rattle.whole.proofs.Mono.{sub-mono, mul-mono, cut-mono}
 use Rattle.timer.specs.declared.Timer.{Timer}
 use Rattle.timer.specs.Timers.{sysclkOf, rateOf, ticks, elapsedOf, writtenOf, clearedOf, noted, advancedOf, periodOf, freshTimer}
 use Rattle.timer.specs.Within.{Started}
-
-either : {A : Type 0} (P : A → Type 0) (b : Bool) (x y : A) → P x → P y → P (cond b x y)
-either P true x y p q = p
-either P false x y p q = q
 
 -- ---- the rate, for every clock word
 clock-at-most : (clock : ℕ) → clock < 2 ^ 32 → AtMost (sysclkOf clock) (2 ^ 32)

@@ -1,4 +1,4 @@
--- What the crate's contracts cite.
+-- What the crate's contracts cite, and what its theorems are stated with.
 pub mod Timers
 pub mod Sound
 pub mod Within

@@ -1,4 +1,4 @@
--- `whole::whole` meets its contract: each return is what the pattern's range is cut to. Assumes nothing.
+-- `whole::whole` meets its contract: each return is what the pattern's range is cut to.
 use borrow.Author.Needs.{needs}
 use native.Mathlib.Omega.{arith}
 use mathlib.Core.Path.{sym, subst}
