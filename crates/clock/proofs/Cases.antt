@@ -19,11 +19,11 @@ use Rattle.whole.specs.declared.Time.the-variants.{At, BadTime as NoTime}
 use Rattle.whole.specs.declared.Turbo.{Turbo}
 use Rattle.whole.specs.declared.Turbo.the-variants.{By, BadTurbo as NoTurbo}
 use Rattle.whole.proofs.Numbers.{time-at, time-bad, turbo-at, turbo-bad}
+use Rattle.whole.specs.Words.{has}
+use Rattle.whole.proofs.Words.{has-some, has-not}
 use Rattle.clock.specs.declared.Moved.{Moved}
 use Rattle.clock.specs.declared.Paced.{Paced}
 use Rattle.clock.specs.declared.Paced.the-variants.{BadTurbo}
-use Rattle.whole.specs.Words.{has}
-use Rattle.whole.proofs.Words.{has-some, has-not}
 use Rattle.clock.specs.declared.Times.{Times}
 use Rattle.clock.specs.declared.Moved.the-variants.{To, BadTime}
 use Rattle.clock.specs.declared.Latch.{Latch}

@@ -1,6 +1,6 @@
 -- Arrays of 256 floats and references to them, as the walks by hand name them.
-use Prim.Native.Nat.{ℕ}
 use mathlib.Core.List.{List}
+use Prim.Native.Nat.{ℕ}
 use lib.Ieee.{Float}
 use mir.Syntax.{named}
 use mir.Val.{Val, vptr}

@@ -2,18 +2,17 @@
 use mathlib.Core.Path.{_≡_, refl, _∙_, ap}
 use mathlib.Core.Bool.{Bool, true, false}
 use mathlib.Core.List.{List, [], _∷_, _++_}
-use lib.Dec.{ltb}
-use lib.ListN.{length, set, take, drop, length-set}
-use lib.Seq.{take-at, length-take-le}
 use Prim.Native.Nat.{ℕ, zero, suc, _+_, _<_, _≤_}
 use native.Mathlib.Omega.{arith}
 use native.Mathlib.Nat.{add-zero, add-suc, suc-add, zero-add, le-of-suc-le-suc}
+use lib.Dec.{ltb}
+use lib.ListN.{length, set, take, drop, length-set}
+use lib.Seq.{take-at, length-take-le}
 use borrow.Author.Tests.{lt-ltb, le-ltb, ltb-true, ltb-false}
 use Rattle.timer.specs.declared.Event.{Event}
 use Rattle.timer.specs.declared.Queue.{Queue}
 use Rattle.timer.specs.declared.Bulk.{Bulk}
-use Rattle.timer.specs.Events.{eventOf, waitingFrom, waiting, fitOf, laid}
-use Rattle.timer.specs.Events.{LayOutcome, layOutcome, layOf, dropOf, bulkOutcome, bulkOf}
+use Rattle.timer.specs.Events.{eventOf, waitingFrom, waiting, fitOf, laid, LayOutcome, layOutcome, layOf, dropOf, bulkOutcome, bulkOf}
 
 -- ---- as many as fit
 

@@ -14,7 +14,8 @@ use Rattle.whole.specs.Words.{has, lacks}
 use Rattle.whole.proofs.Clear.{at-most-clear}
 use Rattle.whole.proofs.Words.{either}
 use Rattle.whole.proofs.Cuts.{whole-part, above-zero}
-use Rattle.whole.proofs.Round.{weaken, weaken-least, ofInt-at-most, ofInt-at-least, mul-at-most, sub-at-most, div-pow, div-pow-least, cut-at-most, good-at-most}
+use Rattle.whole.proofs.Round.{weaken, weaken-least, ofInt-at-most, ofInt-at-least, mul-at-most, sub-at-most, div-pow, div-pow-least, cut-at-most}
+use Rattle.whole.proofs.Round.{good-at-most}
 use Rattle.whole.proofs.Order.{good-clear, le-trans-clear, le-refl-clear, zero-least}
 use Rattle.whole.proofs.Mono.{sub-mono, mul-mono, cut-mono}
 use Rattle.timer.specs.declared.Timer.{Timer}

@@ -1,10 +1,10 @@
 -- The refusal by its number, given exactly when its rule says; and a change that is not refused finds room for its event.
 use mathlib.Core.Path.{_≡_, refl}
 use mathlib.Core.Logic.{_⊎_, inl, inr}
+use mathlib.Core.Bool.{Bool, true, false, cond, _&&_}
 use Prim.Native.Nat.{ℕ}
 use native.Mathlib.Omega.{arith}
 use borrow.Author.Tests.{leb-false}
-use mathlib.Core.Bool.{Bool, true, false, cond, _&&_}
 use Rattle.timer.specs.declared.Event.{Event}
 use Rattle.timer.specs.declared.Queue.{Queue}
 use Rattle.timer.specs.declared.Sounded.{Sounded}

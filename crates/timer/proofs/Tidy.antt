@@ -2,19 +2,19 @@
 use mathlib.Core.Path.{_≡_, refl, sym, _∙_, ap}
 use mathlib.Core.Bool.{Bool, true, false}
 use mathlib.Core.List.{List}
+use Prim.Native.Nat.{ℕ, zero, suc, _+_, _-_, _%_, _<_, _≤_}
+use native.Mathlib.Omega.{arith}
+use native.Mathlib.Nat.{add-zero, add-suc, suc-add, zero-add, le-of-suc-le-suc}
 use lib.Dec.{ltb, eqb}
 use lib.Ieee.{Float, nan}
 use lib.ListN.{length, getD, set, length-set, replicate, length-replicate, getD-replicate}
 use lib.Seq.{getD-set-other, ext-getD}
-use Prim.Native.Nat.{ℕ, zero, suc, _+_, _-_, _%_, _<_, _≤_}
-use native.Mathlib.Omega.{arith}
-use native.Mathlib.Nat.{add-zero, add-suc, suc-add, zero-add, le-of-suc-le-suc}
 use borrow.Author.Tests.{leb-false, ltb-true, ltb-false}
 use Rattle.timer.specs.declared.Event.{Event}
 use Rattle.timer.specs.declared.Queue.{Queue}
 use Rattle.timer.specs.declared.Ring.{Ring}
-use Rattle.timer.specs.Events.{ringOf, queueOf, placeOf, skipped, cleared, nought, nothing, emptyQueue, eventAt, eventOf}
-use Rattle.timer.specs.Events.{waitingFrom, waiting, withLast, without, fullOf, putOf, takeOf}
+use Rattle.timer.specs.Events.{ringOf, queueOf, placeOf, skipped, cleared, nought, nothing, emptyQueue, eventAt, eventOf, waitingFrom, waiting}
+use Rattle.timer.specs.Events.{withLast, without, fullOf, putOf, takeOf}
 use Rattle.timer.specs.Canonical.{Tidy, Canonical}
 use Rattle.timer.proofs.Places.{ring-is, place-apart, place-moves, skipped-some, skipped-all, cleared-length, cleared-stays, cleared-goes}
 use Rattle.timer.proofs.Waiting.{waiting-count}

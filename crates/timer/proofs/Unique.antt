@@ -2,16 +2,15 @@
 use mathlib.Core.Path.{_≡_, refl, sym, ap, _∙_}
 use mathlib.Core.List.{List}
 use mathlib.Core.Bool.{cond}
-use lib.Dec.{eqb}
 use Prim.Native.Nat.{ℕ}
+use lib.Dec.{eqb}
 use Rattle.whole.proofs.Unique.{unique}
 use Rattle.timer.specs.declared.Refusal.{Refusal}
 use Rattle.timer.specs.declared.Refusal.the-variants.{Done, SoundFull, NoEvent}
 use Rattle.timer.specs.declared.Event.{Event}
 use Rattle.timer.specs.declared.Queue.{Queue}
 use Rattle.timer.specs.declared.Bulk.{Bulk}
-use Rattle.timer.specs.Events.{numberOf, PutOutcome, putOutcome, TakeOutcome, takeOutcome}
-use Rattle.timer.specs.Events.{BulkOutcome, bulkOutcome}
+use Rattle.timer.specs.Events.{numberOf, PutOutcome, putOutcome, TakeOutcome, takeOutcome, BulkOutcome, bulkOutcome}
 
 -- the refusal of a number
 abbrev refusalOf : ℕ → Refusal

@@ -3,21 +3,21 @@ use mathlib.Core.Path.{_≡_, refl, sym, _∙_, ap}
 use mathlib.Core.Bool.{Bool, true, false}
 use mathlib.Core.List.{List, [], _∷_, _++_}
 use mathlib.Core.Logic.{_≢_}
-use lib.Dec.{ltb}
-use lib.Ieee.{nan}
-use lib.ListN.{length, take, drop, drop-of-length-le}
-use lib.Seq.{getD-set-same, getD-set-other}
 use Prim.Native.Nat.{ℕ, zero, suc, _+_, _-_, _<_, _≤_}
 use native.Mathlib.Omega.{arith}
 use native.Mathlib.Nat.{add-zero, add-suc, suc-add, zero-add, sub-zero, zero-sub, suc-sub-suc}
 use native.Mathlib.Numerals.{add-one}
+use lib.Dec.{ltb}
+use lib.Ieee.{nan}
+use lib.ListN.{length, take, drop, drop-of-length-le}
+use lib.Seq.{getD-set-same, getD-set-other}
 use borrow.Author.Tests.{le-leb, lt-leb, ltb-true, ltb-false, ne-eqb, eq-eqb}
 use Rattle.timer.specs.declared.Event.{Event}
 use Rattle.timer.specs.declared.Queue.{Queue}
 use Rattle.timer.specs.declared.Ring.{Ring}
 use Rattle.timer.specs.declared.Refusal.the-variants.{Done, SoundFull, NoEvent}
-use Rattle.timer.specs.Events.{ringOf, placeOf, skipped, cleared, queueOf, eventAt, eventOf, waitingFrom, waiting, nothing}
-use Rattle.timer.specs.Events.{withLast, without, putOf, putOutcome, takeOf, takeOutcome, fitOf, laid, bulkOf, bulkOutcome}
+use Rattle.timer.specs.Events.{ringOf, placeOf, skipped, cleared, queueOf, eventAt, eventOf, waitingFrom, waiting, nothing, withLast, without}
+use Rattle.timer.specs.Events.{putOf, putOutcome, takeOf, takeOutcome, fitOf, laid, bulkOf, bulkOutcome}
 use Rattle.timer.specs.Canonical.{Canonical}
 use Rattle.timer.proofs.Laid.{fits, laid-is}
 use Rattle.timer.proofs.Places.{ring-is, place-apart, place-moves, skipped-some, skipped-all, cleared-stays}

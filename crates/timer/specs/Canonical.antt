@@ -1,9 +1,9 @@
 -- The states that a run can leave: what waits and where it starts say all of a queue.
 use mathlib.Core.Path.{_≡_}
 use mathlib.Core.List.{List}
+use Prim.Native.Nat.{ℕ, _<_, _≤_}
 use lib.Ieee.{Float, nan}
 use lib.ListN.{length, getD}
-use Prim.Native.Nat.{ℕ, _<_, _≤_}
 use Rattle.timer.specs.declared.Ring.{Ring}
 use Rattle.timer.specs.declared.Queue.{Queue}
 use Rattle.timer.specs.Events.{placeOf, nought}

@@ -1,10 +1,10 @@
 -- Sound events that wait, oldest first: a list; and how 256 places in a ring hold it.
 use mathlib.Core.Bool.{Bool, cond}
 use mathlib.Core.List.{List, [], _∷_}
+use Prim.Native.Nat.{ℕ, zero, suc, _+_, _-_, _%_}
 use lib.Dec.{leb, ltb, eqb}
 use lib.Ieee.{Float, nan, binary64, ofBits}
 use lib.ListN.{length, getD, set, replicate}
-use Prim.Native.Nat.{ℕ, zero, suc, _+_, _-_, _%_}
 use Rattle.timer.specs.declared.Event.{Event}
 use Rattle.timer.specs.declared.Ring.{Ring}
 use Rattle.timer.specs.declared.Queue.{Queue}

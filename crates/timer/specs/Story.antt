@@ -1,9 +1,9 @@
 -- What a caller of the queue sees over a run: the events that it was not refused, and those that it was given.
 use mathlib.Core.Bool.{cond}
 use mathlib.Core.List.{List, [], _∷_, _++_}
+use Prim.Native.Nat.{ℕ}
 use lib.Dec.{eqb}
 use lib.ListN.{take}
-use Prim.Native.Nat.{ℕ}
 use Rattle.timer.specs.declared.Event.{Event}
 use Rattle.timer.specs.declared.Queue.{Queue}
 use Rattle.timer.specs.Events.{emptyQueue, putOf, takeOf, bulkOf}

@@ -3,28 +3,27 @@ use mathlib.Core.Path.{_≡_, refl, sym, ap, _∙_, subst}
 use mathlib.Core.Logic.{inl, inr}
 use mathlib.Core.Bool.{Bool, true, false, not, cond, true≢false}
 use Prim.Native.Nat.{ℕ, zero, suc, _+_, _-_, _*_, _/_, _%_, _^_, _≤_, _<_, min}
-use native.Mathlib.Nat.{le-of-lt, le-trans, le-of-eq, lt-of-le-of-lt, mod-eq-of-lt, mul-assoc, mul-lt-mul-of-pos-right, div-mul-le-self, div-lt-iff-lt-mul, le-div-iff-mul-le, div-eq-of-lt, lt-div-mul-add, mul-div-cancel, mul-div-mul-right, zero-div, suc-mul, add-comm}
+use native.Mathlib.Nat.{le-of-lt, le-trans, le-of-eq, lt-of-le-of-lt, mod-eq-of-lt, mul-assoc, mul-lt-mul-of-pos-right, div-mul-le-self}
+use native.Mathlib.Nat.{div-lt-iff-lt-mul, le-div-iff-mul-le, div-eq-of-lt, lt-div-mul-add, mul-div-cancel, mul-div-mul-right, zero-div, suc-mul}
+use native.Mathlib.Nat.{add-comm}
 use native.Mathlib.Omega.{arith}
-use lib.IntN.{ℤ, pos}
+use lib.IntN.{ℤ, pos, negℤ}
 use lib.Dec.{T, ltb}
 use lib.Pow.{pow-lt, pow-pos, pow-add}
-use lib.Ieee.{Float, nan, inf, fin, binary64, up, down, ofBits, toBits, fits, ne, toUnsigned, isNan}
+use lib.Ieee.{Float, nan, inf, fin, binary64, up, down, ofBits, toBits, fits, ne, toUnsigned, isNan, neg, toSigned, lt}
 use lib.Ieee.Compare.{differs-from-itself}
 use lib.Ieee.Fits.{down-pos}
 use lib.Ieee.Exact.{HasValue}
 use lib.Ieee.Nearest.{div-same}
 use lib.Ieee.Casts.{toUnsigned-lt}
-use Rattle.whole.specs.Cut.{Cut}
-use Rattle.whole.specs.Cut.{twos}
+use borrow.Author.Tests.{le-ltb, ltb-false}
+use Rattle.whole.specs.Cut.{Cut, twos}
 use Rattle.whole.specs.Bounds.{Clear, AtMost, WholePart}
 use Rattle.whole.proofs.Clear.{any, at-most-clear}
 use Rattle.whole.proofs.Round.{cut-within}
 use Rattle.whole.proofs.Bits.{lt-or-ge, lead, val, val-lt, val-le, value, signed-any, top-any, held}
-use borrow.Author.Tests.{le-ltb, ltb-false}
-use lib.Ieee.{neg, toSigned, lt}
-use lib.IntN.{negℤ}
 
-pub cut-value : (x : Float) (a c : ℕ) → 0 < c → HasValue x false a c → toUnsigned 64 x ≡ min (a / c) (2 ^ 64 - 1)
+cut-value : (x : Float) (a c : ℕ) → 0 < c → HasValue x false a c → toUnsigned 64 x ≡ min (a / c) (2 ^ 64 - 1)
 unfolding toUnsigned
 cut-value nan a c C h = absurd h
 cut-value (inf s) a c C h = absurd h

@@ -3,7 +3,8 @@ use mathlib.Core.Path.{_≡_, refl, sym, ap, _∙_, subst}
 use mathlib.Core.Logic.{inl, inr}
 use mathlib.Core.Bool.{Bool, true, false, not, _&&_, true≢false}
 use Prim.Native.Nat.{ℕ, _*_, _^_, _≤_, _<_}
-use native.Mathlib.Nat.{le-trans, le-of-eq, not-le-of-lt, mul-right-comm, mul-le-mul-right, le-of-mul-le-mul-right, lt-of-not-le, mul-lt-mul-of-pos-right, mul-comm}
+use native.Mathlib.Nat.{le-trans, le-of-eq, not-le-of-lt, mul-right-comm, mul-le-mul-right, le-of-mul-le-mul-right, lt-of-not-le}
+use native.Mathlib.Nat.{mul-lt-mul-of-pos-right, mul-comm}
 use native.Mathlib.Omega.{arith}
 use lib.Dec.{T, leb, lit<}
 use lib.Pow.{pow-pos}

@@ -1,21 +1,22 @@
 -- The order of floats. A value that the format holds is its own rounding, so adding what is not negative makes no value smaller.
 use mathlib.Core.Path.{_≡_, refl, sym, ap, _∙_, subst}
 use mathlib.Core.Bool.{Bool, true, false, not, _&&_, true≢false}
-use lib.Ieee.Positive.{through}
-use Rattle.whole.specs.Limits.{goodTime}
-use Rattle.whole.proofs.Clear.{any, any2, at-most-clear, cross}
-use Rattle.whole.proofs.Round.{good-at-most}
 use Prim.Native.Nat.{ℕ, zero, suc, _+_, _-_, _*_, _%_, _^_, _≤_, _<_, zero-le}
-use native.Mathlib.Nat.{le-trans, le-of-eq, le-of-lt, lt-of-lt-of-le, lt-of-le-of-lt, mul-one, one-mul, mul-assoc, mul-comm, mul-pos, mul-le-mul-right, mul-lt-mul-of-pos-right, le-add-right, add-comm, not-le-of-lt}
+use native.Mathlib.Nat.{le-trans, le-of-eq, le-of-lt, lt-of-lt-of-le, lt-of-le-of-lt, mul-one, one-mul, mul-assoc, mul-comm, mul-pos}
+use native.Mathlib.Nat.{mul-le-mul-right, mul-lt-mul-of-pos-right, le-add-right, add-comm, not-le-of-lt}
 use native.Mathlib.Omega.{arith}
+use lib.Ieee.Positive.{through}
 use lib.IntN.{ℤ, pos, negsuc}
 use lib.Dec.{T, leb, ltb, eqb, leb→le, ltb→lt, eqb→eq, lit<, lit≤}
 use lib.Pow.{pow-pos, pow-mono, pow-add, pow-lt, shl-lt}
 use lib.Ieee.{Float, nan, inf, fin, binary64, ofBits, up, down, round, add, le, lt, fits}
-use borrow.Author.Tests.{ltb-false}
 use lib.Ieee.Fits.{down-pos, and-l, and-r}
 use lib.Ieee.Exact.{HasValue, round-exact}
 use lib.Ieee.Order.{le-of-values, round-mono}
+use borrow.Author.Tests.{ltb-false}
+use Rattle.whole.specs.Limits.{goodTime}
+use Rattle.whole.proofs.Clear.{any, any2, at-most-clear, cross}
+use Rattle.whole.proofs.Round.{good-at-most}
 use Rattle.whole.specs.Bounds.{AtMost, Clear}
 
 same-power : (a b : ℕ) → 2 ^ a ≤ 2 ^ b → a ≤ b

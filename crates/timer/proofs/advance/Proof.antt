@@ -1,5 +1,5 @@
-use borrow.Author.Needs.{needs}
 use mathlib.Core.Path.{ap}
+use borrow.Author.Needs.{needs}
 use Rattle.timer.proofs.Cases.{advance-stands, advance-within, advance-counts}
 use Rattle.timer.proofs.advance.Statement.{statement}
 use Rattle.timer.proofs.advance.Tie as tie

@@ -1,8 +1,8 @@
-use borrow.Author.Needs.{needs}
-use native.Mathlib.Omega.{arith}
 use mathlib.Core.Path.{ap}
-use Rattle.timer.proofs.Cases.{counter-stands, counter-runs}
+use native.Mathlib.Omega.{arith}
 use native.Mathlib.Nat.{mod-lt}
+use borrow.Author.Needs.{needs}
+use Rattle.timer.proofs.Cases.{counter-stands, counter-runs}
 use Rattle.timer.proofs.counter.Statement.{statement}
 use Rattle.timer.proofs.counter.Tie as tie
 

@@ -1,6 +1,6 @@
 use borrow.Author.Needs.{needs}
-use Rattle.timer.specs.Timers.{rateOf}
 use Rattle.whole.proofs.Words.{has-some, has-not}
+use Rattle.timer.specs.Timers.{rateOf}
 use Rattle.timer.proofs.rate.Statement.{statement}
 use Rattle.timer.proofs.rate.Tie as tie
 

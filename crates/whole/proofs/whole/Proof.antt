@@ -1,10 +1,10 @@
 -- `whole::whole` meets its contract: each return is what the pattern's range is cut to.
-use borrow.Author.Needs.{needs}
-use native.Mathlib.Omega.{arith}
 use mathlib.Core.Path.{sym, subst}
 use mathlib.Core.Bool.{not}
+use native.Mathlib.Omega.{arith}
 use lib.Dec.{T}
 use lib.Ieee.{Float, binary64, toBits, isNan}
+use borrow.Author.Needs.{needs}
 use Rattle.whole.proofs.Cuts.{cut-by-bits, cut-nan, sign-set, fraction, dropped, moved, saturated}
 use Rattle.whole.proofs.Bits.{held, no-nan}
 use Rattle.whole.proofs.whole.Statement.{statement}

@@ -1,5 +1,5 @@
-use borrow.Author.Needs.{needs}
 use mathlib.Core.Path.{_∙_}
+use borrow.Author.Needs.{needs}
 use Rattle.whole.proofs.Cuts.{signed-least, signed-negative, signed-greatest, signed-within}
 use Rattle.whole.proofs.whole_signed.Statement.{statement}
 use Rattle.whole.proofs.whole_signed.Tie as tie

@@ -1,5 +1,5 @@
-use borrow.Author.Needs.{needs}
 use mathlib.Core.Path.{ap}
+use borrow.Author.Needs.{needs}
 use borrow.Author.Tests.{eq-eqb, ne-eqb}
 use Rattle.clock.specs.declared.Alarm.the-variants.{At}
 use Rattle.clock.specs.Rtc.{alarmOf}

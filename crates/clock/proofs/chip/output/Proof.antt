@@ -1,8 +1,8 @@
-use borrow.Author.Needs.{needs}
+use Prim.Native.Nat.{_/_, _^_, _*_, _-_}
 use native.Mathlib.Omega.{arith}
 use lib.Bits.{and-le-r}
+use borrow.Author.Needs.{needs}
 use Rattle.clock.proofs.Cases.{puts-first, puts-low, puts-high, puts-ticks}
-use Prim.Native.Nat.{_/_, _^_, _*_, _-_}
 use Rattle.clock.proofs.chip.output.Statement.{statement}
 use Rattle.clock.proofs.chip.output.Tie as tie
 

@@ -1,6 +1,6 @@
-use borrow.Author.Needs.{needs}
 use mathlib.Core.Path.{_∙_, ap}
 use Prim.Native.Nat.{ℕ}
+use borrow.Author.Needs.{needs}
 use Rattle.clock.specs.Sources.{signalOf}
 use Rattle.clock.specs.declared.Signal.{Signal}
 use Rattle.clock.proofs.sources.rtc_irq_advance.Statement.{statement}

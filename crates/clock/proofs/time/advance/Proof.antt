@@ -1,5 +1,5 @@
-use borrow.Author.Needs.{needs}
 use mathlib.Core.Path.{sym, _∙_}
+use borrow.Author.Needs.{needs}
 use Rattle.clock.proofs.Cases.{moves-not, moves-back, moves-over, moves}
 use Rattle.clock.proofs.time.advance.Statement.{statement}
 use Rattle.clock.proofs.time.advance.Tie as tie

@@ -1,5 +1,5 @@
-use borrow.Author.Needs.{needs}
 use mathlib.Core.Path.{sym, _∙_}
+use borrow.Author.Needs.{needs}
 use Rattle.clock.specs.Times.{pacedOf}
 use Rattle.clock.proofs.time.set_turbo.Statement.{statement}
 use Rattle.clock.proofs.time.set_turbo.Tie as tie

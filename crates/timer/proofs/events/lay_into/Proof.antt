@@ -1,11 +1,11 @@
 -- A walk of the MIR by hand, since records are structs behind a `&mut`. The records' borrow is opened once, before the loop, and closed
 -- once, after it. What a `&` owns can be had twice: before each call of `event_in` it is copied, and one copy is kept (`event-asks`).
 use mathlib.Core.Path.{_≡_, refl, sym, _∙_, ap, subst}
+use mathlib.Core.Bool.{Bool, true, false}
+use mathlib.Core.List.{[], _∷_, List}
 use Prim.Native.Nat.{ℕ, suc, _+_, _-_, _*_, _<_, _≤_, _^_}
 use native.Mathlib.Omega.{arith}
 use native.Mathlib.Numerals.{add-one}
-use mathlib.Core.Bool.{Bool, true, false}
-use mathlib.Core.List.{[], _∷_, List}
 use lib.Dec.{ltb, lit<}
 use lib.ListN.{length}
 use lib.WfN.{Nat·lt-wfRel}
@@ -22,10 +22,10 @@ use prog.Wp.{Heap, Out, Env, afterSeq, afterBlock, afterTurn, Calls, Loops, Wp, 
 use ghost.Atoms.{Atoms, sem}
 use contract.Monad.{Fun, fact}
 use contract.Running.{givenOf, tables, tablesOf}
-use types.Kit.{Given, Sq, runs, Item, ‵, raw, _⊛_, ⋆, some, later, anyQ, atRet, _$_, _∵_, !, qed, by, move, keep, drop, use0, use1, use2}
-use types.Kit.{split, join, pick, rewrite, fsplit, fjoin, suffices, frame, await, done}
-use types.Run.{look, init, store, store-raw, forget, stop, hop, fld, from, load, lit, and-then, no-more, of-opd, bin, assigns, assigns-last}
-use types.Run.{land, first, blocks, stays, leaves-loop, returns, enter, alloc1, alloc0, params1, pass1, pass0, free1, free0, exec}
+use types.Kit.{Given, Sq, runs, Item, ‵, raw, _⊛_, ⋆, some, later, anyQ, atRet, _$_, _∵_, !, qed, by, move, keep, drop, use0, use1, use2, split, join}
+use types.Kit.{pick, rewrite, fsplit, fjoin, suffices, frame, await, done}
+use types.Run.{look, init, store, store-raw, forget, stop, hop, fld, from, load, lit, and-then, no-more, of-opd, bin, assigns, assigns-last, land}
+use types.Run.{first, blocks, stays, leaves-loop, returns, enter, alloc1, alloc0, params1, pass1, pass0, free1, free0, exec}
 use types.Part.{whole, sub, look-in}
 use sound.Loop.{loop-rule}
 use sound.WpLaws.{FmC, fmOf, WpFn-mono}
@@ -41,15 +41,14 @@ use denote.Signature.{plain}
 use denote.Lend.{Held}
 use denote.Index.{row, place-is, elem-out, elem-put, opens-slice, closes-slice}
 use denote.Steps.{only, owned, peeks, heard, nothing}
-use denote.Struct.Laws as LL
 use denote.Triple.Statement.{Contract, Triple}
 use denote.Triple.Call.{calls-at}
 use denote.Triple.Clauses.{ensured, lasts}
 use denote.Triple.Entry.{onEntry}
 use denote.Triple.Spec.{Meets, tripleOf}
 use denote.Triple.Table.{entered, cited}
-use denote.Triple.Walked.{says, Stays, stay-none, stay-none-ref, stay-slice, walkOf, AllGo, goes-none, goes-none-ref, goes-slice, Walks}
-use denote.Triple.Walked.{ends-at, walked, walk-meets}
+use denote.Triple.Walked.{says, Stays, stay-none, stay-none-ref, stay-slice, walkOf, AllGo, goes-none, goes-none-ref, goes-slice, Walks, ends-at}
+use denote.Triple.Walked.{walked, walk-meets}
 use denote.Exit.{yes}
 use Rattle.timer.specs.declared.Event.{Event}
 use Rattle.timer.specs.declared.Ring.{Ring}
@@ -57,19 +56,20 @@ use Rattle.timer.specs.declared.Queue.{Queue}
 use Rattle.timer.specs.Events.{eventOf, fitOf, layOutcome, queueOf}
 use Rattle.timer.proofs.Arrays.{Floats, slot, Lent, ArrayRef, at-ref, Vals}
 use Rattle.timer.proofs.Laid.{over, over-none, over-length, over-laid, fits}
+use Rattle.timer.proofs.events.fit_in.Symbol.{name as #fit-in}
+use Rattle.timer.proofs.events.event_in.Symbol.{name as #event-in}
+use Rattle.timer.proofs.events.lay_into.Key.{name as #lay-into}
+use denote.Struct.Laws as LL
 use Rattle.timer.proofs.Ring as G
 use Rattle.timer.proofs.Ring.Laws as G′
 use Rattle.timer.proofs.Event as E
 use Rattle.timer.proofs.Event.Laws as E′
 use Rattle.timer.proofs.events.fit_in as fit
 use Rattle.timer.proofs.events.fit_in.Symbol as fit-def
-use Rattle.timer.proofs.events.fit_in.Symbol.{name as #fit-in}
 use Rattle.timer.proofs.events.fit_in.Met as fit-thm
 use Rattle.timer.proofs.events.event_in as event
 use Rattle.timer.proofs.events.event_in.Symbol as event-def
-use Rattle.timer.proofs.events.event_in.Symbol.{name as #event-in}
 use Rattle.timer.proofs.events.event_in.Met as event-thm
-use Rattle.timer.proofs.events.lay_into.Key.{name as #lay-into}
 use Rattle.timer.proofs.events.lay_into as f
 use Rattle.timer.proofs.events.lay_into.Statement as stated
 use Rattle.timer.proofs.events.lay_into.Code as code

@@ -1,5 +1,5 @@
-use borrow.Author.Needs.{needs}
 use mathlib.Core.Path.{sym}
+use borrow.Author.Needs.{needs}
 use Rattle.timer.specs.Events.{queueOf}
 use Rattle.timer.proofs.Waiting.{put-done, put-full}
 use Rattle.timer.proofs.events.put_in.Statement.{statement}

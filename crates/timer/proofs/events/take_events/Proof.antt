@@ -1,8 +1,8 @@
 -- A walk of the MIR by hand, with no loop. The queue's arrays are copied into locals, which are lent as `&` to `lay_into` for a lifetime
 -- that is made here. The records go to `lay_into` for good.
 use mathlib.Core.Path.{_≡_, refl, ap, subst}
-use Prim.Native.Nat.{ℕ}
 use mathlib.Core.List.{[], _∷_, List, map}
+use Prim.Native.Nat.{ℕ}
 use lib.Dec.{T}
 use lib.ListN.{length}
 use lib.Ieee.{Float, binary64}
@@ -18,10 +18,10 @@ use prog.Wp.{Heap, Calls, Loops, WpFn, Tables}
 use ghost.Atoms.{Atoms, sem}
 use contract.Monad.{Fun, fact}
 use contract.Running.{givenOf, tables, tablesOf}
-use types.Kit.{Given, Item, ‵, raw, _⊛_, ⋆, some, later, _$_, _∵_, !, qed, by, move, keep, drop, use0, use1, use2, split, join, pick}
-use types.Kit.{rewrite, fsplit, fjoin, fpick, fpack, feqL, suffices, frame, await, done}
-use types.Run.{look, init, forget, stop, hop, fld, from, load, addr, and-then, no-more, of-opd, assigns, land, returns, enter, alloc1}
-use types.Run.{alloc0, params1, pass1, pass0, free1, free0}
+use types.Kit.{Given, Item, ‵, raw, _⊛_, ⋆, some, later, _$_, _∵_, !, qed, by, move, keep, drop, use0, use1, use2, split, join, pick, rewrite, fsplit}
+use types.Kit.{fjoin, fpick, fpack, feqL, suffices, frame, await, done}
+use types.Run.{look, init, forget, stop, hop, fld, from, load, addr, and-then, no-more, of-opd, assigns, land, returns, enter, alloc1, alloc0}
+use types.Run.{params1, pass1, pass0, free1, free0}
 use types.Part.{whole, sub, look-in, agg}
 use types.Tokens.{lft-new, lft-end, lent-back}
 use sound.WpLaws.{FmC, fmOf, WpFn-mono}
@@ -38,7 +38,6 @@ use denote.Lend.{lends-shr}
 use denote.Floats.{float-makes}
 use denote.Struct.Field.{f64-field}
 use denote.Steps.{owned, peeks, heard, nothing}
-use denote.Struct.Laws as LL
 use denote.Triple.Statement.{Contract, Triple}
 use denote.Triple.Call.{calls-at}
 use denote.Triple.Clauses.{ensured, lasts}
@@ -54,6 +53,10 @@ use Rattle.timer.specs.declared.Bulk.{Bulk}
 use Rattle.timer.specs.Events.{layOf, layOutcome, dropOf, bulkOf, bulkOutcome}
 use Rattle.timer.proofs.Arrays.{Floats, Lent, ArrayRef, Vals}
 use Rattle.timer.proofs.Laid.{bulk-is}
+use Rattle.timer.proofs.events.lay_into.Symbol.{name as #lay-into}
+use Rattle.timer.proofs.events.drop_oldest.Symbol.{name as #drop-oldest}
+use Rattle.timer.proofs.events.take_events.Key.{name as #take-events}
+use denote.Struct.Laws as LL
 use Rattle.timer.proofs.Ring as G
 use Rattle.timer.proofs.Ring.Laws as G′
 use Rattle.timer.proofs.Event as E
@@ -63,13 +66,10 @@ use Rattle.timer.proofs.Bulk as K
 use Rattle.timer.proofs.Bulk.Laws as K′
 use Rattle.timer.proofs.events.lay_into as into
 use Rattle.timer.proofs.events.lay_into.Symbol as into-def
-use Rattle.timer.proofs.events.lay_into.Symbol.{name as #lay-into}
 use Rattle.timer.proofs.events.lay_into.Met as into-thm
 use Rattle.timer.proofs.events.drop_oldest as dropped
 use Rattle.timer.proofs.events.drop_oldest.Symbol as dropped-def
-use Rattle.timer.proofs.events.drop_oldest.Symbol.{name as #drop-oldest}
 use Rattle.timer.proofs.events.drop_oldest.Met as dropped-thm
-use Rattle.timer.proofs.events.take_events.Key.{name as #take-events}
 use Rattle.timer.proofs.events.take_events as f
 use Rattle.timer.proofs.events.take_events.Statement as stated
 use Rattle.timer.proofs.events.take_events.Code as code

@@ -1,10 +1,10 @@
-use borrow.Author.Needs.{needs}
-use native.Mathlib.Omega.{arith}
 use Prim.Native.Nat.{_^_}
+use native.Mathlib.Omega.{arith}
 use lib.Dec.{le→leb}
 use lib.Ieee.{inFloat}
-use Rattle.timer.specs.Sound.{toneOf}
+use borrow.Author.Needs.{needs}
 use Rattle.whole.proofs.Words.{has-some, has-not}
+use Rattle.timer.specs.Sound.{toneOf}
 use Rattle.timer.proofs.sound.tone.Statement.{statement}
 use Rattle.timer.proofs.sound.tone.Tie as tie
 

@@ -1,7 +1,7 @@
-use borrow.Author.Needs.{needs}
 use mathlib.Core.Path.{sym, ap, subst, _∙_}
 use lib.Dec.{T}
 use lib.Ieee.Compare.{differs-from-itself}
+use borrow.Author.Needs.{needs}
 use Rattle.whole.specs.Limits.{goodTurbo}
 use Rattle.whole.proofs.Bits.{no-nan, held}
 use Rattle.whole.proofs.limits.good_turbo.Statement.{statement}

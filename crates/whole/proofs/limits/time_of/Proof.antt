@@ -1,5 +1,5 @@
-use borrow.Author.Needs.{needs}
 use mathlib.Core.Path.{sym, _∙_}
+use borrow.Author.Needs.{needs}
 use Rattle.whole.specs.Limits.{timeOf}
 use Rattle.whole.proofs.Good.{time-no-nan}
 use Rattle.whole.proofs.limits.time_of.Statement.{statement}

@@ -1,5 +1,5 @@
-use borrow.Author.Needs.{needs}
 use mathlib.Core.Path.{sym, _∙_}
+use borrow.Author.Needs.{needs}
 use Rattle.whole.specs.Limits.{turboOf}
 use Rattle.whole.proofs.Good.{turbo-no-nan}
 use Rattle.whole.proofs.limits.turbo_of.Statement.{statement}
