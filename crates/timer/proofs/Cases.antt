@@ -4,15 +4,24 @@ use mathlib.Core.Bool.{Bool, true, false, not, cond, _||_}
 use mathlib.Core.Logic.{_≢_}
 use Prim.Native.Nat.{ℕ, _+_, _-_, _/_, _%_, _≤_, _<_}
 use lib.Bits.{bitAnd}
-use lib.Ieee.{Float, ne}
+use lib.Ieee.{Float, ne, binary64, ofBits, lt, toUnsigned}
 use borrow.Author.Tests.{lt-ltb, le-ltb}
 use Rattle.whole.specs.Words.{has}
 use Rattle.whole.proofs.Words.{has-some, has-not}
 use Rattle.timer.specs.declared.Timer.{Timer}
 use Rattle.timer.specs.declared.Tone.{Tone}
 use Rattle.timer.specs.declared.Sounded.the-variants.{Same, Change, SoundFull}
-use Rattle.timer.specs.Timers.{periodOf, rateOf, elapsedOf, counterOf, noted, advancedOf}
+use Rattle.timer.specs.Timers.{ticks, periodOf, rateOf, elapsedOf, counterOf, noted, advancedOf}
 use Rattle.timer.specs.Sound.{differOf, soundedOf}
+
+pub elapsed-some : (start now rate : Float) (n : ℕ) → lt (ofBits binary64 0) (ticks start now rate) ≡ true → n ≡ toUnsigned 64 (ticks start now rate)
+    → n ≡ elapsedOf start now rate
+unfolding elapsedOf
+elapsed-some start now rate n h e = rw h e
+
+pub elapsed-none : (start now rate : Float) → lt (ofBits binary64 0) (ticks start now rate) ≡ false → 0 ≡ elapsedOf start now rate
+unfolding elapsedOf
+elapsed-none start now rate h = rw h
 
 pub counter-stands : (t : Timer) (now : Float) (clock control reload stored : ℕ) → bitAnd control 0x2000 ≡ 0
     → stored ≡ counterOf t now clock control reload stored

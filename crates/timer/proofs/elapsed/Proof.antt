@@ -1,5 +1,5 @@
 use borrow.Author.Needs.{needs}
-use Rattle.timer.specs.Timers.{elapsedOf}
+use Rattle.timer.proofs.Cases.{elapsed-some, elapsed-none}
 use Rattle.timer.proofs.elapsed.Statement.{statement}
 use Rattle.timer.proofs.elapsed.Tie as tie
 
@@ -7,12 +7,12 @@ whole-requires : tie.Need-whole-requires
 whole-requires c κs = search needs
 
 returns : tie.Need-returns
-unfolding elapsedOf
-returns c = rw (c .before .if1 .taken) ((c .whole .ensures) .cast)
+returns c =
+    let a = c .before .before .args in
+    elapsed-some (a .start) (a .now) (a .rate) _ (c .before .if1 .taken) ((c .whole .ensures) .cast)
 
 returns-2 : tie.Need-returns-2
-unfolding elapsedOf
-returns-2 c = rw (c .if1 .left)
+returns-2 c = elapsed-none (c .before .args .start) (c .before .args .now) (c .before .args .rate) (c .if1 .left)
 
 pub elapsed-spec : {M : Type 1} → statement M
 elapsed-spec = tie.close (tie.spec whole-requires returns returns-2)
