@@ -13,12 +13,10 @@ use lib.Ieee.{Float, binary64, ofBits, lt, toSigned}
 use lib.Ieee.Casts.{toSigned-in}
 use borrow.Author.Tests.{eq-eqb, ne-eqb, le-leb, lt-leb}
 use Rattle.whole.specs.Cut.{twos}
-use Rattle.whole.specs.Limits.{goodTime, timeOf, turboOf}
-use Rattle.whole.specs.declared.Time.{Time}
-use Rattle.whole.specs.declared.Time.the-variants.{At, BadTime as NoTime}
-use Rattle.whole.specs.declared.Turbo.{Turbo}
-use Rattle.whole.specs.declared.Turbo.the-variants.{By, BadTurbo as NoTurbo}
-use Rattle.whole.proofs.Numbers.{time-at, time-bad, turbo-at, turbo-bad}
+use Rattle.whole.specs.Limits.{goodTime, goodTurbo, timeOf, turboOf}
+use Rattle.whole.specs.declared.Checked.{Checked}
+use Rattle.whole.specs.declared.Checked.the-variants.{Good, Bad}
+use Rattle.whole.proofs.Numbers.{checked-good, checked-bad}
 use Rattle.whole.specs.Words.{has}
 use Rattle.whole.proofs.Words.{has-some, has-not}
 use Rattle.clock.specs.declared.Moved.{Moved}
@@ -110,16 +108,16 @@ module _ (latch : Latch) (regs : List ℕ) (game : Float) (address word cmd : �
   commands-nothing c d = rw (has-not cmd 1 c, has-not cmd 2 d)
 
 -- ---- from bits: what is read is the float of the pattern, and what is not is refused as it would be
-pub moves-from : (s : Times) (bits : ℕ) (t : Time) (x : Float) (r : Moved) → t ≡ timeOf bits → t ≡ At x → r ≡ movedOf s x → r ≡ movedOf s (ofBits binary64 bits)
-moves-from s bits t x r h e k = k ∙ ap (movedOf s) (time-at bits x (sym e ∙ h))
+module _ (s : Times) (bits : ℕ) (t : Checked) where
+  pub moves-from : (x : Float) (r : Moved) → t ≡ timeOf bits → t ≡ Good x → r ≡ movedOf s x → r ≡ movedOf s (ofBits binary64 bits)
+  moves-from x r h e k = k ∙ ap (movedOf s) (checked-good (goodTime (ofBits binary64 bits)) bits x (sym e ∙ h))
 
-pub moves-from-none : (s : Times) (bits : ℕ) (t : Time) → t ≡ timeOf bits → t ≡ NoTime → BadTime ≡ movedOf s (ofBits binary64 bits)
-moves-from-none s bits t h e = moves-not s (ofBits binary64 bits) (time-bad bits (sym e ∙ h))
+  pub moves-from-none : t ≡ timeOf bits → t ≡ Bad → BadTime ≡ movedOf s (ofBits binary64 bits)
+  moves-from-none h e = moves-not s (ofBits binary64 bits) (checked-bad (goodTime (ofBits binary64 bits)) bits (sym e ∙ h))
 
-pub paces-from : (s : Times) (bits : ℕ) (t : Turbo) (x : Float) (r : Paced) → t ≡ turboOf bits → t ≡ By x → r ≡ pacedOf s x
-    → r ≡ pacedOf s (ofBits binary64 bits)
-paces-from s bits t x r h e k = k ∙ ap (pacedOf s) (turbo-at bits x (sym e ∙ h))
+  pub paces-from : (x : Float) (r : Paced) → t ≡ turboOf bits → t ≡ Good x → r ≡ pacedOf s x → r ≡ pacedOf s (ofBits binary64 bits)
+  paces-from x r h e k = k ∙ ap (pacedOf s) (checked-good (goodTurbo (ofBits binary64 bits)) bits x (sym e ∙ h))
 
-pub paces-from-none : (s : Times) (bits : ℕ) (t : Turbo) → t ≡ turboOf bits → t ≡ NoTurbo → BadTurbo ≡ pacedOf s (ofBits binary64 bits)
-unfolding pacedOf
-paces-from-none s bits t h e = rw (turbo-bad bits (sym e ∙ h))
+  pub paces-from-none : t ≡ turboOf bits → t ≡ Bad → BadTurbo ≡ pacedOf s (ofBits binary64 bits)
+  unfolding pacedOf
+  paces-from-none h e = rw (checked-bad (goodTurbo (ofBits binary64 bits)) bits (sym e ∙ h))

@@ -3,7 +3,7 @@ use mathlib.Core.Path.{_≡_, sym, ap, _∙_}
 use mathlib.Core.Bool.{false, cond}
 use mathlib.Core.List.{List, [], _∷_}
 use Prim.Native.Nat.{ℕ, zero, suc, _+_, _*_, _%_, _^_, _≤_, _<_}
-use native.Mathlib.Nat.{le-trans, le-of-eq, lt-of-le-of-lt, mod-eq-of-lt, mod-lt}
+use native.Mathlib.Nat.{le-trans, le-of-eq, lt-of-le-of-lt, lt-of-lt-of-le, mod-eq-of-lt, mod-lt}
 use native.Mathlib.Omega.{arith}
 use lib.IntN.{pos}
 use lib.Dec.{T, eqb, lit<, lit≤}
@@ -43,20 +43,20 @@ module _ (latch : Latch) (game : Float) (p : Past (latch .since) game) (g : AtMo
   passed-small : toUnsigned 64 (passed latch game) ≤ 2 ^ 46
   passed-small = cut-at-most (passed latch game) (2 ^ 46) passed-limit
 
+  sum-limit : latch .base < 2 ^ 48 → latch .base + toUnsigned 64 (passed latch game) < 2 ^ 63
+  sum-limit b = small (latch .base) (toUnsigned 64 (passed latch game)) b passed-small
+    where
+      small : (a n : ℕ) → a < 2 ^ 48 → n ≤ 2 ^ 46 → a + n < 2 ^ 63
+      small a n h k = omega arith
+
   pub ticks-exact : latch .base < 2 ^ 48 → ticksOf latch game ≡ latch .base + toUnsigned 64 (passed latch game)
   unfolding ticksOf
   ticks-exact b =
       ap (λ (z : ℕ). (latch .base + z) % 2 ^ 64) (ap twos (signed-same (passed latch game) 46 (lit< tt) passed-limit))
-      ∙ mod-eq-of-lt (small (latch .base) (toUnsigned 64 (passed latch game)) b passed-small)
-    where
-      small : (a n : ℕ) → a < 2 ^ 48 → n ≤ 2 ^ 46 → a + n < 2 ^ 64
-      small a n h k = omega arith
+      ∙ mod-eq-of-lt (lt-of-lt-of-le (sum-limit b) (lit≤ tt))
 
   pub ticks-limit : latch .base < 2 ^ 48 → ticksOf latch game < 2 ^ 63
-  ticks-limit b = lt-of-le-of-lt (le-of-eq (ticks-exact b)) (small (latch .base) (toUnsigned 64 (passed latch game)) b passed-small)
-    where
-      small : (a n : ℕ) → a < 2 ^ 48 → n ≤ 2 ^ 46 → a + n < 2 ^ 63
-      small a n h k = omega arith
+  ticks-limit b = lt-of-le-of-lt (le-of-eq (ticks-exact b)) (sum-limit b)
 
 pub ticks-go-on : (latch : Latch) (game later : Float) → latch .base < 2 ^ 48 → Past (latch .since) game → AtMost game (2 ^ 31)
     → AtMost later (2 ^ 31) → T (le game later)

@@ -5,8 +5,7 @@ ghost use Rattle.clock.specs.Times.{freshTimes, movedOf, pacedOf};
 use crate::Moved;
 use crate::Paced;
 use crate::Times;
-use whole::Time;
-use whole::Turbo;
+use whole::Checked;
 
 // The times as they are after a wipe.
 pub fn fresh() -> Times
@@ -58,8 +57,8 @@ pub fn advance_bits(s: Times, bits: u64) -> Moved
 {
     let to = whole::limits::time_of(bits);
     match to {
-        Time::At(x) => advance(s, x),
-        Time::BadTime => Moved::BadTime,
+        Checked::Good(x) => advance(s, x),
+        Checked::Bad => Moved::BadTime,
     }
 }
 
@@ -68,7 +67,7 @@ pub fn turbo_bits(s: Times, bits: u64) -> Paced
 {
     let to = whole::limits::turbo_of(bits);
     match to {
-        Turbo::By(x) => set_turbo(s, x),
-        Turbo::BadTurbo => Paced::BadTurbo,
+        Checked::Good(x) => set_turbo(s, x),
+        Checked::Bad => Paced::BadTurbo,
     }
 }

@@ -11,21 +11,10 @@ use Rattle.whole.specs.Words.{has}
 use Rattle.whole.proofs.Clear.{at-most-clear}
 use Rattle.whole.proofs.Round.{ofInt-at-most, ofInt-at-least, div-at-most}
 use Rattle.whole.proofs.Order.{le-of-not-lt}
-use Rattle.timer.specs.declared.Tone.{Tone}
 use Rattle.timer.specs.Timers.{periodOf, rateOf}
+use Rattle.timer.specs.Within.{low, high, Held}
 use Rattle.timer.specs.Sound.{clampOf, toneOf, silence}
 use Rattle.timer.proofs.Limits.{rate-at-most}
-
-abbrev low : Float
-low = ofBits binary64 0x3FA9_9999_9999_999A
-
-abbrev high : Float
-high = ofBits binary64 0x3FEE_6666_6666_6666
-
-pub record Held (tone : Tone) : Type 0 where
-  pub frequency : AtMost (tone .frequency) (2 ^ 31)
-  pub from : T (le low (tone .duty))
-  pub to : T (le (tone .duty) high)
 
 clamped : (x : Float) → Clear x → T (le low (clampOf x)) × T (le (clampOf x) high)
 unfolding clampOf ofBits le

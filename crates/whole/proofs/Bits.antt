@@ -12,7 +12,7 @@ use lib.Pow.{pow-pos, pow-mono, pow-add}
 use lib.Count.{trailingZeros}
 use lib.Ieee.{minus, Float, nan, inf, fin, binary64, down, odd, ofFields, ofBits, toBits, fits, ne, isNan}
 use lib.Ieee.Bits.{is-false, is-true, cond-no, ofBits-toBits}
-use lib.Ieee.Compare.{nan-differs}
+use lib.Ieee.Compare.{differs-from-itself, nan-differs}
 use lib.Ieee.Exact.{HasValue, odd-sign}
 
 pub lt-or-ge : (a b : ℕ) → (a < b) ⊎ (b ≤ a)
@@ -187,3 +187,8 @@ unfolding isNan
 no-nan nan h = absurd (true≢false (sym nan-differs ∙ h))
 no-nan (inf s) h = tt
 no-nan (fin s m e) h = tt
+
+-- all ones are a NaN's pattern
+pub ones-nan : (x : Float) → ne x x ≡ true → ofBits binary64 0xFFFF_FFFF_FFFF_FFFF ≡ x
+unfolding ofBits
+ones-nan x h = sym (differs-from-itself x (subst T (sym h) tt))

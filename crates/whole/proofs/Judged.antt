@@ -1,10 +1,10 @@
 -- Each edge is refused or not as the table says.
 use mathlib.Core.Path.{refl}
 use lib.Ieee.{ofBits}
-use Rattle.whole.specs.Limits.{timeOf, turboOf}
+use Rattle.whole.specs.Limits.{checkedOf}
 use Rattle.whole.specs.Table.{All}
 use Rattle.whole.specs.Edges.{edges}
 
 pub judged : All edges
-unfolding timeOf turboOf ofBits
+unfolding checkedOf ofBits
 judged = (refl, (refl, (refl, (refl, (refl, (refl, (refl, (refl, (refl, (refl, (refl, (refl, (refl, (refl, (refl, (refl, tt))))))))))))))))

@@ -4,10 +4,8 @@ use mathlib.Core.Bool.{Bool, true, false, cond, _&&_}
 use Prim.Native.Nat.{ℕ, _*_}
 use lib.Dec.{leb}
 use lib.Ieee.{Float, nan, inf, fin, binary64, up, down, ofBits}
-use Rattle.whole.specs.declared.Time.{Time}
-use Rattle.whole.specs.declared.Time.the-variants.{At, BadTime}
-use Rattle.whole.specs.declared.Turbo.{Turbo}
-use Rattle.whole.specs.declared.Turbo.the-variants.{By, BadTurbo}
+use Rattle.whole.specs.declared.Checked.{Checked}
+use Rattle.whole.specs.declared.Checked.the-variants.{Good, Bad}
 
 -- finite, the sign bit clear, and at most n
 abbrev pub upTo : ℕ → Float → Bool
@@ -29,17 +27,23 @@ goodTime x = upTo 2097152 x
 abbrev pub goodTurbo : Float → Bool
 goodTurbo x = downTo 1024 x && upTo 1024 x
 
-unfoldable pub timeOf : ℕ → Time
-timeOf bits = cond (goodTime (ofBits binary64 bits)) (At (ofBits binary64 bits)) BadTime
+-- a float from its bits, where it is good
+unfoldable pub checkedOf : Bool → ℕ → Checked
+checkedOf good bits = cond good (Good (ofBits binary64 bits)) Bad
 
-unfoldable pub turboOf : ℕ → Turbo
-turboOf bits = cond (goodTurbo (ofBits binary64 bits)) (By (ofBits binary64 bits)) BadTurbo
+abbrev pub timeOf : ℕ → Checked
+timeOf bits = checkedOf (goodTime (ofBits binary64 bits)) bits
 
--- the numbers of the refusals, 0 being done
-abbrev pub timeRefusal : Time → ℕ
-timeRefusal (At x) = 0
-timeRefusal BadTime = 1
+abbrev pub turboOf : ℕ → Checked
+turboOf bits = checkedOf (goodTurbo (ofBits binary64 bits)) bits
 
-abbrev pub turboRefusal : Turbo → ℕ
-turboRefusal (By x) = 0
-turboRefusal BadTurbo = 2
+-- the numbers of the refusals, 0 being done: 1 BadTime, 2 BadTurbo
+abbrev pub refusalOf : ℕ → Checked → ℕ
+refusalOf n (Good x) = 0
+refusalOf n Bad = n
+
+abbrev pub timeRefusal : Checked → ℕ
+timeRefusal c = refusalOf 1 c
+
+abbrev pub turboRefusal : Checked → ℕ
+turboRefusal c = refusalOf 2 c

@@ -5,16 +5,10 @@ ghost use Rattle.whole.specs.Cut.{Cut, twos};
 
 pub mod limits;
 
-// A time from its bits, or refusal 1.
-pub enum Time {
-    At(f64),
-    BadTime,
-}
-
-// A turbo from its bits, or refusal 2.
-pub enum Turbo {
-    By(f64),
-    BadTurbo,
+// A float from its bits, or a refusal: 1 of a time, 2 of a turbo.
+pub enum Checked {
+    Good(f64),
+    Bad,
 }
 
 // x cut to a whole number toward zero, as Rust's `x as u64`: 0 for a NaN and for what is negative,

@@ -2,8 +2,7 @@
 ghost use mathlib.Core.Path.{_≡_};
 ghost use lib.Ieee.{ofBits, binary64};
 ghost use Rattle.whole.specs.Limits.{goodTime, goodTurbo, timeOf, turboOf};
-use crate::Time;
-use crate::Turbo;
+use crate::Checked;
 
 // The patterns of floats with a clear sign are in the floats' order, and those of infinity and of
 // NaNs above all others; a set sign bit is above those. So one comparison refuses them all.
@@ -19,40 +18,43 @@ fn turbo_bits(bits: u64) -> bool
     (bits >= 0x3F50_0000_0000_0000) & (bits <= 0x4090_0000_0000_0000)
 }
 
-// A NaN has no one pattern, so it is refused before its bits are read.
+// The bits of x. A NaN has no one pattern, so it gets one of its own.
+fn pattern(x: f64) -> u64
+    ensures { λ r. ⌜ ofBits binary64 r ≡ x ⌝ }
+{
+    if x != x {
+        return u64::MAX;
+    }
+    f64::to_bits(x)
+}
+
 pub fn good_time(x: f64) -> bool
     ensures { λ r. ⌜ r ≡ goodTime x ⌝ }
 {
-    if x != x {
-        return false;
-    }
-    time_bits(f64::to_bits(x))
+    time_bits(pattern(x))
 }
 
 pub fn good_turbo(x: f64) -> bool
     ensures { λ r. ⌜ r ≡ goodTurbo x ⌝ }
 {
-    if x != x {
-        return false;
-    }
-    turbo_bits(f64::to_bits(x))
+    turbo_bits(pattern(x))
 }
 
 // No NaN's pattern becomes a float: the test comes first.
-pub fn time_of(bits: u64) -> Time
+pub fn time_of(bits: u64) -> Checked
     ensures { λ r. ⌜ r ≡ timeOf bits ⌝ }
 {
     if time_bits(bits) {
-        return Time::At(f64::from_bits(bits));
+        return Checked::Good(f64::from_bits(bits));
     }
-    Time::BadTime
+    Checked::Bad
 }
 
-pub fn turbo_of(bits: u64) -> Turbo
+pub fn turbo_of(bits: u64) -> Checked
     ensures { λ r. ⌜ r ≡ turboOf bits ⌝ }
 {
     if turbo_bits(bits) {
-        return Turbo::By(f64::from_bits(bits));
+        return Checked::Good(f64::from_bits(bits));
     }
-    Turbo::BadTurbo
+    Checked::Bad
 }

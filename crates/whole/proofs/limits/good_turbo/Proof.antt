@@ -1,24 +1,17 @@
-use mathlib.Core.Path.{sym, ap, subst, _∙_}
-use lib.Dec.{T}
-use lib.Ieee.Compare.{differs-from-itself}
+use mathlib.Core.Path.{ap, _∙_}
 use borrow.Author.Needs.{needs}
 use Rattle.whole.specs.Limits.{goodTurbo}
-use Rattle.whole.proofs.Bits.{no-nan, held}
 use Rattle.whole.proofs.limits.good_turbo.Statement.{statement}
 use Rattle.whole.proofs.limits.good_turbo.Tie as tie
 
-returns : tie.Need-returns
-returns c = sym (ap goodTurbo (differs-from-itself (c .before .args .x) (subst T (sym (c .if1 .taken)) tt)))
-
-float-to-bits-turbo-bits : tie.Need-float-to-bits-turbo-bits
-float-to-bits-turbo-bits c = no-nan (c .before .args .x) (c .if1 .left)
+pattern-requires : tie.Need-pattern-requires
+pattern-requires c κs = search needs
 
 turbo-bits-requires : tie.Need-turbo-bits-requires
 turbo-bits-requires c κs = search needs
 
-returns-2 : tie.Need-returns-2
-returns-2 c = (c .turbo-bits .ensures) ∙ ap goodTurbo (held (c .before .before .args .x) (c .before .before .good .0 .1))
+returns : tie.Need-returns
+returns c = (c .turbo-bits .ensures) ∙ ap goodTurbo (c .before .pattern .ensures)
 
 pub good-turbo-spec : {M : Type 1} → statement M
-good-turbo-spec =
-    tie.close (tie.spec returns float-to-bits-turbo-bits turbo-bits-requires returns-2)
+good-turbo-spec = tie.close (tie.spec pattern-requires turbo-bits-requires returns)
