@@ -1,0 +1,72 @@
+use mathlib.Core.Path.{sym, _∙_}
+use native.Mathlib.Omega.{arith}
+use Rattle.panel.proofs.Cases.{argued-fourth, argued-kept, argued-full}
+use borrow.Author.Needs.{needs}
+use Rattle.panel.proofs.args.argument.Statement.{statement}
+use Rattle.panel.proofs.args.argument.Tie as tie
+use Rattle.panel.proofs.args.argument.Reads as reads
+use Rattle.panel.proofs.args.argument.Lts as lts
+use Rattle.panel.proofs.args.aim.Reads as aim-reads
+use Rattle.panel.proofs.args.code.Reads as code-reads
+use Rattle.panel.proofs.args.wide.Reads as wide-reads
+
+cast-args : tie.Need-cast-args
+cast-args c = search needs
+
+array-write-args : tie.Need-array-write-args
+array-write-args c = search needs
+
+array-read-wide : tie.Need-array-read-wide
+array-read-wide c = search needs
+
+array-read-wide-2 : tie.Need-array-read-wide-2
+array-read-wide-2 c = search needs
+
+wide-requires : tie.Need-wide-requires
+wide-requires c κs = search needs
+
+array-read-wide-3 : tie.Need-array-read-wide-3
+array-read-wide-3 c = search needs
+
+array-read-wide-4 : tie.Need-array-read-wide-4
+array-read-wide-4 c = search needs
+
+wide-requires-2 : tie.Need-wide-requires-2
+wide-requires-2 c κs = search needs
+
+code-requires : tie.Need-code-requires
+code-requires c κs = search needs
+
+aim-requires : tie.Need-aim-requires
+aim-requires c κs = search needs
+
+returns : tie.Need-returns
+returns c = (cc) ∙ sym (argued-fourth _ _ (omega arith))
+
+add-t29 : tie.Need-add-t29
+add-t29 c = search needs
+
+returns-2 : tie.Need-returns-2
+returns-2 c = sym (argued-kept _ _ (omega arith) (omega arith))
+
+returns-3 : tie.Need-returns-3
+returns-3 c = sym (argued-full _ _ (omega arith))
+
+pub argument-spec : {M : Type 1} → statement M
+argument-spec =
+    tie.close
+    (tie.spec
+    cast-args
+    array-write-args
+    array-read-wide
+    array-read-wide-2
+    wide-requires
+    array-read-wide-3
+    array-read-wide-4
+    wide-requires-2
+    code-requires
+    aim-requires
+    returns
+    add-t29
+    returns-2
+    returns-3)

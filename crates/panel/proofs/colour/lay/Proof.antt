@@ -1,0 +1,39 @@
+use borrow.Author.Needs.{needs}
+use Rattle.panel.proofs.colour.lay.Statement.{statement}
+use Rattle.panel.proofs.colour.lay.Tie as tie
+use Rattle.panel.proofs.colour.lay.Reads as reads
+use Rattle.panel.proofs.colour.lay.Lts as lts
+use Rattle.panel.proofs.glass.store.Reads as store-reads
+
+store-requires : tie.Need-store-requires
+store-requires c κs = search needs
+
+add-store : tie.Need-add-store
+add-store c = search needs
+
+store-requires-2 : tie.Need-store-requires-2
+store-requires-2 c κs = search needs
+
+add-store-2 : tie.Need-add-store-2
+add-store-2 c = search needs
+
+store-requires-3 : tie.Need-store-requires-3
+store-requires-3 c κs = search needs
+
+same-length : tie.Need-same-length
+same-length c = search needs
+
+returns : tie.Need-returns
+returns c = cc
+
+pub lay-spec : {M : Type 1} → statement M
+lay-spec =
+    tie.close
+    (tie.spec
+    store-requires
+    add-store
+    store-requires-2
+    add-store-2
+    store-requires-3
+    same-length
+    returns)

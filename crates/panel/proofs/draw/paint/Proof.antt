@@ -1,0 +1,36 @@
+use mathlib.Core.Path.{sym, _∙_}
+use Rattle.panel.proofs.Cases.{drawing-is, penned-first, penned-second, inked-first, inked-second}
+use borrow.Author.Needs.{needs}
+use Rattle.panel.proofs.draw.paint.Statement.{statement}
+use Rattle.panel.proofs.draw.paint.Tie as tie
+use Rattle.panel.proofs.draw.paint.Reads as reads
+use Rattle.panel.proofs.draw.paint.Lts as lts
+use Rattle.panel.proofs.draw.next.Reads as next-reads
+use Rattle.panel.proofs.draw.place.Reads as place-reads
+
+enum-told : tie.Need-enum-told
+enum-told c = search needs
+
+enum-known-half : tie.Need-enum-known-half
+enum-known-half c = search needs
+
+place-requires : tie.Need-place-requires
+place-requires c κs = search needs
+
+next-requires : tie.Need-next-requires
+next-requires c κs = search needs
+
+returns : tie.Need-returns
+returns c = drawing-is (sym (penned-first _ _ _ (search needs))) (sym (inked-first _ _ _ (search needs)))
+
+same-length : tie.Need-same-length
+same-length c = search needs
+
+returns-2 : tie.Need-returns-2
+returns-2 c = let h = c .before .before .before .before .before .before .half .given .1 in
+    drawing-is ((cc) ∙ sym (penned-second _ _ _ _ h)) ((cc) ∙ sym (inked-second _ _ _ _ h))
+
+pub paint-spec : {M : Type 1} → statement M
+paint-spec =
+    tie.close
+    (tie.spec enum-told enum-known-half place-requires next-requires returns same-length returns-2)

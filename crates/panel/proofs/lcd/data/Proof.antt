@@ -1,0 +1,33 @@
+use mathlib.Core.Path.{sym, _∙_}
+use Rattle.panel.proofs.Cases.{draws, argues}
+use borrow.Author.Needs.{needs}
+use Rattle.panel.proofs.lcd.data.Statement.{statement}
+use Rattle.panel.proofs.lcd.data.Tie as tie
+use Rattle.panel.proofs.lcd.data.Reads as reads
+use Rattle.panel.proofs.lcd.data.Lts as lts
+use Rattle.panel.proofs.args.argument.Reads as argument-reads
+use Rattle.panel.proofs.args.code.Reads as code-reads
+use Rattle.panel.proofs.draw.paint.Reads as paint-reads
+
+code-requires : tie.Need-code-requires
+code-requires c κs = search needs
+
+paint-requires : tie.Need-paint-requires
+paint-requires c κs = search needs
+
+same-length : tie.Need-same-length
+same-length c = search needs
+
+returns : tie.Need-returns
+returns c = draws _ _ _ _ _ (sym (c .before .before .before .before .before .before .before .before .code .ensures) ∙ (c .before .before .before .before .before .before .before .if1 .taken)) (c .before .before .paint .ensures)
+
+argument-requires : tie.Need-argument-requires
+argument-requires c κs = search needs
+
+returns-2 : tie.Need-returns-2
+returns-2 c = argues _ _ _ _ (λ e. (c .before .if1 .left) ((c .before .before .code .ensures) ∙ e)) (c .argument .ensures)
+
+pub data-spec : {M : Type 1} → statement M
+data-spec =
+    tie.close
+    (tie.spec code-requires paint-requires same-length returns argument-requires returns-2)

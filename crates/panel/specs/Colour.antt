@@ -1,0 +1,39 @@
+-- The screen as 8-bit colours, as document 000 has it (rgb).
+use Prim.Native.Nat.{ℕ, _+_, _*_, _/_, _%_, _^_}
+use mathlib.Core.List.{List, [], _∷_}
+use lib.Bits.{bitAnd}
+use lib.ListN.{getD, set}
+use Rattle.panel.specs.declared.Colours.{Colours}
+
+-- (v >> 11 & 0x1F) * 255 / 31, (v >> 5 & 0x3F) * 255 / 63, (v & 0x1F) * 255 / 31
+unfoldable pub parted : ℕ → Colours
+parted v =
+    record {
+      r = bitAnd (v / 2 ^ 11) 0x1F * 255 / 31;
+      g = bitAnd (v / 2 ^ 5) 0x3F * 255 / 63;
+      b = bitAnd v 0x1F * 255 / 31;
+    }
+
+-- u16::from_le_bytes
+abbrev pub fromLe : ℕ → ℕ → ℕ
+fromLe lo hi = hi * 256 + lo
+
+-- three bytes for each two; a byte that is left over is no pixel
+unfoldable pub rgbOf : List ℕ → List ℕ
+rgbOf [] = []
+rgbOf (lo ∷ []) = []
+rgbOf (lo ∷ hi ∷ rest) = parted (fromLe lo hi) .r ∷ parted (fromLe lo hi) .g ∷ parted (fromLe lo hi) .b ∷ rgbOf rest
+
+-- pixel k modulo 16,384
+abbrev pub pixelAt : List ℕ → ℕ → Colours
+pixelAt fb k = parted (fromLe (getD fb (k % 16384 * 2) 0) (getD fb (k % 16384 * 2 + 1) 0))
+
+-- a list laid over another, as far as that reaches
+unfoldable pub over : List ℕ → List ℕ → List ℕ
+over [] out = out
+over (x ∷ xs) [] = []
+over (x ∷ xs) (o ∷ out) = x ∷ over xs out
+
+-- a pixel's three bytes from place i on
+abbrev pub triple : List ℕ → ℕ → Colours → List ℕ
+triple out i c = set (set (set out i (c .r)) (i + 1) (c .g)) (i + 2) (c .b)

@@ -1,0 +1,54 @@
+// The pixels' colours, 8 bits each.
+ghost use mathlib.Core.Path.{_≡_};
+ghost use Prim.Native.Nat.{_+_, _<_, _^_};
+ghost use Rattle.panel.specs.Colour.{parted, pixelAt, triple, over, rgbOf};
+use crate::Colours;
+use crate::args::wide;
+use crate::glass::load;
+use crate::glass::store;
+
+// Five bits of red, six of green, five of blue.
+pub fn parts(v: u16) -> Colours
+    ensures { λ r. ⌜ r ≡ parted v ⌝ }
+{
+    let w = v as u32;
+    Colours {
+        r: (w / 2048 % 32 * 255 / 31) as u8,
+        g: (w / 32 % 64 * 255 / 63) as u8,
+        b: (w % 32 * 255 / 31) as u8,
+    }
+}
+
+// The colours of pixel k modulo 16,384.
+pub fn at(fb: &[u8], k: u32) -> Colours
+    ensures { λ r. ⌜ r ≡ pixelAt (now (fb .entry)) k ⌝ }
+{
+    let i = (k % 16384) as usize * 2;
+    parts(wide(load(fb, i + 1), load(fb, i)))
+}
+
+// The three bytes of a pixel.
+fn lay(out: &mut [u8], i: usize, c: Colours)
+    requires { ⌜ i + 2 < 2 ^ 64 ⌝ }
+    ensures { λ r. ⌜ now (out .exit) ≡ triple (now (out .entry)) i c ⌝ }
+{
+    store(out, i, c.r);
+    store(out, i + 1, c.g);
+    store(out, i + 2, c.b);
+}
+
+// Every whole pixel, as far as `out` has room.
+pub fn screen(fb: &[u8], out: &mut [u8])
+    ensures { λ r. ⌜ now (out .exit) ≡ over (rgbOf (now (fb .entry))) (now (out .entry)) ⌝ }
+{
+    let n = fb.len() / 2;
+    let mut i = 0;
+    while i < n {
+        lay(
+            out,
+            i * 3,
+            parts(wide(load(fb, i * 2 + 1), load(fb, i * 2))),
+        );
+        i += 1;
+    }
+}

@@ -1,0 +1,70 @@
+// Pixel data: the bytes after 0x2C.
+ghost use mathlib.Core.Path.{_≡_};
+ghost use Rattle.panel.specs.Lcd.{put, nextPen, penned, inked};
+ghost use Rattle.panel.specs.Entries.{drawing};
+use crate::Held;
+use crate::Pen;
+use crate::Window;
+use crate::glass::store;
+
+// A pixel, high byte h and low byte b, at x, y, where that lies on the glass. The low byte stands first.
+pub fn place(fb: &mut [u8], x: u16, y: u16, h: u8, b: u8)
+    ensures { λ r. ⌜ now (fb .exit) ≡ put (now (fb .entry)) x y h b ⌝ }
+{
+    if x < 128 {
+        if y < 128 {
+            let i = (y as usize * 128 + x as usize) * 2;
+            store(fb, i, b);
+            store(fb, i + 1, h);
+        }
+    }
+}
+
+// The writing position after a pixel: along the row, to the next row, or back to the first, which counts a frame.
+pub fn next(w: Window, p: Pen) -> Pen
+    ensures { λ r. ⌜ r ≡ nextPen w p ⌝ }
+{
+    if p.x < w.x1 {
+        return Pen {
+            x: p.x + 1,
+            y: p.y,
+            half: Held::Nothing,
+            frames: p.frames,
+        };
+    }
+    if p.y < w.y1 {
+        return Pen {
+            x: w.x0,
+            y: p.y + 1,
+            half: Held::Nothing,
+            frames: p.frames,
+        };
+    }
+    Pen {
+        x: w.x0,
+        y: w.y0,
+        half: Held::Nothing,
+        frames: std::num::wrapping_add_u64(p.frames, 1),
+    }
+}
+
+// The first byte of a pixel is held, the second writes it.
+pub fn paint(w: Window, p: Pen, fb: &mut [u8], b: u8) -> Pen
+    ensures { λ r. ⌜ drawing r (now (fb .exit)) ≡ drawing (penned w p b) (inked (now (fb .entry)) p b) ⌝ }
+{
+    let half = p.half;
+    match half {
+        Held::Nothing => Pen {
+            x: p.x,
+            y: p.y,
+            half: Held::Byte(b),
+            frames: p.frames,
+        },
+        Held::Byte(h) => {
+            let x = p.x;
+            let y = p.y;
+            place(fb, x, y, h, b);
+            next(w, p)
+        }
+    }
+}

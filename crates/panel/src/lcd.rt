@@ -1,0 +1,89 @@
+// Commands, data bytes and DMA, over a framebuffer of any length.
+ghost use mathlib.Core.Path.{_≡_};
+ghost use Rattle.panel.specs.Lcd.{commanded, fed, painted, counted};
+ghost use Rattle.panel.specs.Entries.{screen};
+use crate::Held;
+use crate::Panel;
+use crate::Pen;
+use crate::args::argument;
+use crate::args::code;
+use crate::draw::paint;
+
+// No argument and no half pixel is left; 0x2C goes to the window's start.
+pub fn command(p: Panel, c: u8) -> Panel
+    ensures { λ r. ⌜ r ≡ commanded p c ⌝ }
+{
+    let window = p.window;
+    let frames = p.pen.frames;
+    let cmd = Held::Byte(c);
+    if c == 0x2C {
+        return Panel {
+            cmd,
+            args: [0, 0, 0, 0],
+            count: 0,
+            window,
+            pen: Pen {
+                x: window.x0,
+                y: window.y0,
+                half: Held::Nothing,
+                frames,
+            },
+        };
+    }
+    Panel {
+        cmd,
+        args: [0, 0, 0, 0],
+        count: 0,
+        window,
+        pen: Pen {
+            x: p.pen.x,
+            y: p.pen.y,
+            half: Held::Nothing,
+            frames,
+        },
+    }
+}
+
+pub fn data(p: Panel, fb: &mut [u8], b: u8) -> Panel
+    ensures { λ r. ⌜ screen r (now (fb .exit)) ≡ screen (fed p b) (painted p (now (fb .entry)) b) ⌝ }
+{
+    let cmd = p.cmd;
+    if code(cmd) == 0x2C {
+        let window = p.window;
+        let pen = p.pen;
+        let args = p.args;
+        let moved = paint(window, pen, fb, b);
+        return Panel {
+            cmd,
+            args,
+            count: p.count,
+            window,
+            pen: moved,
+        };
+    }
+    argument(p, b)
+}
+
+// A frame that came by DMA counts too.
+pub fn count_frame(p: Panel) -> Panel
+    ensures { λ r. ⌜ r ≡ counted p ⌝ }
+{
+    let cmd = p.cmd;
+    let args = p.args;
+    let window = p.window;
+    let pen = p.pen;
+    let half = pen.half;
+    let frames = std::num::wrapping_add_u64(pen.frames, 1);
+    Panel {
+        cmd,
+        args,
+        count: p.count,
+        window,
+        pen: Pen {
+            x: pen.x,
+            y: pen.y,
+            half,
+            frames,
+        },
+    }
+}
