@@ -1,27 +1,27 @@
 -- The branches of the definitions, each with the fact that leads to it.
-use Prim.Native.Nat.{ℕ, _+_, _*_, _<_, _≤_}
+use Prim.Native.Nat.{ℕ, _+_, _<_, _≤_}
 use mathlib.Core.Path.{_≡_, sym, _∙_, ap}
 use mathlib.Core.List.{List}
 use mathlib.Core.Logic.{_≢_}
 use lib.ListN.{length, set}
 use native.Mathlib.Omega.{arith}
 use borrow.Author.Tests.{lt-ltb, le-ltb, eq-eqb, ne-eqb}
-use Rattle.panel.specs.declared.Held.{Held}
 use Rattle.panel.specs.declared.Held.the-variants.{Nothing, Byte}
 use Rattle.panel.specs.declared.Window.{Window}
 use Rattle.panel.specs.declared.Pen.{Pen}
 use Rattle.panel.specs.declared.Panel.{Panel}
-use Rattle.panel.specs.Lcd.{penAt, withPen, told, counts, commanded, spot, put, nextPen, penned, inked, codeOf, aimed, pairAt, argued, fed, painted}
+use Rattle.panel.specs.Lcd.{penAt, withPen, begun, counts, commanded, spot, put, nextPen, penned, inked, codeOf, aimed, pairAt, argued, fed}
+use Rattle.panel.specs.Lcd.{painted}
 use Rattle.panel.specs.Colour.{pixelAt, rgbOf}
 use Rattle.panel.specs.Entries.{Screen, screen, Drawing, drawing, dataOf, pixelOf, black, pictureOf}
 
 -- ---- command
 module _ (p : Panel) (c : ℕ) where
-  pub commanded-start : c ≡ 0x2C → commanded p c ≡ told (Byte c) (p .window) (penAt (p .window .x0) (p .window .y0) Nothing (p .pen .frames))
+  pub commanded-start : c ≡ 0x2C → commanded p c ≡ begun (Byte c) (p .window) (penAt (p .window .x0) (p .window .y0) Nothing (p .pen .frames))
   unfolding commanded
   commanded-start e = simp (eq-eqb _ _ e)
 
-  pub commanded-stay : c ≢ 0x2C → commanded p c ≡ told (Byte c) (p .window) (penAt (p .pen .x) (p .pen .y) Nothing (p .pen .frames))
+  pub commanded-stay : c ≢ 0x2C → commanded p c ≡ begun (Byte c) (p .window) (penAt (p .pen .x) (p .pen .y) Nothing (p .pen .frames))
   unfolding commanded
   commanded-stay n = simp (ne-eqb _ _ n)
 

@@ -2,11 +2,11 @@
 use Prim.Native.Nat.{ℕ, zero, suc, _+_, _*_, _/_, _%_, _^_, _≤_, _<_}
 use mathlib.Core.Path.{_≡_, refl, sym, ap, _∙_}
 use mathlib.Core.List.{List, [], _∷_, _++_}
-use lib.Bits.{bitAnd, and-mask}
-use lib.ListN.{length, getD, set, take}
+use lib.Bits.{and-mask}
+use lib.ListN.{length, getD, set}
 use native.Mathlib.Omega.{arith}
 use Rattle.panel.specs.declared.Colours.{Colours}
-use Rattle.panel.specs.Colour.{parted, fromLe, rgbOf, pixelAt, over, triple}
+use Rattle.panel.specs.Colour.{parted, fromLe, pushed, rgbOf, pixelAt, tripleAt, over, triple}
 
 -- the masks as remainders
 pub parted-is : (v : ℕ) → parted v ≡ record { r = v / 2048 % 32 * 255 / 31; g = v / 32 % 64 * 255 / 63; b = v % 32 * 255 / 31 }
@@ -30,7 +30,7 @@ pub first : ℕ → List ℕ → List ℕ
 first zero fb = []
 first (suc n) [] = []
 first (suc n) (lo ∷ []) = []
-first (suc n) (lo ∷ hi ∷ rest) = parted (fromLe lo hi) .r ∷ parted (fromLe lo hi) .g ∷ parted (fromLe lo hi) .b ∷ first n rest
+first (suc n) (lo ∷ hi ∷ rest) = pushed (parted (fromLe lo hi)) (first n rest)
 
 first-all : (n : ℕ) (fb : List ℕ) → length fb ≤ n * 2 + 1 → first n fb ≡ rgbOf fb
 unfolding first rgbOf
@@ -39,7 +39,7 @@ first-all zero (lo ∷ []) h = refl
 first-all zero (lo ∷ hi ∷ rest) h = absurd (omega arith)
 first-all (suc n) [] h = refl
 first-all (suc n) (lo ∷ []) h = refl
-first-all (suc n) (lo ∷ hi ∷ rest) h = ap (λ l. parted (fromLe lo hi) .r ∷ parted (fromLe lo hi) .g ∷ parted (fromLe lo hi) .b ∷ l) (first-all n rest (omega arith))
+first-all (suc n) (lo ∷ hi ∷ rest) h = ap (pushed (parted (fromLe lo hi))) (first-all n rest (omega arith))
 
 first-length : (n : ℕ) (fb : List ℕ) → n * 2 ≤ length fb → length (first n fb) ≡ n * 3
 unfolding first
@@ -57,21 +57,21 @@ further lo hi rest n =
     ∙ ap (λ i. parted (fromLe (getD (lo ∷ hi ∷ rest) i 0) (getD rest (n * 2 + 1) 0))) f
 
 first-more : (n : ℕ) (fb : List ℕ) → n * 2 + 1 < length fb
-    → first (suc n) fb ≡ first n fb ++ (coloursAt fb n .r ∷ coloursAt fb n .g ∷ coloursAt fb n .b ∷ [])
+    → first (suc n) fb ≡ first n fb ++ pushed (coloursAt fb n) []
 unfolding first
 first-more n [] h = absurd (omega arith)
 first-more n (lo ∷ []) h = absurd (omega arith)
 first-more zero (lo ∷ hi ∷ rest) h = refl
 first-more (suc n) (lo ∷ hi ∷ rest) h =
     rw (further lo hi rest n)
-    (ap (λ l. parted (fromLe lo hi) .r ∷ parted (fromLe lo hi) .g ∷ parted (fromLe lo hi) .b ∷ l) (first-more n rest (omega arith)))
+    (ap (pushed (parted (fromLe lo hi))) (first-more n rest (omega arith)))
 
 -- a place further on
 set-next : (x : ℕ) (l : List ℕ) (i j v : ℕ) → i ≡ suc j → set (x ∷ l) i v ≡ x ∷ set l j v
 set-next x l i j v e = rw e
 
 -- a pixel's three bytes more
-over-three : (xs out : List ℕ) (c : Colours) → over (xs ++ (c .r ∷ c .g ∷ c .b ∷ [])) out ≡ triple (over xs out) (length xs) c
+over-three : (xs out : List ℕ) (c : Colours) → over (xs ++ pushed c []) out ≡ triple (over xs out) (length xs) c
 unfolding over
 over-three [] [] c = refl
 over-three [] (o ∷ []) c = refl
@@ -112,3 +112,26 @@ rgb-length fb e = sym (ap length (first-all 16384 fb (omega arith))) ∙ first-l
 
 pub whole-shown : (fb out : List ℕ) → length fb ≡ 32768 → length out ≡ 49152 → over (rgbOf fb) out ≡ rgbOf fb
 whole-shown fb out e f = over-whole (rgbOf fb) out (rgb-length fb e ∙ sym f)
+
+-- ---- each pixel's colours stand in the screen
+getD-next : (a b c : ℕ) (l : List ℕ) (i j : ℕ) → i ≡ suc (suc (suc j)) → getD (a ∷ b ∷ c ∷ l) i 0 ≡ getD l j 0
+getD-next a b c l i j e = rw e
+
+triple-next : (c : Colours) (l : List ℕ) (n : ℕ) → tripleAt (pushed c l) (suc n * 3) ≡ tripleAt l (n * 3)
+triple-next c l n =
+    rw (
+      getD-next (c .r) (c .g) (c .b) l (suc n * 3) (n * 3) (omega arith),
+      getD-next (c .r) (c .g) (c .b) l (suc n * 3 + 1) (n * 3 + 1) (omega arith),
+      getD-next (c .r) (c .g) (c .b) l (suc n * 3 + 2) (n * 3 + 2) (omega arith),
+    )
+
+at-place : (n : ℕ) (fb : List ℕ) → n * 2 + 1 < length fb → tripleAt (rgbOf fb) (n * 3) ≡ coloursAt fb n
+unfolding rgbOf
+at-place n [] h = absurd (omega arith)
+at-place n (lo ∷ []) h = absurd (omega arith)
+at-place zero (lo ∷ hi ∷ rest) h = refl
+at-place (suc n) (lo ∷ hi ∷ rest) h =
+    triple-next (parted (fromLe lo hi)) (rgbOf rest) n ∙ at-place n rest (omega arith) ∙ sym (further lo hi rest n)
+
+pub in-screen : (fb : List ℕ) (k : ℕ) → length fb ≡ 32768 → tripleAt (rgbOf fb) (k % 16384 * 3) ≡ pixelAt fb k
+in-screen fb k e = at-place (k % 16384) fb (omega arith)

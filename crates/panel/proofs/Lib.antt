@@ -1,2 +1,11 @@
 pub mod Cases
 pub mod Drawn
+pub mod Heals
+pub mod Judged
+pub mod Literal
+pub mod Pens
+pub mod Stray
+pub mod Sweep
+pub mod Tight
+pub mod Touch
+pub mod Unique

@@ -18,15 +18,22 @@ parted v =
 abbrev pub fromLe : ℕ → ℕ → ℕ
 fromLe lo hi = hi * 256 + lo
 
+abbrev pub pushed : Colours → List ℕ → List ℕ
+pushed c rest = c .r ∷ c .g ∷ c .b ∷ rest
+
 -- three bytes for each two; a byte that is left over is no pixel
 unfoldable pub rgbOf : List ℕ → List ℕ
 rgbOf [] = []
 rgbOf (lo ∷ []) = []
-rgbOf (lo ∷ hi ∷ rest) = parted (fromLe lo hi) .r ∷ parted (fromLe lo hi) .g ∷ parted (fromLe lo hi) .b ∷ rgbOf rest
+rgbOf (lo ∷ hi ∷ rest) = pushed (parted (fromLe lo hi)) (rgbOf rest)
 
 -- pixel k modulo 16,384
 abbrev pub pixelAt : List ℕ → ℕ → Colours
 pixelAt fb k = parted (fromLe (getD fb (k % 16384 * 2) 0) (getD fb (k % 16384 * 2 + 1) 0))
+
+-- the three bytes from place i on
+abbrev pub tripleAt : List ℕ → ℕ → Colours
+tripleAt out i = record { r = getD out i 0; g = getD out (i + 1) 0; b = getD out (i + 2) 0 }
 
 -- a list laid over another, as far as that reaches
 unfoldable pub over : List ℕ → List ℕ → List ℕ

@@ -23,11 +23,11 @@ abbrev pub zeros : List ℕ
 zeros = 0 ∷ 0 ∷ 0 ∷ 0 ∷ []
 
 -- a panel that has just been told a command, or none
-abbrev pub told : Held → Window → Pen → Panel
-told c w q = record { cmd = c; args = zeros; count = 0; window = w; pen = q }
+abbrev pub begun : Held → Window → Pen → Panel
+begun c w q = record { cmd = c; args = zeros; count = 0; window = w; pen = q }
 
 abbrev pub freshPanel : Panel
-freshPanel = told Nothing (record { x0 = 0; x1 = 127; y0 = 0; y1 = 127 }) (penAt 0 0 Nothing 0)
+freshPanel = begun Nothing (record { x0 = 0; x1 = 127; y0 = 0; y1 = 127 }) (penAt 0 0 Nothing 0)
 
 -- a counter goes round from 2^64 - 1 to 0
 abbrev pub counts : ℕ → ℕ
@@ -37,7 +37,7 @@ counts f = (f + 1) % 2 ^ 64
 
 unfoldable pub commanded : Panel → ℕ → Panel
 commanded p c =
-    told (Byte c) (p .window)
+    begun (Byte c) (p .window)
     (cond (eqb c 0x2C) (penAt (p .window .x0) (p .window .y0) Nothing (p .pen .frames)) (penAt (p .pen .x) (p .pen .y) Nothing (p .pen .frames)))
 
 -- ---- pixel

@@ -1,6 +1,7 @@
 // Pixel data: the bytes after 0x2C.
 ghost use mathlib.Core.Path.{_≡_};
-ghost use Rattle.panel.specs.Lcd.{put, nextPen, penned, inked};
+ghost use Rattle.panel.specs.Lcd.{penAt, put, nextPen, penned, inked};
+ghost use Rattle.panel.specs.declared.Held.the-variants.{Nothing};
 ghost use Rattle.panel.specs.Entries.{drawing};
 use crate::Held;
 use crate::Pen;
@@ -20,32 +21,30 @@ pub fn place(fb: &mut [u8], x: u16, y: u16, h: u8, b: u8)
     }
 }
 
+// A pen with no half pixel.
+pub fn pen_at(x: u16, y: u16, frames: u64) -> Pen
+    ensures { λ r. ⌜ r ≡ penAt x y Nothing frames ⌝ }
+{
+    Pen {
+        x,
+        y,
+        half: Held::Nothing,
+        frames,
+    }
+}
+
 // The writing position after a pixel: along the row, to the next row, or back to the first, which counts a frame.
 pub fn next(w: Window, p: Pen) -> Pen
     ensures { λ r. ⌜ r ≡ nextPen w p ⌝ }
 {
+    let more = std::num::wrapping_add_u64(p.frames, 1);
     if p.x < w.x1 {
-        return Pen {
-            x: p.x + 1,
-            y: p.y,
-            half: Held::Nothing,
-            frames: p.frames,
-        };
+        return pen_at(p.x + 1, p.y, p.frames);
     }
     if p.y < w.y1 {
-        return Pen {
-            x: w.x0,
-            y: p.y + 1,
-            half: Held::Nothing,
-            frames: p.frames,
-        };
+        return pen_at(w.x0, p.y + 1, p.frames);
     }
-    Pen {
-        x: w.x0,
-        y: w.y0,
-        half: Held::Nothing,
-        frames: std::num::wrapping_add_u64(p.frames, 1),
-    }
+    pen_at(w.x0, w.y0, more)
 }
 
 // The first byte of a pixel is held, the second writes it.

@@ -14,33 +14,25 @@ pub fn command(p: Panel, c: u8) -> Panel
     ensures { λ r. ⌜ r ≡ commanded p c ⌝ }
 {
     let window = p.window;
-    let frames = p.pen.frames;
+    let old = p.pen;
     let cmd = Held::Byte(c);
+    let half = Held::Nothing;
+    let mut pen = Pen {
+        x: old.x,
+        y: old.y,
+        half,
+        frames: old.frames,
+    };
     if c == 0x2C {
-        return Panel {
-            cmd,
-            args: [0, 0, 0, 0],
-            count: 0,
-            window,
-            pen: Pen {
-                x: window.x0,
-                y: window.y0,
-                half: Held::Nothing,
-                frames,
-            },
-        };
+        pen.x = window.x0;
+        pen.y = window.y0;
     }
     Panel {
         cmd,
         args: [0, 0, 0, 0],
         count: 0,
         window,
-        pen: Pen {
-            x: p.pen.x,
-            y: p.pen.y,
-            half: Held::Nothing,
-            frames,
-        },
+        pen,
     }
 }
 

@@ -3,9 +3,6 @@ use Rattle.panel.proofs.Cases.{data-serves, data-refused}
 use borrow.Author.Needs.{needs}
 use Rattle.panel.proofs.data.Statement.{statement}
 use Rattle.panel.proofs.data.Tie as tie
-use Rattle.panel.proofs.data.Reads as reads
-use Rattle.panel.proofs.data.Lts as lts
-use Rattle.panel.proofs.lcd.data.Reads as data-reads
 
 data-requires : tie.Need-data-requires
 data-requires c κs = search needs

@@ -4,9 +4,6 @@ use Rattle.panel.proofs.Cases.{picture-serves, picture-no-room, picture
 use borrow.Author.Needs.{needs}
 use Rattle.panel.proofs.rgb.Statement.{statement}
 use Rattle.panel.proofs.rgb.Tie as tie
-use Rattle.panel.proofs.rgb.Reads as reads
-use Rattle.panel.proofs.rgb.Lts as lts
-use Rattle.panel.proofs.colour.screen.Reads as screen-reads
 
 screen-requires : tie.Need-screen-requires
 screen-requires c κs = search needs
@@ -15,7 +12,10 @@ same-length : tie.Need-same-length
 same-length c = search needs
 
 returns : tie.Need-returns
-returns c = picture-serves _ _ _ (c .before .before .before .before .before .if1 .taken) (c .before .before .before .before .if2 .taken) ((c .before .before .screen .ensures) ∙ whole-shown _ _ (c .before .before .before .before .before .if1 .taken) (c .before .before .before .before .if2 .taken))
+returns c =
+    let whole = c .before .before .before .before .before .if1 .taken in
+    let room = c .before .before .before .before .if2 .taken in
+    picture-serves _ _ _ whole room (c .before .before .screen .ensures ∙ whole-shown _ _ whole room)
 
 returns-2 : tie.Need-returns-2
 returns-2 c = sym (picture-no-room _ _ (c .before .if1 .taken) (c .if2 .left))

@@ -3,9 +3,6 @@ use Rattle.panel.proofs.Cases.{pixel-done, pixel-refused}
 use borrow.Author.Needs.{needs}
 use Rattle.panel.proofs.rgb_at.Statement.{statement}
 use Rattle.panel.proofs.rgb_at.Tie as tie
-use Rattle.panel.proofs.rgb_at.Reads as reads
-use Rattle.panel.proofs.rgb_at.Lts as lts
-use Rattle.panel.proofs.colour.at.Reads as at-reads
 
 at-requires : tie.Need-at-requires
 at-requires c κs = search needs

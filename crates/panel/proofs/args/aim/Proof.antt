@@ -1,11 +1,8 @@
 use mathlib.Core.Path.{sym}
 use native.Mathlib.Omega.{arith}
 use Rattle.panel.proofs.Cases.{aimed-columns, aimed-rows, aimed-not}
-use borrow.Author.Needs.{needs}
 use Rattle.panel.proofs.args.aim.Statement.{statement}
 use Rattle.panel.proofs.args.aim.Tie as tie
-use Rattle.panel.proofs.args.aim.Reads as reads
-use Rattle.panel.proofs.args.aim.Lts as lts
 
 returns : tie.Need-returns
 returns c = sym (aimed-columns _ _ _ _ (omega arith))

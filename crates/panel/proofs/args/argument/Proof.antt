@@ -4,11 +4,6 @@ use Rattle.panel.proofs.Cases.{argued-fourth, argued-kept, argued-full}
 use borrow.Author.Needs.{needs}
 use Rattle.panel.proofs.args.argument.Statement.{statement}
 use Rattle.panel.proofs.args.argument.Tie as tie
-use Rattle.panel.proofs.args.argument.Reads as reads
-use Rattle.panel.proofs.args.argument.Lts as lts
-use Rattle.panel.proofs.args.aim.Reads as aim-reads
-use Rattle.panel.proofs.args.code.Reads as code-reads
-use Rattle.panel.proofs.args.wide.Reads as wide-reads
 
 cast-args : tie.Need-cast-args
 cast-args c = search needs

@@ -1,11 +1,6 @@
 use borrow.Author.Needs.{needs}
 use Rattle.panel.proofs.colour.at.Statement.{statement}
 use Rattle.panel.proofs.colour.at.Tie as tie
-use Rattle.panel.proofs.colour.at.Reads as reads
-use Rattle.panel.proofs.colour.at.Lts as lts
-use Rattle.panel.proofs.args.wide.Reads as wide-reads
-use Rattle.panel.proofs.colour.parts.Reads as parts-reads
-use Rattle.panel.proofs.glass.load.Reads as load-reads
 
 cast-i : tie.Need-cast-i
 cast-i c = search needs

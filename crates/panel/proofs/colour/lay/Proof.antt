@@ -1,9 +1,6 @@
 use borrow.Author.Needs.{needs}
 use Rattle.panel.proofs.colour.lay.Statement.{statement}
 use Rattle.panel.proofs.colour.lay.Tie as tie
-use Rattle.panel.proofs.colour.lay.Reads as reads
-use Rattle.panel.proofs.colour.lay.Lts as lts
-use Rattle.panel.proofs.glass.store.Reads as store-reads
 
 store-requires : tie.Need-store-requires
 store-requires c κs = search needs

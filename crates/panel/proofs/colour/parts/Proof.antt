@@ -3,8 +3,6 @@ use Rattle.panel.proofs.Drawn.{parted-is}
 use borrow.Author.Needs.{needs}
 use Rattle.panel.proofs.colour.parts.Statement.{statement}
 use Rattle.panel.proofs.colour.parts.Tie as tie
-use Rattle.panel.proofs.colour.parts.Reads as reads
-use Rattle.panel.proofs.colour.parts.Lts as lts
 
 mul-t5 : tie.Need-mul-t5
 mul-t5 c = search needs

@@ -1,19 +1,13 @@
 use mathlib.Core.Path.{refl}
 use native.Mathlib.Omega.{arith}
 use mathlib.Core.Path.{_≡_, _∙_}
-use Prim.Native.Nat.{_*_, _-_, _/_, _≤_}
+use Prim.Native.Nat.{_-_, _/_, _≤_}
 use lib.ListN.{length}
 use Rattle.panel.specs.Colour.{over}
 use Rattle.panel.proofs.Drawn.{first, none-shown, more-shown, all-shown}
 use borrow.Author.Needs.{needs}
 use Rattle.panel.proofs.colour.screen.Statement.{statement}
 use Rattle.panel.proofs.colour.screen.Tie as tie
-use Rattle.panel.proofs.colour.screen.Reads as reads
-use Rattle.panel.proofs.colour.screen.Lts as lts
-use Rattle.panel.proofs.args.wide.Reads as wide-reads
-use Rattle.panel.proofs.colour.lay.Reads as lay-reads
-use Rattle.panel.proofs.colour.parts.Reads as parts-reads
-use Rattle.panel.proofs.glass.load.Reads as load-reads
 
 abbrev Inv-loop : tie.InvT-loop
 Inv-loop fb out₀ n i₀ out i = (i ≤ n) × (n ≡ length fb / 2) × (length out ≡ length out₀) × (out ≡ over (first i fb) out₀)
@@ -58,14 +52,24 @@ loop-less : tie.Need-loop-less Inv-loop μ-loop
 loop-less c = search needs
 
 loop-again : tie.Need-loop-again Inv-loop μ-loop
-loop-again c = let i = (c .before .before .before .before .before .before .before .before .before .loop .inv) in
-    (omega arith, i .1, (c .before .before .lay .kept .0) ∙ i .2, more-shown _ _ _ _ _ _ _ _ _ (omega arith) (i .3) (c .before .before .before .before .before .before .load .ensures) (c .before .before .before .before .before .load2 .ensures) (c .before .before .before .before .wide .ensures) (c .before .before .before .parts .ensures) (c .before .before .lay .ensures))
+loop-again c =
+    let at-lay = c .before .before .lay in
+    let at-parts = c .before .before .before .parts in
+    let at-wide = c .before .before .before .before .wide in
+    let low = c .before .before .before .before .before .load2 in
+    let high = c .before .before .before .before .before .before .load in
+    let i = c .before .before .before .before .before .before .before .before .before .loop .inv in
+    let shown = more-shown _ _ _ _ _ _ _ _ _ (omega arith) (i .3) (high .ensures) (low .ensures) (at-wide .ensures) (at-parts .ensures) (at-lay .ensures) in
+    (omega arith, i .1, at-lay .kept .0 ∙ i .2, shown)
 
 same-length : tie.Need-same-length Inv-loop μ-loop
 same-length c = c .before .loop .inv .2
 
 returns : tie.Need-returns Inv-loop μ-loop
-returns c = let i = c .before .loop .inv in let at-end : c .before .loop .i ≡ length (c .before .before .before .before .args .fb .now) / 2 = omega arith in i .3 ∙ all-shown _ _ _ at-end
+returns c =
+    let at-loop = c .before .loop in
+    let at-end : at-loop .i ≡ length (c .before .before .before .before .args .fb .now) / 2 = omega arith in
+    at-loop .inv .3 ∙ all-shown _ _ _ at-end
 
 pub screen-spec : {M : Type 1} → statement M
 screen-spec =

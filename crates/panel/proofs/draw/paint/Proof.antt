@@ -3,10 +3,6 @@ use Rattle.panel.proofs.Cases.{drawing-is, penned-first, penned-second,
 use borrow.Author.Needs.{needs}
 use Rattle.panel.proofs.draw.paint.Statement.{statement}
 use Rattle.panel.proofs.draw.paint.Tie as tie
-use Rattle.panel.proofs.draw.paint.Reads as reads
-use Rattle.panel.proofs.draw.paint.Lts as lts
-use Rattle.panel.proofs.draw.next.Reads as next-reads
-use Rattle.panel.proofs.draw.place.Reads as place-reads
 
 enum-told : tie.Need-enum-told
 enum-told c = search needs

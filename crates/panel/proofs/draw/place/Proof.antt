@@ -4,9 +4,6 @@ use Rattle.panel.proofs.Cases.{put-on, put-below, put-right}
 use borrow.Author.Needs.{needs}
 use Rattle.panel.proofs.draw.place.Statement.{statement}
 use Rattle.panel.proofs.draw.place.Tie as tie
-use Rattle.panel.proofs.draw.place.Reads as reads
-use Rattle.panel.proofs.draw.place.Lts as lts
-use Rattle.panel.proofs.glass.store.Reads as store-reads
 
 mul-i : tie.Need-mul-i
 mul-i c = search needs

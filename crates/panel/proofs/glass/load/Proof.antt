@@ -5,8 +5,6 @@ use denote.Ref.{now}
 use borrow.Author.Needs.{needs}
 use Rattle.panel.proofs.glass.load.Statement.{statement}
 use Rattle.panel.proofs.glass.load.Tie as tie
-use Rattle.panel.proofs.glass.load.Reads as reads
-use Rattle.panel.proofs.glass.load.Lts as lts
 
 shared-slice-read-result : tie.Need-shared-slice-read-result
 shared-slice-read-result c = search needs

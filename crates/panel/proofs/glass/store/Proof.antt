@@ -4,8 +4,6 @@ use lib.Seq.{set-out}
 use borrow.Author.Needs.{needs}
 use Rattle.panel.proofs.glass.store.Statement.{statement}
 use Rattle.panel.proofs.glass.store.Tie as tie
-use Rattle.panel.proofs.glass.store.Reads as reads
-use Rattle.panel.proofs.glass.store.Lts as lts
 
 slice-write-s : tie.Need-slice-write-s
 slice-write-s c = search needs

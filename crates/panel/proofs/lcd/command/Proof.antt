@@ -1,11 +1,8 @@
 use mathlib.Core.Path.{sym}
 use native.Mathlib.Omega.{arith}
 use Rattle.panel.proofs.Cases.{commanded-start, commanded-stay}
-use borrow.Author.Needs.{needs}
 use Rattle.panel.proofs.lcd.command.Statement.{statement}
 use Rattle.panel.proofs.lcd.command.Tie as tie
-use Rattle.panel.proofs.lcd.command.Reads as reads
-use Rattle.panel.proofs.lcd.command.Lts as lts
 
 returns : tie.Need-returns
 returns c = sym (commanded-start _ _ (omega arith))

@@ -2,9 +2,6 @@ use Rattle.panel.specs.Lcd.{counted}
 use borrow.Author.Needs.{needs}
 use Rattle.panel.proofs.lcd.count_frame.Statement.{statement}
 use Rattle.panel.proofs.lcd.count_frame.Tie as tie
-use Rattle.panel.proofs.lcd.count_frame.Reads as reads
-use Rattle.panel.proofs.lcd.count_frame.Lts as lts
-use Rattle.std.proofs.num.wrapping_add_u64.Reads as wrapping-add-u64-reads
 
 wrapping-add-u64-requires : tie.Need-wrapping-add-u64-requires
 wrapping-add-u64-requires c κs = search needs

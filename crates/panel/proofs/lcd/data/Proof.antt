@@ -3,11 +3,6 @@ use Rattle.panel.proofs.Cases.{draws, argues}
 use borrow.Author.Needs.{needs}
 use Rattle.panel.proofs.lcd.data.Statement.{statement}
 use Rattle.panel.proofs.lcd.data.Tie as tie
-use Rattle.panel.proofs.lcd.data.Reads as reads
-use Rattle.panel.proofs.lcd.data.Lts as lts
-use Rattle.panel.proofs.args.argument.Reads as argument-reads
-use Rattle.panel.proofs.args.code.Reads as code-reads
-use Rattle.panel.proofs.draw.paint.Reads as paint-reads
 
 code-requires : tie.Need-code-requires
 code-requires c κs = search needs
@@ -19,7 +14,10 @@ same-length : tie.Need-same-length
 same-length c = search needs
 
 returns : tie.Need-returns
-returns c = draws _ _ _ _ _ (sym (c .before .before .before .before .before .before .before .before .code .ensures) ∙ (c .before .before .before .before .before .before .before .if1 .taken)) (c .before .before .paint .ensures)
+returns c =
+    let at-code = c .before .before .before .before .before .before .before .before .code in
+    let at-if = c .before .before .before .before .before .before .before .if1 in
+    draws _ _ _ _ _ (sym (at-code .ensures) ∙ at-if .taken) (c .before .before .paint .ensures)
 
 argument-requires : tie.Need-argument-requires
 argument-requires c κs = search needs

@@ -1,0 +1,11 @@
+-- The judged example of the panel.
+use mathlib.Core.List.{List, [], _∷_}
+use Rattle.whole.specs.Table.{Example}
+use Rattle.panel.specs.Colour.{parted}
+
+abbrev pub table : List Example
+table =
+    record { given = parted 0x8410 .r; said = 131 }
+    ∷ record { given = parted 0x8410 .g; said = 129 }
+    ∷ record { given = parted 0x8410 .b; said = 131 }
+    ∷ []
