@@ -70,6 +70,29 @@ pub fn arguments_cut_short(list: &mut List) {
     }
 }
 
+/// What comes between arguments leaves them; once set, the ends are not set
+/// again by more of them.
+pub fn arguments_go_on(list: &mut List) {
+    for command in [COLUMNS, ROWS] {
+        restart(list);
+        list.command(command);
+        list.data(&[0x00, 0x08, 0x00]);
+        list.dma(0x5678);
+        list.rgb();
+        list.look_command();
+        list.data(&[0x09]);
+        list.look_window();
+        for place in X0..=Y1 {
+            list.put(place, 3);
+        }
+        for byte in 0x0A..0x0F {
+            list.data(&[byte]);
+            list.look_window();
+        }
+        list.look_command();
+    }
+}
+
 /// Data before any command: an argument of none, and no pixel.
 pub fn no_command(list: &mut List) {
     restart(list);
@@ -172,6 +195,18 @@ pub fn windows(list: &mut List) {
         paint(list, first..first + pixels);
         assert_eq!(list.device.lcd().frames, frames + 1);
         paint(list, [0xFFFF].into_iter());
+        list.look_checksums();
+    }
+}
+
+/// Black and white and what lies between are painted alike, over another
+/// colour.
+pub fn plain_colours(list: &mut List) {
+    list.dma(0x2000);
+    list.window((60, 61), (1, 1));
+    list.command(PAINT);
+    for colour in [0x0000, 0xFFFF, 0x00FF, 0xFF00, 0x2C2C, 0x2A2B, 0x0001, 0x0000u16] {
+        list.data(&colour.to_be_bytes());
         list.look_checksums();
     }
 }

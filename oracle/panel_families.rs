@@ -23,7 +23,7 @@ const FAMILIES: [Family<Author>; 9] = [
 
 /// Mostly each action belongs to another family; a few colours stand for all
 /// of them.
-pub fn mixture(author: &mut Author) {
+fn mixture(author: &mut Author) {
     let action = author.random.pick(&[
         windows,
         arguments,
@@ -122,28 +122,38 @@ impl Author {
         self.next_command
     }
 
-    /// Data bytes in steps of any lengths, with something above them that is
-    /// cut off.
+    /// Data bytes in steps of any lengths.
     pub fn data(&mut self, bytes: &[u8]) {
         let mut rest = bytes;
         while !rest.is_empty() {
             let most = rest.len().min(MOST);
             let count = if self.random.one_in(3) { self.random.between(0, most) } else { most };
             let (some, after) = rest.split_at(count);
-            let mut value = self.random.next() * self.random.below(2) as u64;
-            for &byte in some {
-                value = value << 8 | u64::from(byte);
-            }
-            // More than the most counts as the most.
-            let counts =
-                if count == MOST { &[8, 8, 8, 9, 0xFFFF_FFFF][..] } else { &[count as u64] };
-            self.list.step(DATA, self.random.pick(counts), value);
+            self.data_step(some);
             rest = after;
         }
     }
 
+    /// What stands above the bytes is cut off, and a number of bytes above the
+    /// most counts as the most.
+    fn data_step(&mut self, bytes: &[u8]) {
+        let above = self.random.next() * self.random.below(2) as u64;
+        let value = bytes.iter().fold(above, |value, &byte| value << 8 | u64::from(byte));
+        let count = match bytes.len() {
+            MOST => self.random.pick(&[8, 8, 8, 9, 0xFFFF_FFFF]),
+            count => count as u64,
+        };
+        self.list.step(DATA, count, value);
+    }
+
+    /// Some are alike, so that black and white pixels are among them, and some
+    /// are a command's number.
     pub fn bytes(&mut self, count: usize) -> Vec<u8> {
-        (0..count).map(|_| self.random.byte()).collect()
+        let byte = |random: &mut Random| match random.below(3) {
+            0 => random.pick(&[0x00, 0x00, 0xFF, 0xFF, COLUMNS, ROWS, PAINT]),
+            _ => random.byte(),
+        };
+        (0..count).map(|_| byte(&mut self.random)).collect()
     }
 
     pub fn any_data(&mut self, count: usize) {

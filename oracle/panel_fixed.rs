@@ -23,6 +23,7 @@ pub fn fixed_list() -> List {
     list.begin("arguments");
     argument_counts(list);
     arguments_cut_short(list);
+    arguments_go_on(list);
     no_command(list);
     other_commands(list);
     list.begin("halves");
@@ -31,6 +32,7 @@ pub fn fixed_list() -> List {
     pen(list);
     windows(list);
     whole_rows(list);
+    plain_colours(list);
     list.begin("frames");
     frame_counts(list);
     list.begin("colours");

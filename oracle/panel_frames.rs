@@ -21,10 +21,9 @@ pub fn frames(author: &mut Author) {
             frames_by_window(author, columns, rows);
         }
         2 => {
-            let (columns, rows) = (author.few(), author.few());
-            let in_order = author.random.one_in(2);
-            let crossed = if in_order { rows } else { (rows.1, rows.0) };
-            frames_by_window(author, columns, crossed);
+            let (columns, (top, bottom)) = (author.few(), author.few());
+            let rows = if author.random.one_in(2) { (bottom, top) } else { (top, bottom) };
+            frames_by_window(author, columns, rows);
         }
         _ => {
             let (x, y) = (author.edge(), author.edge());
@@ -69,6 +68,7 @@ pub fn damage(author: &mut Author) {
     author.look();
     author.command(PAINT);
     author.any_data(whole);
+    author.list.look_checksums();
     author.look();
 }
 
@@ -119,11 +119,11 @@ fn put_anything(author: &mut Author) {
     let above = author.random.next() * author.random.below(2) as u64;
     match author.random.below(10) {
         6 => author.list.put(FRAMES, above),
-        7 | 8 => {
-            let place = author.random.pick(&[CURRENT, HALF]);
-            let byte = author.random.next() & 0x1FF;
-            author.list.put(place, above << 9 | byte)
+        7 => {
+            let command = current(author);
+            author.list.put(CURRENT, above << 9 | command)
         }
+        8 => author.list.put(HALF, above << 9 | author.random.below(512) as u64),
         9 => {
             let (columns, rows) = (author.few(), author.few());
             author.list.put(X0, columns.0.into());
@@ -136,6 +136,12 @@ fn put_anything(author: &mut Author) {
             author.list.put(place as u64, above << 16 | u64::from(place_value))
         }
     };
+}
+
+/// One of the commands that do something, or any, or none.
+fn current(author: &mut Author) -> u64 {
+    let any = author.random.below(512) as u64;
+    author.random.pick(&[COLUMNS.into(), ROWS.into(), PAINT.into(), any])
 }
 
 /// Kinds, looks and places that are not there.

@@ -79,17 +79,33 @@ pub fn arguments(author: &mut Author) {
     let bytes = argument_bytes(author, count);
     author.data(&bytes);
     author.look();
-    // One more, for the effect that too many might have.
     if author.random.one_in(4) {
-        author.any_data(1);
-        author.list.look_command();
-        author.list.look_window();
+        more_arguments(author);
     }
     if author.random.one_in(4) {
         author.command(PAINT);
         author.any_data(5);
         author.look();
     }
+}
+
+/// A few more after something else. An end is put, so that it shows if they
+/// set it again.
+fn more_arguments(author: &mut Author) {
+    match author.random.below(4) {
+        0 => author.dma(),
+        1 => {
+            author.list.rgb();
+        }
+        _ => {
+            let place = author.random.pick(&[X0, X1, Y0, Y1]);
+            author.list.put(place, 5);
+        }
+    }
+    let count = author.random.between(1, 4);
+    author.any_data(count);
+    author.list.look_command();
+    author.list.look_window();
 }
 
 /// Half of them are ends on the glass, so that something shows there.
