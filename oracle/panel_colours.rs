@@ -2,7 +2,7 @@
 
 use crate::panel_families::Author;
 use crate::panel_list::*;
-use crate::panel_steps::{FRAMEBUFFER, LOOK_BYTES, LOOK_FRAMEBUFFER, LOOK_SCREEN, PIXELS, SCREEN};
+use crate::panel_steps::*;
 
 /// The first colours of the four DMAs that bring all 65,536 colours.
 pub const QUARTERS: [u64; 4] = [0x0000, 0x4000, 0x8000, 0xC000];
@@ -56,8 +56,9 @@ pub fn lengths(author: &mut Author) {
             author.list.lent_rgb(framebuffer, screen);
             author.list.look_checksums();
         } else {
-            let byte = author.random.byte();
-            author.list.lent_data(framebuffer, byte);
+            // What stands above the byte is cut off.
+            let value = author.random.next();
+            author.list.step(LENT_DATA, framebuffer as u64, value);
             author.look();
         }
         let count = author.random.below(4);

@@ -56,6 +56,7 @@ pub fn fixed_list() -> List {
 fn examples(list: &mut List) {
     expect(list.look_window(), 0, [0x0000_007F_0000_007F, 0, 0]);
     expect(list.look_command(), 0, [NONE, NONE, 0]);
+    list.look_checksums();
     list.command(PAINT);
     list.data(&[0x84, 0x10]);
     expect(list.pixel_rgb(0), 0, [131 << 16 | 129 << 8 | 131, 0, 0]);
@@ -194,7 +195,8 @@ fn nothing(list: &mut List) {
     list.look_checksums();
 }
 
-/// What is above the bytes, places and colours is cut off.
+/// What is above the bytes, places and colours is cut off, and what a kind
+/// does not use is nothing to it.
 fn counts_and_cuts(list: &mut List) {
     list.step(COMMAND, 0xFFFF_FFFF, 0xFFFF_FFFF_FFFF_FF2A);
     for count in [0, 1, 2] {
@@ -208,6 +210,11 @@ fn counts_and_cuts(list: &mut List) {
         list.look_command();
     }
     list.step(LENT_DATA, FRAMEBUFFER as u64, 0xFFFF_FFFF_FFFF_FF99);
+    list.look_command();
+    for kind in [DMA, RGB, PIXEL_RGB] {
+        list.step(kind, 0xFFFF_0123, 0xFFFF_FFFF_FFFF_4567);
+    }
+    list.step(LOOK, 2, 0xFFFF_FFFF_FFFF_4567);
     for place in X0..=HALF {
         list.put(place, 0xFFFF_FFFF_FFFF_0007 + place);
     }
