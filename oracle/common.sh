@@ -1,5 +1,5 @@
 # shellcheck shell=sh disable=SC2154
-# What compare and compare_time have in common; both read it in. They set
+# What the scripts that compare have in common; they read it in. They set
 # `name` (their own), `oracle` (the Rust side's program) and `silent` (an awk
 # pattern for the steps that print nothing) before they judge.
 
@@ -70,4 +70,60 @@ judge() {
     "$port" <"$work/list" >"$work/port" || status=$?
     cmp -s -- "$work/rust" "$work/port" || differ "$1" "$(first_difference)"
     [ "$status" -lt 126 ] || differ "$1" "the port ended with status $status"
+}
+
+# Writes the list that the arguments say, and judges it by its name.
+compare_list() {
+    "$out/$generator" "$@" >"$work/list" 2>"$work/counts"
+    judge "$list"
+    cat -- "$work/counts" >>"$work/all_counts"
+    total=$((total + 1))
+}
+
+# Prints the sums of the counts in all lists together, in their order.
+sum_counts() {
+    awk -F ': ' -v lists="$total" -v counted="$counted" '
+        $1 !~ counted { next }
+        !($1 in sum) { order[++names] = $1 }
+        { sum[$1] += $2 }
+        END {
+            printf "%d lists", lists
+            for (at = 1; at <= names; at++) printf ", %s %d", order[at], sum[order[at]]
+            print ", 0 differences"
+        }' "$work/all_counts"
+}
+
+# All of a script whose lists come in families. It takes the script's
+# arguments, and the script sets `generator` (the program that writes its
+# lists), `counted` (an awk pattern for the counts that are summed up), and
+# `lists` and `steps` (their defaults) as well.
+compare_families() {
+    first=1
+    while getopts s:n:k: option; do
+        case $option in
+        s) first=$OPTARG ;;
+        n) lists=$OPTARG ;;
+        k) steps=$OPTARG ;;
+        *) usage ;;
+        esac
+    done
+    shift $((OPTIND - 1))
+    [ $# -eq 1 ] || usage
+    case $first$lists$steps in
+    *[!0-9]*) usage ;;
+    esac
+    prepare "$1"
+
+    total=0
+    list='fixed list'
+    compare_list fixed
+    for family in $("$out/$generator" families); do
+        seed=$first
+        while [ "$seed" -lt $((first + lists)) ]; do
+            list="family $family, seed $seed, $steps steps"
+            compare_list "$family" "$seed" "$steps"
+            seed=$((seed + 1))
+        done
+    done
+    sum_counts
 }

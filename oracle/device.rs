@@ -1,4 +1,4 @@
-//! The device of document 000, included unchanged, and how both harnesses
+//! The device of document 000, included unchanged, and how the harnesses
 //! start it. A program makes these names its crate root's own, for there the
 //! device looks for them.
 

@@ -1,39 +1,18 @@
 //! Answers a list for the time devices by the Rust device itself: document
-//! 000, included unchanged. Standard input holds one step a line, and every
-//! step prints one line; `time_steps.rs` says which steps there are.
+//! 000, included unchanged. `time_steps.rs` says which steps there are.
 
+mod answers;
 mod device;
-// The generator uses all of it, this program only some.
+// The generator uses all of these, this program only some.
+#[allow(dead_code)]
+mod step;
 #[allow(dead_code)]
 mod time_steps;
 
-use std::io::{self, BufRead, BufWriter, Error, ErrorKind, Write};
+use std::io;
 
 use device::*;
-use time_steps::Step;
-
-/// `from_str_radix` alone would take capitals and a sign, too.
-fn hex(field: &str) -> Option<u64> {
-    let plain = field.bytes().all(|b| matches!(b, b'0'..=b'9' | b'a'..=b'f'));
-    u64::from_str_radix(field, 16).ok().filter(|_| plain)
-}
-
-fn parse(line: &str) -> Option<Step> {
-    let fields: Option<Vec<u64>> = line.split(' ').map(hex).collect();
-    match fields?[..] {
-        [kind, address, value] => Some(Step { kind, address, value }),
-        _ => None,
-    }
-}
 
 fn main() -> io::Result<()> {
-    let mut out = BufWriter::new(io::stdout().lock());
-    let mut system = fresh();
-    for (at, line) in io::stdin().lock().lines().enumerate() {
-        // No list holds such a line, and no answer to it is laid down.
-        let bad = || Error::new(ErrorKind::InvalidData, format!("line {} is no step", at + 1));
-        let step = parse(&line?).ok_or_else(bad)?;
-        writeln!(out, "{}", step.answer(&mut system))?;
-    }
-    out.flush()
+    answers::answer_list::<sys::System>()
 }

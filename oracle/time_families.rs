@@ -1,25 +1,17 @@
 //! The families of lists for the time devices, and what their authors share.
 
+use crate::generator::{family, Authorship, Family};
 use crate::random::Random;
-use crate::sys::{ADC_BASE, RTC_BUS, RTC_IRQ_BASE, TIMER_BASE};
+use crate::sys::{System, ADC_BASE, RTC_BUS, RTC_IRQ_BASE, TIMER_BASE};
 use crate::time_clocks::{adc, day, rtc};
+use crate::time_fixed::fixed_list;
 use crate::time_limits::{limits, wild};
 use crate::time_list::List;
 use crate::time_numbers::{fraction, off, TURBOS};
 use crate::time_steps::{FASTEST, LAST_GAME_TIME, LAST_TIME, SLOWEST};
 use crate::time_timers::{sound, timers};
 
-pub struct Family {
-    pub name: &'static str,
-    /// Adds a few steps.
-    action: fn(&mut Author),
-}
-
-const fn family(name: &'static str, action: fn(&mut Author)) -> Family {
-    Family { name, action }
-}
-
-pub const FAMILIES: [Family; 8] = [
+const FAMILIES: [Family<Author>; 8] = [
     family("timers", timers),
     family("sound", sound),
     family("rtc", rtc),
@@ -52,33 +44,11 @@ const OTHER_WORDS: [u32; 12] = [
     ADC_BASE + 0x08,
 ];
 
-impl Family {
-    pub fn named(name: &str) -> Option<&'static Family> {
-        FAMILIES.iter().find(|family| family.name == name)
-    }
-
-    pub fn act(&self, author: &mut Author) {
-        author.list.begin(self.name);
-        author.settle();
-        (self.action)(author);
-    }
-}
-
 /// Each action belongs to another family. Wild ones are rarer, for they undo
 /// what the others have built up.
 fn mixture(author: &mut Author) {
     let at = author.random.below(4 * TAME + 1) / 4;
     FAMILIES[at].act(author);
-}
-
-/// A list of at least `steps` steps, and its ending.
-pub fn random_list(family: &Family, seed: u64, steps: usize) -> List {
-    let mut author = Author::new(seed);
-    while author.list.steps() < steps {
-        family.act(&mut author);
-    }
-    author.list.end();
-    author.list
 }
 
 pub struct Author {
@@ -90,8 +60,12 @@ pub struct Author {
     pub next_pair: u64,
 }
 
-impl Author {
-    pub fn new(seed: u64) -> Author {
+impl Authorship for Author {
+    type Device = System;
+    const PROGRAM: &'static str = "oracle_time_generate";
+    const FAMILIES: &'static [Family<Author>] = &FAMILIES;
+
+    fn new(seed: u64) -> Author {
         Author {
             random: Random::new(seed),
             list: List::new(),
@@ -101,6 +75,41 @@ impl Author {
         }
     }
 
+    fn list(&mut self) -> &mut List {
+        &mut self.list
+    }
+
+    fn into_list(self) -> List {
+        self.list
+    }
+
+    /// Where time has come near its end, or state is wild, little happens any
+    /// more. Then time is sometimes set back, and what counts it mostly.
+    fn settle(&mut self) {
+        if self.lively() || !self.random.one_in(4) {
+            return;
+        }
+        let now = fraction(&mut self.random) * self.random.pick(&[0.0, 1.0, 1e3, 1e6]);
+        let game = now * self.random.pick(&[0.0, 1.0, 1000.0]);
+        self.list.put_number(0x6, now);
+        self.list.put_number(0x7, game);
+        self.change_turbo();
+        if !self.random.one_in(4) {
+            self.list.put(0xF, game as u64);
+            self.list.put(0x16, (now * 60.0) as u64);
+        }
+    }
+
+    fn end(&mut self) {
+        self.list.end();
+    }
+
+    fn fixed_list() -> List {
+        fixed_list()
+    }
+}
+
+impl Author {
     pub fn any_word(&mut self) -> u32 {
         match self.random.below(TIMER_WORDS + OTHER_WORDS.len()) {
             at if at < TIMER_WORDS => TIMER_BASE + 4 * at as u32,
@@ -155,22 +164,5 @@ impl Author {
         (0.0..0.9 * LAST_TIME).contains(&device.now)
             && (0.0..0.9 * LAST_GAME_TIME).contains(&device.game_time)
             && (SLOWEST..=FASTEST).contains(&device.turbo)
-    }
-
-    /// Where time has come near its end, or state is wild, little happens any
-    /// more. Then time is sometimes set back, and what counts it mostly.
-    fn settle(&mut self) {
-        if self.lively() || !self.random.one_in(4) {
-            return;
-        }
-        let now = fraction(&mut self.random) * self.random.pick(&[0.0, 1.0, 1e3, 1e6]);
-        let game = now * self.random.pick(&[0.0, 1.0, 1000.0]);
-        self.list.put_number(0x6, now);
-        self.list.put_number(0x7, game);
-        self.change_turbo();
-        if !self.random.one_in(4) {
-            self.list.put(0xF, game as u64);
-            self.list.put(0x16, (now * 60.0) as u64);
-        }
     }
 }

@@ -1,9 +1,11 @@
 //! The fixed list for the time devices: the paper's examples, then each rule
 //! and each edge at least once, in little text, then random steps.
 
+use crate::generator::{expect, take_turns, Authorship};
+use crate::step::Answer;
 use crate::sys::{RTC_IRQ_BASE, SOUND_TIMER};
 use crate::time_clocks::*;
-use crate::time_families::{Author, Family};
+use crate::time_families::Author;
 use crate::time_list::List;
 use crate::time_numbers::*;
 use crate::time_steps::*;
@@ -11,6 +13,8 @@ use crate::time_timers::*;
 
 /// With the ending there are at most 2,500.
 const STEPS: usize = 2_450;
+
+const TURNS: [&str; 7] = ["timers", "sound", "rtc", "day", "adc", "limits", "wild"];
 
 pub fn fixed_list() -> List {
     let mut author = Author::new(0);
@@ -40,25 +44,10 @@ pub fn fixed_list() -> List {
     list.begin("wild");
     wild_numbers(list);
     wild_counts(list);
-    random_steps(&mut author);
+    restart(list);
+    take_turns(&mut author, &TURNS, STEPS);
     author.list.end();
     author.list
-}
-
-/// The families take turns.
-fn random_steps(author: &mut Author) {
-    restart(&mut author.list);
-    let names = ["timers", "sound", "rtc", "day", "adc", "limits", "wild"];
-    for name in names.into_iter().cycle() {
-        if author.list.steps() >= STEPS {
-            return;
-        }
-        Family::named(name).unwrap().act(author);
-    }
-}
-
-fn expect(answer: Answer, refusal: u8, words: [u64; 3]) {
-    assert_eq!(answer, Answer { refusal, words });
 }
 
 /// Time goes back to its beginning.

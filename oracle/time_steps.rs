@@ -2,9 +2,9 @@
 //! how document 000 answers them. What the paper adds to document 000, the
 //! refusals, is decided here and nowhere else.
 
-use std::fmt;
-
 use crate::cpu::Bus;
+use crate::device::fresh;
+use crate::step::*;
 use crate::sys::{System, LCD_BASE, SYSCLK_VAR};
 
 pub const READ: u64 = 0x1;
@@ -12,13 +12,8 @@ pub const WRITE: u64 = 0x2;
 pub const ADVANCE: u64 = 0x3;
 pub const TURBO: u64 = 0x6;
 pub const TAKE: u64 = 0x9;
-// The rest are for tests only: they reach what no register shows.
+/// For tests only, as are looks and puts.
 pub const CLOCK: u64 = 0xA;
-pub const LOOK: u64 = 0xB;
-pub const PUT: u64 = 0xC;
-
-/// The kinds that do something; any other does nothing.
-pub const KINDS: [u64; 8] = [READ, WRITE, ADVANCE, TURBO, TAKE, CLOCK, LOOK, PUT];
 
 pub const BAD_TIME: u8 = 1;
 pub const BAD_TURBO: u8 = 2;
@@ -33,59 +28,28 @@ pub const FASTEST: f64 = 1024.0;
 /// The sound events that wait at most.
 pub const EVENTS: usize = 256;
 
-#[derive(Clone, Copy)]
-pub struct Step {
-    pub kind: u64,
-    pub address: u64,
-    pub value: u64,
-}
+impl Device for System {
+    const KINDS: &'static [u64] = &[READ, WRITE, ADVANCE, TURBO, TAKE, CLOCK, LOOK, PUT];
 
-/// A refusal's number, 0 for done, and three words; unused ones are 0.
-#[derive(Clone, Copy, PartialEq, Eq, Debug)]
-pub struct Answer {
-    pub refusal: u8,
-    pub words: [u64; 3],
-}
-
-const DONE: Answer = words(0, 0, 0);
-
-const fn words(a: u64, b: u64, c: u64) -> Answer {
-    Answer { refusal: 0, words: [a, b, c] }
-}
-
-fn refused(refusal: u8) -> Answer {
-    Answer { refusal, ..DONE }
-}
-
-impl fmt::Display for Answer {
-    fn fmt(&self, f: &mut fmt::Formatter) -> fmt::Result {
-        let [a, b, c] = self.words;
-        write!(f, "{:02x} {a:016x} {b:016x} {c:016x}", self.refusal)
+    fn start() -> System {
+        fresh()
     }
-}
 
-impl fmt::Display for Step {
-    fn fmt(&self, f: &mut fmt::Formatter) -> fmt::Result {
-        write!(f, "{:02x} {:08x} {:016x}", self.kind, self.address, self.value)
-    }
-}
-
-impl Step {
-    pub fn answer(self, system: &mut System) -> Answer {
-        let Step { kind, address, value } = self;
+    fn answer(&mut self, step: Step) -> Answer {
+        let Step { kind, address, value } = step;
         match kind {
-            READ => words(system.read32(address as u32).into(), 0, 0),
-            WRITE => write(system, address as u32, value as u32),
-            ADVANCE => advance(system, f64::from_bits(value)),
-            TURBO => turbo(system, f64::from_bits(value)),
-            TAKE => take(system),
+            READ => words(self.read32(address as u32).into(), 0, 0),
+            WRITE => write(self, address as u32, value as u32),
+            ADVANCE => advance(self, f64::from_bits(value)),
+            TURBO => turbo(self, f64::from_bits(value)),
+            TAKE => take(self),
             CLOCK => {
-                system.write32(SYSCLK_VAR, value as u32);
+                self.write32(SYSCLK_VAR, value as u32);
                 DONE
             }
-            LOOK => look(system, address),
+            LOOK => look(self, address),
             PUT => {
-                put(system, address, value);
+                put(self, address, value);
                 DONE
             }
             _ => DONE,

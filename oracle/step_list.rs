@@ -1,0 +1,85 @@
+//! A list of steps being written, and counts of what stands in it. The device
+//! works every step at once, so that an author sees the state that a list has
+//! reached and can aim at its edges.
+
+use std::collections::BTreeMap;
+use std::io::{self, Write};
+
+use crate::step::*;
+
+pub struct StepList<D> {
+    pub device: D,
+    text: Vec<u8>,
+    part: &'static str,
+    steps: usize,
+    kinds: BTreeMap<u64, u64>,
+    parts: BTreeMap<&'static str, u64>,
+    refusals: BTreeMap<u8, u64>,
+}
+
+impl<D: Device> StepList<D> {
+    pub fn new() -> StepList<D> {
+        StepList {
+            device: D::start(),
+            text: Vec::new(),
+            part: "",
+            steps: 0,
+            kinds: BTreeMap::new(),
+            parts: BTreeMap::new(),
+            refusals: BTreeMap::new(),
+        }
+    }
+
+    pub fn steps(&self) -> usize {
+        self.steps
+    }
+
+    /// Names what the next steps belong to, for the counts.
+    pub fn begin(&mut self, part: &'static str) {
+        self.part = part;
+    }
+
+    pub fn step(&mut self, kind: u64, address: u64, value: u64) -> Answer {
+        let step = Step { kind, address, value };
+        self.text.extend(format!("{step}\n").bytes());
+        let answer = self.device.answer(step);
+        self.steps += 1;
+        *self.kinds.entry(kind).or_default() += 1;
+        *self.parts.entry(self.part).or_default() += 1;
+        *self.refusals.entry(answer.refusal).or_default() += 1;
+        answer
+    }
+
+    pub fn look(&mut self, at: u64) -> Answer {
+        self.step(LOOK, at, 0)
+    }
+
+    pub fn put(&mut self, at: u64, value: u64) -> Answer {
+        self.step(PUT, at, value)
+    }
+
+    pub fn into_text(self) -> Vec<u8> {
+        self.text
+    }
+
+    /// One count a line, the number last.
+    pub fn report(&self, out: &mut impl Write) -> io::Result<()> {
+        writeln!(out, "steps: {}", self.steps)?;
+        for (name, count) in self.device.counts() {
+            writeln!(out, "{name}: {count}")?;
+        }
+        let of_kind = |kind| self.kinds.get(&kind).copied().unwrap_or(0);
+        for &kind in D::KINDS {
+            writeln!(out, "kind {kind:x}: {}", of_kind(kind))?;
+        }
+        let known: u64 = D::KINDS.iter().copied().map(of_kind).sum();
+        writeln!(out, "other kinds: {}", self.steps as u64 - known)?;
+        for (part, count) in &self.parts {
+            writeln!(out, "family {part}: {count}")?;
+        }
+        for (refusal, count) in &self.refusals {
+            writeln!(out, "refusal {refusal:02x}: {count}")?;
+        }
+        Ok(())
+    }
+}
