@@ -10,7 +10,7 @@ use Rattle.panel.specs.declared.Held.the-variants.{Nothing, Byte}
 use Rattle.panel.specs.declared.Window.{Window}
 use Rattle.panel.specs.declared.Pen.{Pen}
 use Rattle.panel.specs.declared.Panel.{Panel}
-use Rattle.panel.specs.Lcd.{penAt, withPen, begun, counts, commanded, spot, put, nextPen, penned, inked, codeOf, aimed, pairAt, argued, fed}
+use Rattle.panel.specs.Lcd.{penAt, withPen, begun, counts, commanded, counted, spot, put, nextPen, penned, inked, codeOf, aimed, pairAt, argued, fed}
 use Rattle.panel.specs.Lcd.{painted}
 use Rattle.panel.specs.Colour.{pixelAt, rgbOf}
 use Rattle.panel.specs.Entries.{Screen, screen, Drawing, drawing, dataOf, pixelOf, black, pictureOf}
@@ -101,6 +101,11 @@ module _ (p : Panel) (b : ℕ) where
   unfolding argued
   argued-fourth e = simp (e)
 
+  -- as the function finds the window
+  pub argues-fourth : (c lo hi : ℕ) (w : Window) → p .count ≡ 3 → lo ≡ pairAt kept 0 → hi ≡ pairAt kept 2 → c ≡ codeOf (p .cmd) → w ≡ aimed (p .window) c lo hi
+      → record { cmd = p .cmd; args = kept; count = 4; window = w; pen = p .pen } ≡ argued p b
+  argues-fourth c lo hi w e f g h a = rw (a, h, f, g) (sym (argued-fourth e))
+
   pub argued-kept : p .count < 4 → p .count ≢ 3
       → argued p b ≡ record { cmd = p .cmd; args = kept; count = p .count + 1; window = p .window; pen = p .pen }
   unfolding argued
@@ -127,6 +132,11 @@ module _ (p : Panel) (b : ℕ) where
   pub painted-not : (fb : List ℕ) → codeOf (p .cmd) ≢ 0x2C → painted p fb b ≡ fb
   unfolding painted
   painted-not fb n = simp (ne-eqb _ _ n)
+
+-- ---- DMA
+pub counts-frame : (p : Panel) (n : ℕ) → n ≡ counts (p .pen .frames) → withPen p (penAt (p .pen .x) (p .pen .y) (p .pen .half) n) ≡ counted p
+unfolding counted
+counts-frame p n e = rw e
 
 -- ---- a record is known by its fields
 pub screen-is : {p q : Panel} {fb gb : List ℕ} → p ≡ q → fb ≡ gb → screen p fb ≡ screen q gb

@@ -85,6 +85,14 @@ over-three (x ∷ xs) (o ∷ out) c =
     ∙ sym (ap (λ m. set m (suc n + 2) (c .b)) (set-next x (set l n (c .r)) (suc n + 1) (n + 1) (c .g) (omega arith))
     ∙ set-next x (set (set l n (c .r)) (n + 1) (c .g)) (suc n + 2) (n + 2) (c .b) (omega arith))
 
+-- ---- as the functions find them
+pub lays : (out a b d : List ℕ) (i : ℕ) (c : Colours) → a ≡ set out i (c .r) → b ≡ set a (i + 1) (c .g) → d ≡ set b (i + 2) (c .b) → d ≡ triple out i c
+lays out a b d i c p q r = cc
+
+pub pixel-is : (fb : List ℕ) (k hi lo v : ℕ) (c : Colours)
+    → hi ≡ getD fb (k % 16384 * 2 + 1) 0 → lo ≡ getD fb (k % 16384 * 2) 0 → v ≡ hi * 256 + lo → c ≡ parted v → c ≡ pixelAt fb k
+pixel-is fb k hi lo v c p q r s = cc
+
 -- ---- the loop: over what was there, the colours of the first pixels
 module _ (fb out : List ℕ) where
   pub none-shown : out ≡ over (first 0 fb) out

@@ -1,6 +1,6 @@
-use mathlib.Core.Path.{sym, _∙_}
+use mathlib.Core.Path.{sym}
 use native.Mathlib.Omega.{arith}
-use Rattle.panel.proofs.Cases.{argued-fourth, argued-kept, argued-full}
+use Rattle.panel.proofs.Cases.{argues-fourth, argued-kept, argued-full}
 use borrow.Author.Needs.{needs}
 use Rattle.panel.proofs.args.argument.Statement.{statement}
 use Rattle.panel.proofs.args.argument.Tie as tie
@@ -36,7 +36,7 @@ aim-requires : tie.Need-aim-requires
 aim-requires c κs = search needs
 
 returns : tie.Need-returns
-returns c = (cc) ∙ sym (argued-fourth _ _ (omega arith))
+returns c = argues-fourth _ _ _ _ _ _ (omega arith) (c .before .before .before .wide .ensures) (c .before .before .wide2 .ensures) (c .before .code .ensures) (c .aim .ensures)
 
 add-t29 : tie.Need-add-t29
 add-t29 c = search needs

@@ -1,3 +1,4 @@
+use Rattle.panel.proofs.Drawn.{pixel-is}
 use borrow.Author.Needs.{needs}
 use Rattle.panel.proofs.colour.at.Statement.{statement}
 use Rattle.panel.proofs.colour.at.Tie as tie
@@ -24,7 +25,9 @@ parts-requires : tie.Need-parts-requires
 parts-requires c κs = search needs
 
 returns : tie.Need-returns
-returns c = cc
+returns c =
+    let at-args = (c .before .before .before .before .before .args) in
+    pixel-is (at-args .fb .now) (at-args .k) _ _ _ _ (c .before .before .before .load .ensures) (c .before .before .load2 .ensures) (c .before .wide .ensures) (c .parts .ensures)
 
 pub at-spec : {M : Type 1} → statement M
 at-spec =

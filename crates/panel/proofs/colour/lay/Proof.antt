@@ -1,3 +1,4 @@
+use Rattle.panel.proofs.Drawn.{lays}
 use borrow.Author.Needs.{needs}
 use Rattle.panel.proofs.colour.lay.Statement.{statement}
 use Rattle.panel.proofs.colour.lay.Tie as tie
@@ -21,7 +22,9 @@ same-length : tie.Need-same-length
 same-length c = search needs
 
 returns : tie.Need-returns
-returns c = cc
+returns c =
+    let at-args = (c .before .before .before .before .before .before .before .before .before .before .before .before .before .args) in
+    lays (at-args .out .now) _ _ _ (at-args .i) (at-args .c) (c .before .before .before .before .before .before .before .before .before .before .store .ensures) (c .before .before .before .before .before .before .store2 .ensures) (c .before .before .store3 .ensures)
 
 pub lay-spec : {M : Type 1} → statement M
 lay-spec =

@@ -17,14 +17,17 @@ next-requires : tie.Need-next-requires
 next-requires c κs = search needs
 
 returns : tie.Need-returns
-returns c = drawing-is (sym (penned-first _ _ _ (search needs))) (sym (inked-first _ _ _ (search needs)))
+returns c =
+    let h = c .enum-told .given .1 in
+    drawing-is (sym (penned-first _ _ _ h)) (sym (inked-first _ _ _ h))
 
 same-length : tie.Need-same-length
 same-length c = search needs
 
 returns-2 : tie.Need-returns-2
-returns-2 c = let h = c .before .before .before .before .before .before .half .given .1 in
-    drawing-is ((cc) ∙ sym (penned-second _ _ _ _ h)) ((cc) ∙ sym (inked-second _ _ _ _ h))
+returns-2 c =
+    let h = c .before .before .before .before .before .before .half .given .1 in
+    drawing-is ((c .next .ensures) ∙ sym (penned-second _ _ _ _ h)) ((c .before .before .before .place .ensures) ∙ sym (inked-second _ _ _ _ h))
 
 pub paint-spec : {M : Type 1} → statement M
 paint-spec =
