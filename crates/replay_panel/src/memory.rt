@@ -53,13 +53,18 @@ pub(crate) fn draw(framebuffer: &mut [u8], first: u64) {
     }
 }
 
+// What a call of the panel answers: a word, or the number of its refusal.
+pub(crate) fn told(refusal: Refusal, word: u64) -> Answer {
+    match refusal {
+        Refusal::Done => answered(word, 0, 0),
+        Refusal::BadMemory => refused(7),
+    }
+}
+
 // The colours of the whole framebuffer, with only so many bytes of it and of the screen lent.
 pub(crate) fn show(framebuffer: &[u8], screen: &mut [u8], count: u64, room: u64) -> Answer {
     let n = lent(count, framebuffer);
     let m = lent(room, screen);
     let refusal = panel::rgb(&framebuffer[..n], &mut screen[..m]);
-    match refusal {
-        Refusal::Done => answered(checksum(screen), 0, 0),
-        Refusal::BadMemory => refused(7),
-    }
+    told(refusal, checksum(screen))
 }

@@ -2,12 +2,9 @@
 ghost use Prim.Native.Nat.{_<_};
 use crate::memory::least;
 use crate::memory::lent;
+use crate::memory::told;
 use crate::step::Stepped;
-use crate::step::said;
-use lines::answered;
-use lines::refused;
 use panel::Panel;
-use panel::Refusal;
 
 // The byte, with only so many bytes of the framebuffer lent.
 pub(crate) fn send(panel: Panel, framebuffer: &mut [u8], count: u64, byte: u64) -> Stepped {
@@ -15,9 +12,9 @@ pub(crate) fn send(panel: Panel, framebuffer: &mut [u8], count: u64, byte: u64) 
     let sent = panel::data(panel, &mut framebuffer[..n], (byte % 256) as u8);
     let next = sent.panel;
     let refusal = sent.refusal;
-    match refusal {
-        Refusal::Done => said(next, answered(0, 0, 0)),
-        Refusal::BadMemory => said(next, refused(7)),
+    Stepped {
+        panel: next,
+        answer: told(refusal, 0),
     }
 }
 

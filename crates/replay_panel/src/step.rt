@@ -2,6 +2,7 @@
 use crate::look::look;
 use crate::memory::draw;
 use crate::memory::show;
+use crate::memory::told;
 use crate::put::put;
 use crate::send::send;
 use crate::send::send_all;
@@ -15,22 +16,54 @@ pub struct Stepped {
     pub answer: Answer,
 }
 
-pub(crate) fn said(panel: Panel, answer: Answer) -> Stepped {
-    Stepped { panel, answer }
-}
-
-fn done(panel: Panel) -> Stepped {
-    said(panel, answered(0, 0, 0))
-}
-
 // The red, green and blue of a pixel.
-fn colours(framebuffer: &[u8; 32768], at: u64) -> Answer {
+fn colours(framebuffer: &[u8], at: u64) -> Answer {
     let shown = panel::rgb_at(framebuffer, (at % 16384) as u32);
     let c = shown.colours;
-    answered(c.r as u64 * 65536 + c.g as u64 * 256 + c.b as u64, 0, 0)
+    let refusal = shown.refusal;
+    told(refusal, c.r as u64 * 65536 + c.g as u64 * 256 + c.b as u64)
 }
 
-// Any kind that is not here does nothing.
+fn dma(panel: Panel, framebuffer: &mut [u8], first: u64) -> Panel {
+    draw(framebuffer, first);
+    panel::lcd::count_frame(panel)
+}
+
+// The kinds that change the panel and have nothing to say. Any other kind changes nothing.
+fn changed(
+    panel: Panel,
+    framebuffer: &mut [u8; 32768],
+    kind: u64,
+    address: u64,
+    value: u64,
+) -> Panel {
+    match kind {
+        1 => panel::lcd::command(panel, (value % 256) as u8),
+        2 => send_all(panel, framebuffer, address, value),
+        3 => dma(panel, framebuffer, value),
+        12 => put(panel, address, value),
+        _ => panel,
+    }
+}
+
+// The kinds that have something to say and leave the panel as it is.
+fn answer(
+    panel: Panel,
+    framebuffer: &[u8; 32768],
+    screen: &mut [u8; 49152],
+    kind: u64,
+    address: u64,
+    value: u64,
+) -> Answer {
+    match kind {
+        4 => colours(framebuffer, address),
+        5 => show(framebuffer, screen, 32768, 49152),
+        7 => show(framebuffer, screen, address, value),
+        11 => look(panel, framebuffer, screen, address),
+        _ => answered(0, 0, 0),
+    }
+}
+
 pub(crate) fn step(
     panel: Panel,
     framebuffer: &mut [u8; 32768],
@@ -38,19 +71,12 @@ pub(crate) fn step(
     s: Step,
 ) -> Stepped {
     let kind = s.kind;
-    match kind {
-        1 => done(panel::lcd::command(panel, (s.value % 256) as u8)),
-        2 => done(send_all(panel, framebuffer, s.address, s.value)),
-        3 => {
-            draw(framebuffer, s.value);
-            done(panel::lcd::count_frame(panel))
-        }
-        4 => said(panel, colours(framebuffer, s.address)),
-        5 => said(panel, show(framebuffer, screen, 32768, 49152)),
-        6 => send(panel, framebuffer, s.address, s.value),
-        7 => said(panel, show(framebuffer, screen, s.address, s.value)),
-        11 => said(panel, look(panel, framebuffer, screen, s.address)),
-        12 => done(put(panel, s.address, s.value)),
-        _ => done(panel),
+    if kind == 6 {
+        return send(panel, framebuffer, s.address, s.value);
+    }
+    let next = changed(panel, framebuffer, kind, s.address, s.value);
+    Stepped {
+        panel: next,
+        answer: answer(next, framebuffer, screen, kind, s.address, s.value),
     }
 }
