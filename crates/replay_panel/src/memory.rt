@@ -1,10 +1,11 @@
 // The framebuffer and the screen as a whole.
 ghost use Prim.Native.Nat.{_≤_};
 ghost use Rattle.io.specs.Counts.{Counts};
+use crate::step::told;
 use lines::Answer;
-use lines::answered;
-use lines::refused;
-use panel::Refusal;
+
+// 2^55 - 55.
+const MODULUS: u64 = 36028797018963913;
 
 pub(crate) fn least(n: u64, most: u64) -> u64
     ensures { λ r. ⌜ r ≤ most ⌝ }
@@ -21,7 +22,7 @@ pub(crate) fn lent(n: u64, bytes: &[u8]) -> usize
 
 // The checksum with one byte more.
 fn mixed(sum: u64, byte: u8) -> u64 {
-    (sum % 36028797018963913 * 257 + byte as u64 + 1) % 36028797018963913
+    (sum % MODULUS * 257 + byte as u64 + 1) % MODULUS
 }
 
 pub(crate) fn checksum(bytes: &[u8]) -> u64 {
@@ -50,14 +51,6 @@ pub(crate) fn draw(framebuffer: &mut [u8], first: u64) {
     while i < framebuffer.len() {
         framebuffer[i] = picture_byte(first, i);
         i += 1;
-    }
-}
-
-// What a call of the panel answers: a word, or the number of its refusal.
-pub(crate) fn told(refusal: Refusal, word: u64) -> Answer {
-    match refusal {
-        Refusal::Done => answered(word, 0, 0),
-        Refusal::BadMemory => refused(7),
     }
 }
 

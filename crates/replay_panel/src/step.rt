@@ -2,23 +2,32 @@
 use crate::look::look;
 use crate::memory::draw;
 use crate::memory::show;
-use crate::memory::told;
 use crate::put::put;
 use crate::send::send;
 use crate::send::send_all;
 use lines::Answer;
 use lines::Step;
 use lines::answered;
+use lines::refused;
 use panel::Panel;
+use panel::Refusal;
 
 pub struct Stepped {
     pub panel: Panel,
     pub answer: Answer,
 }
 
+// What a call of the panel answers: a word, or the number of its refusal.
+pub(crate) fn told(refusal: Refusal, word: u64) -> Answer {
+    match refusal {
+        Refusal::Done => answered(word, 0, 0),
+        Refusal::BadMemory => refused(7),
+    }
+}
+
 // The red, green and blue of a pixel.
 fn colours(framebuffer: &[u8], at: u64) -> Answer {
-    let shown = panel::rgb_at(framebuffer, (at % 16384) as u32);
+    let shown = panel::rgb_at(framebuffer, (at % 0x1_0000_0000) as u32);
     let c = shown.colours;
     let refusal = shown.refusal;
     told(refusal, c.r as u64 * 65536 + c.g as u64 * 256 + c.b as u64)
@@ -29,7 +38,7 @@ fn dma(panel: Panel, framebuffer: &mut [u8], first: u64) -> Panel {
     panel::lcd::count_frame(panel)
 }
 
-// The kinds that change the panel and have nothing to say. Any other kind changes nothing.
+// The kinds that change the panel or its pixels and have nothing to say. Any other kind changes nothing.
 fn changed(
     panel: Panel,
     framebuffer: &mut [u8; 32768],

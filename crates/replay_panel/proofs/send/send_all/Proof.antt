@@ -1,8 +1,8 @@
 -- `send::send_all` is safe and ends: the bytes that are left are counted down.
+use borrow.Author.Needs.{needs}
 use mathlib.Core.Path.{_≡_}
 use Prim.Native.Nat.{_≤_}
 use lib.ListN.{length}
-use borrow.Author.Needs.{needs}
 use Rattle.replay_panel.proofs.send.send_all.Statement.{statement}
 use Rattle.replay_panel.proofs.send.send_all.Tie as tie
 
@@ -21,8 +21,11 @@ loop-holds c = search needs
 sub-left : tie.Need-sub-left Inv-loop μ-loop
 sub-left c = search needs
 
-byte-at-requires : tie.Need-byte-at-requires Inv-loop μ-loop
-byte-at-requires c κs = search needs
+mul-send : tie.Need-mul-send Inv-loop μ-loop
+mul-send c = search needs
+
+shr-send : tie.Need-shr-send Inv-loop μ-loop
+shr-send c = search needs
 
 send-requires : tie.Need-send-requires Inv-loop μ-loop
 send-requires c κs = search needs
@@ -48,7 +51,8 @@ send-all-spec =
     least-requires
     loop-holds
     sub-left
-    byte-at-requires
+    mul-send
+    shr-send
     send-requires
     loop-less
     loop-again
