@@ -1,13 +1,13 @@
 // Looks at what no register shows.
-use crate::machine::Answer;
 use crate::machine::Machine;
-use crate::machine::answered;
 use crate::machine::timer_of;
 use crate::machine::word_of;
 use crate::numbers::bits_of;
 use crate::numbers::flag;
 use clock::Alarm;
 use clock::Rtc;
+use lines::Answer;
+use lines::answered;
 use timer::Timer;
 
 fn timer_look(t: Timer) -> Answer {

@@ -4,6 +4,8 @@ use clock::Adc;
 use clock::Rtc;
 use clock::RtcIrq;
 use clock::Times;
+use lines::Answer;
+use lines::answered;
 use timer::Queue;
 use timer::Timer;
 use timer::Tone;
@@ -27,26 +29,9 @@ pub struct Machine {
     pub converting: bool,
 }
 
-// What a step answers: its refusal, 0 if there is none, and three words.
-pub struct Answer {
-    pub refusal: u8,
-    pub a: u64,
-    pub b: u64,
-    pub c: u64,
-}
-
 pub struct Stepped {
     pub machine: Machine,
     pub answer: Answer,
-}
-
-pub(crate) fn answered(a: u64, b: u64, c: u64) -> Answer {
-    Answer {
-        refusal: 0,
-        a,
-        b,
-        c,
-    }
 }
 
 pub(crate) fn done(machine: Machine) -> Stepped {
@@ -56,16 +41,11 @@ pub(crate) fn done(machine: Machine) -> Stepped {
     }
 }
 
-// A refusal has no words beside it, and the machine that is given with it is the one before the step.
+// The machine that is given with a refusal is the one before the step.
 pub(crate) fn refused(machine: Machine, refusal: u8) -> Stepped {
     Stepped {
         machine,
-        answer: Answer {
-            refusal,
-            a: 0,
-            b: 0,
-            c: 0,
-        },
+        answer: lines::refused(refusal),
     }
 }
 

@@ -1,11 +1,9 @@
 // Answers a list of steps for timers, sound, clocks and ADC: see README.md beside src/.
 mod advance;
-mod line;
 mod look;
 mod machine;
 mod numbers;
 mod place;
-mod print;
 mod put;
 mod read;
 mod step;

@@ -2,10 +2,8 @@
 use crate::advance::advance;
 use crate::advance::turbo;
 use crate::look::look;
-use crate::machine::Answer;
 use crate::machine::Machine;
 use crate::machine::Stepped;
-use crate::machine::answered;
 use crate::machine::done;
 use crate::machine::refused;
 use crate::numbers::bits_of;
@@ -13,6 +11,8 @@ use crate::numbers::low;
 use crate::put::put;
 use crate::read::read;
 use crate::write::write;
+use lines::Answer;
+use lines::answered;
 use timer::Refusal;
 
 fn said(machine: Machine, answer: Answer) -> Stepped {

@@ -1,0 +1,11 @@
+// Answers a list of steps for the panel: see README.md beside src/.
+mod look;
+mod memory;
+mod put;
+mod send;
+mod step;
+mod talk;
+
+fn main() {
+    talk::serve(0, 1);
+}
