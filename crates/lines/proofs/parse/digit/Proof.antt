@@ -24,8 +24,15 @@ add-result c = search needs
 
 returns-4 : tie.Need-returns-4
 unfolding digitOf
-returns-4 c =
-    (simp (le-ltb _ _ (c .before .before .before .if1 .left), lt-leb _ _ (c .before .before .if2 .left), le-ltb _ _ (c .before .if3 .left), le-leb _ _ (c .if4 .taken)) (omega arith), omega arith)
+returns-4 c = (
+  simp (
+    le-ltb _ _ (c .before .before .before .if1 .left),
+    lt-leb _ _ (c .before .before .if2 .left),
+    le-ltb _ _ (c .before .if3 .left),
+    le-leb _ _ (c .if4 .taken),
+  ) (omega arith),
+  omega arith,
+)
 
 returns-5 : tie.Need-returns-5
 unfolding digitOf

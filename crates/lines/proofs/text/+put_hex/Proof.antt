@@ -63,4 +63,5 @@ returns-2 t c = let start = c .before .before .args in hex-none (start .out .now
 pub +put-hex-spec : {M : Type 1} → statement M
 +put-hex-spec =
     close μ-put-hex
-    λ t. lts.spec (claims t) (here t) put-hex.Post (sub-put-hex t) (put-hex-requires t) (add-put t) (sub-put t) (glyph-requires t) (put-requires t) (same-length t) (returns t) (returns-2 t)
+    λ t. lts.spec (claims t) (here t) put-hex.Post (sub-put-hex t) (put-hex-requires t) (add-put t) (sub-put t) (glyph-requires t) (put-requires t)
+    (same-length t) (returns t) (returns-2 t)

@@ -42,7 +42,10 @@ returns c =
     let start = first .before .before .before .args in
     let long : length (fourth .put-field4 .last .0) ≡ 54 =
     fourth .put-field4 .kept .0 ∙ third .put-field3 .kept .0 ∙ second .put-field2 .kept .0 ∙ first .put-field .kept .0 in
-    (spelled (start .answer) (first .put-field .last .0) (second .put-field2 .last .0) (third .put-field3 .last .0) (fourth .put-field4 .last .0) (first .put-field .ensures) (second .put-field2 .ensures) (third .put-field3 .ensures) (fourth .put-field4 .ensures) long, sym long)
+    let all =
+    spelled (start .answer) (first .put-field .last .0) (second .put-field2 .last .0) (third .put-field3 .last .0) (fourth .put-field4 .last .0)
+    (first .put-field .ensures) (second .put-field2 .ensures) (third .put-field3 .ensures) (fourth .put-field4 .ensures) long in
+    (all, sym long)
 
 pub spell-spec : {M : Type 1} → statement M
 spell-spec =
