@@ -93,17 +93,17 @@ module _ (p : Panel) (b : ℕ) where
       → argued p b
       ≡ record {
         cmd = p .cmd;
-        args = set (p .args) (p .count) b;
-        count = 4;
+        args = kept;
+        count = p .count + 1;
         window = aimed (p .window) (codeOf (p .cmd)) (pairAt kept 0) (pairAt kept 2);
         pen = p .pen;
       }
   unfolding argued
-  argued-fourth e = simp (e)
+  argued-fourth e = simp (lt-ltb (p .count) 4 (omega arith), eq-eqb _ _ e)
 
   -- as the function finds the window
   pub argues-fourth : (c lo hi : ℕ) (w : Window) → p .count ≡ 3 → lo ≡ pairAt kept 0 → hi ≡ pairAt kept 2 → c ≡ codeOf (p .cmd) → w ≡ aimed (p .window) c lo hi
-      → record { cmd = p .cmd; args = kept; count = 4; window = w; pen = p .pen } ≡ argued p b
+      → record { cmd = p .cmd; args = kept; count = p .count + 1; window = w; pen = p .pen } ≡ argued p b
   argues-fourth c lo hi w e f g h a = rw (a, h, f, g) (sym (argued-fourth e))
 
   pub argued-kept : p .count < 4 → p .count ≢ 3

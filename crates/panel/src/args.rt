@@ -54,28 +54,17 @@ pub fn argument(p: Panel, b: u8) -> Panel
     if n < 4 {
         let mut args = p.args;
         args[n as usize] = b;
-        let cmd = p.cmd;
-        let window = p.window;
-        let pen = p.pen;
+        let mut next = p;
+        next.args = args;
+        next.count = n + 1;
         if n == 3 {
             let lo = wide(args[0], args[1]);
             let hi = wide(args[2], args[3]);
-            let moved = aim(window, code(cmd), lo, hi);
-            return Panel {
-                cmd,
-                args,
-                count: 4,
-                window: moved,
-                pen,
-            };
+            let cmd = p.cmd;
+            let window = aim(p.window, code(cmd), lo, hi);
+            next.window = window;
         }
-        return Panel {
-            cmd,
-            args,
-            count: n + 1,
-            window,
-            pen,
-        };
+        return next;
     }
     p
 }

@@ -41,17 +41,10 @@ pub fn data(p: Panel, fb: &mut [u8], b: u8) -> Panel
 {
     let cmd = p.cmd;
     if code(cmd) == 0x2C {
-        let window = p.window;
-        let pen = p.pen;
-        let args = p.args;
-        let moved = paint(window, pen, fb, b);
-        return Panel {
-            cmd,
-            args,
-            count: p.count,
-            window,
-            pen: moved,
-        };
+        let moved = paint(p.window, p.pen, fb, b);
+        let mut next = p;
+        next.pen = moved;
+        return next;
     }
     argument(p, b)
 }
@@ -60,22 +53,9 @@ pub fn data(p: Panel, fb: &mut [u8], b: u8) -> Panel
 pub fn count_frame(p: Panel) -> Panel
     ensures { λ r. ⌜ r ≡ counted p ⌝ }
 {
-    let cmd = p.cmd;
-    let args = p.args;
-    let window = p.window;
-    let pen = p.pen;
-    let half = pen.half;
-    let frames = std::num::wrapping_add_u64(pen.frames, 1);
-    Panel {
-        cmd,
-        args,
-        count: p.count,
-        window,
-        pen: Pen {
-            x: pen.x,
-            y: pen.y,
-            half,
-            frames,
-        },
-    }
+    let mut pen = p.pen;
+    pen.frames = std::num::wrapping_add_u64(pen.frames, 1);
+    let mut next = p;
+    next.pen = pen;
+    next
 }

@@ -11,6 +11,9 @@ cast-args c = search needs
 array-write-args : tie.Need-array-write-args
 array-write-args c = search needs
 
+add-next : tie.Need-add-next
+add-next c = search needs
+
 array-read-wide : tie.Need-array-read-wide
 array-read-wide c = search needs
 
@@ -36,10 +39,10 @@ aim-requires : tie.Need-aim-requires
 aim-requires c κs = search needs
 
 returns : tie.Need-returns
-returns c = argues-fourth _ _ _ _ _ _ (omega arith) (c .before .before .before .wide .ensures) (c .before .before .wide2 .ensures) (c .before .code .ensures) (c .aim .ensures)
-
-add-t29 : tie.Need-add-t29
-add-t29 c = search needs
+returns c =
+    let low = c .before .before .before .wide in
+    let high = c .before .before .wide2 in
+    argues-fourth _ _ _ _ _ _ (omega arith) (low .ensures) (high .ensures) (c .before .code .ensures) (c .aim .ensures)
 
 returns-2 : tie.Need-returns-2
 returns-2 c = sym (argued-kept _ _ (omega arith) (omega arith))
@@ -53,6 +56,7 @@ argument-spec =
     (tie.spec
     cast-args
     array-write-args
+    add-next
     array-read-wide
     array-read-wide-2
     wide-requires
@@ -62,6 +66,5 @@ argument-spec =
     code-requires
     aim-requires
     returns
-    add-t29
     returns-2
     returns-3)

@@ -26,8 +26,10 @@ parts-requires c κs = search needs
 
 returns : tie.Need-returns
 returns c =
-    let at-args = (c .before .before .before .before .before .args) in
-    pixel-is (at-args .fb .now) (at-args .k) _ _ _ _ (c .before .before .before .load .ensures) (c .before .before .load2 .ensures) (c .before .wide .ensures) (c .parts .ensures)
+    let at-args = c .before .before .before .before .before .args in
+    let high = c .before .before .before .load in
+    let low = c .before .before .load2 in
+    pixel-is (at-args .fb .now) (at-args .k) _ _ _ _ (high .ensures) (low .ensures) (c .before .wide .ensures) (c .parts .ensures)
 
 pub at-spec : {M : Type 1} → statement M
 at-spec =

@@ -23,8 +23,11 @@ same-length c = search needs
 
 returns : tie.Need-returns
 returns c =
-    let at-args = (c .before .before .before .before .before .before .before .before .before .before .before .before .before .args) in
-    lays (at-args .out .now) _ _ _ (at-args .i) (at-args .c) (c .before .before .before .before .before .before .before .before .before .before .store .ensures) (c .before .before .before .before .before .before .store2 .ensures) (c .before .before .store3 .ensures)
+    let third = c .before .before in
+    let second = third .before .before .before .before in
+    let first = second .before .before .before .before in
+    let at-args = first .before .before .before .args in
+    lays (at-args .out .now) _ _ _ (at-args .i) (at-args .c) (first .store .ensures) (second .store2 .ensures) (third .store3 .ensures)
 
 pub lay-spec : {M : Type 1} → statement M
 lay-spec =

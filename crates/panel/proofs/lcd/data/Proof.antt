@@ -15,8 +15,8 @@ same-length c = search needs
 
 returns : tie.Need-returns
 returns c =
-    let at-code = c .before .before .before .before .before .before .before .before .code in
-    let at-if = c .before .before .before .before .before .before .before .if1 in
+    let at-code = c .before .before .before .before .before .code in
+    let at-if = c .before .before .before .before .if1 in
     draws _ _ _ _ _ (sym (at-code .ensures) ∙ at-if .taken) (c .before .before .paint .ensures)
 
 argument-requires : tie.Need-argument-requires
