@@ -1,7 +1,7 @@
 -- The panel does as sys.rs does.
 use Prim.Native.Nat.{ℕ, zero, suc, _+_, _*_, _/_, _%_, _^_, _<_, min}
 use mathlib.Core.Path.{_≡_, refl, sym, ap, _∙_}
-use mathlib.Core.Bool.{Bool, true, false, cond}
+use mathlib.Core.Bool.{Bool, true, false, cond, _&&_, _||_}
 use mathlib.Core.List.{List, [], _∷_, _++_}
 use lib.Bits.{bitOr, or-shifted}
 use lib.Dec.{ltb, eqb}
@@ -16,7 +16,7 @@ use Rattle.panel.specs.Lcd.{penAt, withPen, begun, counts, commanded, co
 use Rattle.panel.specs.Lcd.{argued, fed, painted}
 use Rattle.panel.specs.Entries.{Screen, screen}
 use Rattle.panel.specs.Runs.{byte, copy, Act, order, input, ordered, taken, later}
-use Rattle.panel.specs.Rust.{Lcd, Option, none, some, isSome, both, either, default, cleared, lcdCommand, lcdPixel, lcdPut, lcdStep, inc32}
+use Rattle.panel.specs.Rust.{Lcd, Option, none, some, isSome, default, cleared, lcdCommand, lcdPixel, lcdPut, lcdStep, inc32}
 use Rattle.panel.specs.Rust.{inc64, withPosition, withHalf, withFb, withArgs, withColumns, withRows, lcdHalf, lcdArgs, lcdData, lcdDma}
 use Rattle.panel.specs.Rust.{lcdRan, pairOf}
 use Rattle.panel.specs.AsRust.{heldOf, compact, Bytes, AsRust}
@@ -68,7 +68,7 @@ as-put : (l : Lcd) (h b : ℕ) → b < 256 → lcdPut l (bitOr (h * 2 ^ 8) b) �
 unfolding put
 as-put l h b s = rw (low-byte h b s, high-byte h b s) (go _ (ltb (l .x) 128) (ltb (l .y) 128))
   where
-    go : (m : List ℕ) (t u : Bool) → cond (both t u) m (l .fb) ≡ cond t (cond u m (l .fb)) (l .fb)
+    go : (m : List ℕ) (t u : Bool) → cond (t && u) m (l .fb) ≡ cond t (cond u m (l .fb)) (l .fb)
     go m true true = refl
     go m true false = refl
     go m false u = refl
@@ -124,7 +124,7 @@ as-fourth l a b c d hb hd =
   where
     go : (t u : Bool)
         → compact
-        (cond (either t u)
+        (cond (t || u)
         (cond t
         (withColumns (withArgs l (a ∷ b ∷ c ∷ d ∷ [])) (a * 2 ^ 8 + b) (c * 2 ^ 8 + d))
         (withRows (withArgs l (a ∷ b ∷ c ∷ d ∷ [])) (a * 2 ^ 8 + b) (c * 2 ^ 8 + d)))
@@ -220,7 +220,7 @@ small-pair a i f = let p = small-at a i f in let q = small-at a (i + 1) f in rw 
 
 fits-args : (l : Lcd) (a : List ℕ) → Fits l → Smalls a → Fits (lcdArgs l a)
 fits-args l a f s =
-    pick Fits (both (eqb (length a) 4) (either (isSome (l .cmd) 0x2A) (isSome (l .cmd) 0x2B))) _ _
+    pick Fits (eqb (length a) 4 && (isSome (l .cmd) 0x2A || isSome (l .cmd) 0x2B)) _ _
     (pick Fits (isSome (l .cmd) 0x2A) _ _
     (record { x0 = small-pair a 0 s; x1 = small-pair a 2 s; y0 = f .y0; y1 = f .y1; x = f .x; y = f .y; half = f .half; args = s })
     (record { x0 = f .x0; x1 = f .x1; y0 = small-pair a 0 s; y1 = small-pair a 2 s; x = f .x; y = f .y; half = f .half; args = s }))

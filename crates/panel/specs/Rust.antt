@@ -1,7 +1,7 @@
 -- core/src/sys.rs, "LCD", word for word: Lcd, command, data, pixel, and what lcd_dma does to it. LCD_W and LCD_H are 128. It shares
 -- nothing with the panel's own definition but what reaches it. last_vsync is with the clocks; rgb is in Colour.antt.
 use Prim.Native.Nat.{ℕ, _+_, _-_, _*_, _/_, _%_, _^_}
-use mathlib.Core.Bool.{Bool, true, false, cond}
+use mathlib.Core.Bool.{Bool, false, cond, _&&_, _||_}
 use mathlib.Core.List.{List, [], _∷_, _++_}
 use lib.Bits.{bitOr}
 use lib.Dec.{ltb, eqb}
@@ -16,14 +16,6 @@ pub data Option : Type 0 where
 abbrev pub isSome : Option → ℕ → Bool
 isSome none c = false
 isSome (some b) c = eqb b c
-
-abbrev pub both : Bool → Bool → Bool
-both true b = b
-both false b = false
-
-abbrev pub either : Bool → Bool → Bool
-either true b = true
-either false b = b
 
 -- pub struct Lcd
 pub record Lcd : Type 0 where
@@ -88,7 +80,7 @@ copied fb i rgb565 = set (set fb i (rgb565 % 256)) (i + 1) (rgb565 / 256)
 
 -- if x < LCD_W && y < LCD_H
 abbrev pub lcdPut : Lcd → ℕ → List ℕ
-lcdPut l rgb565 = cond (both (ltb (l .x) 128) (ltb (l .y) 128)) (copied (l .fb) ((l .y * 128 + l .x) * 2) rgb565) (l .fb)
+lcdPut l rgb565 = cond (ltb (l .x) 128 && ltb (l .y) 128) (copied (l .fb) ((l .y * 128 + l .x) * 2) rgb565) (l .fb)
 
 -- += 1 of a u32 and of a u64, in a release build
 abbrev pub inc32 : ℕ → ℕ
@@ -121,7 +113,7 @@ pairOf args i = bitOr (getD args i 0 * 2 ^ 8) (getD args (i + 1) 0)
 -- self.args.push(b); if self.args.len() == 4 && matches!(self.cmd, Some(0x2A) | Some(0x2B)) { .. }
 abbrev pub lcdArgs : Lcd → List ℕ → Lcd
 lcdArgs l args =
-    cond (both (eqb (length args) 4) (either (isSome (l .cmd) 0x2A) (isSome (l .cmd) 0x2B)))
+    cond (eqb (length args) 4 && (isSome (l .cmd) 0x2A || isSome (l .cmd) 0x2B))
     (cond (isSome (l .cmd) 0x2A) (withColumns (withArgs l args) (pairOf args 0) (pairOf args 2)) (withRows (withArgs l args) (pairOf args 0) (pairOf args 2)))
     (withArgs l args)
 
