@@ -11,7 +11,6 @@ use borrow.Author.Tests.{lt-ltb, le-ltb, eqb-false, ltb-false}
 use Rattle.flash.specs.Pick.{pick}
 use Rattle.flash.specs.Board.{Board}
 use Rattle.flash.specs.Xfer.{kindOf}
-use Rattle.flash.specs.Steps.{cs}
 use Rattle.flash.specs.Run.{Good}
 use Rattle.flash.proofs.Whole.{at, replyW, answerW, actW, writesAfter}
 use Rattle.flash.specs.Sheet.{others, member}

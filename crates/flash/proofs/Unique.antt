@@ -1,29 +1,27 @@
 -- What meets a contract that is an equation is the only thing that does.
-use mathlib.Core.Path.{_≡_, refl, sym, ap, _∙_}
+use mathlib.Core.Path.{_≡_, refl, ap}
+use mathlib.Core.Bool.{cond}
 use mathlib.Core.List.{List}
 use Prim.Native.Nat.{ℕ}
-use native.Mathlib.Omega.{arith}
+use lib.Dec.{eqb}
+use Rattle.whole.proofs.Unique.{unique, told}
 use Rattle.flash.specs.Board.{Outcome, numberOf, outcome}
 use Rattle.flash.specs.declared.Refusal.{Refusal}
 use Rattle.flash.specs.declared.Refusal.the-variants.{Done, BadMemory}
 use Rattle.flash.specs.declared.Chip.{Chip}
 use Rattle.flash.specs.declared.Reply.{Reply}
 
-pub unique : {A : Type 0} {d x y : A} → x ≡ d → y ≡ d → x ≡ y
-unique p q = p ∙ sym q
+-- the refusal of a number
+abbrev refusalOf : ℕ → Refusal
+refusalOf n = cond (eqb n 0) Done BadMemory
 
 -- a refusal is known by its number
 number-tells : (a b : Refusal) → numberOf a ≡ numberOf b → a ≡ b
-number-tells Done Done e = refl
-number-tells Done BadMemory e = absurd (no e)
+number-tells = told numberOf refusalOf back
   where
-    no : _≡_ {A = ℕ} 0 7 → ⊥
-    no e = omega arith
-number-tells BadMemory Done e = absurd (no e)
-  where
-    no : _≡_ {A = ℕ} 7 0 → ⊥
-    no e = omega arith
-number-tells BadMemory BadMemory e = refl
+    back : (r : Refusal) → refusalOf (numberOf r) ≡ r
+    back Done = refl
+    back BadMemory = refl
 
 reply-is : {a b : Refusal} {x y : ℕ} {c d : Chip} → a ≡ b → x ≡ y → c ≡ d → _≡_ {A = Reply} (record { refusal = a; answer = x; chip = c }) (record { refusal = b; answer = y; chip = d })
 reply-is p q r = rw (p, q, r)

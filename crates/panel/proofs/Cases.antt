@@ -10,7 +10,7 @@ use Rattle.panel.specs.declared.Held.the-variants.{Nothing, Byte}
 use Rattle.panel.specs.declared.Window.{Window}
 use Rattle.panel.specs.declared.Pen.{Pen}
 use Rattle.panel.specs.declared.Panel.{Panel}
-use Rattle.panel.specs.Lcd.{penAt, withPen, begun, counts, commanded, counted, spot, put, nextPen, penned, inked, codeOf, aimed, pairAt, argued, fed}
+use Rattle.panel.specs.Lcd.{penAt, withPen, withFrames, begun, counts, commanded, counted, spot, put, nextPen, penned, inked, codeOf, aimed, pairAt, argued, fed}
 use Rattle.panel.specs.Lcd.{painted}
 use Rattle.panel.specs.Colour.{pixelAt, rgbOf}
 use Rattle.panel.specs.Entries.{Screen, screen, Drawing, drawing, dataOf, pixelOf, black, pictureOf}
@@ -134,7 +134,7 @@ module _ (p : Panel) (b : ℕ) where
   painted-not fb n = simp (ne-eqb _ _ n)
 
 -- ---- DMA
-pub counts-frame : (p : Panel) (n : ℕ) → n ≡ counts (p .pen .frames) → withPen p (penAt (p .pen .x) (p .pen .y) (p .pen .half) n) ≡ counted p
+pub counts-frame : (p : Panel) (n : ℕ) → n ≡ counts (p .pen .frames) → withFrames p n ≡ counted p
 unfolding counted
 counts-frame p n e = rw e
 

@@ -6,7 +6,7 @@ use lib.Bits.{and-mask}
 use lib.ListN.{length, getD, set}
 use native.Mathlib.Omega.{arith}
 use Rattle.panel.specs.declared.Colours.{Colours}
-use Rattle.panel.specs.Colour.{parted, fromLe, pushed, rgbOf, pixelAt, tripleAt, over, triple}
+use Rattle.panel.specs.Colour.{parted, fromLe, pushed, rgbOf, coloursAt, pixelAt, tripleAt, over, triple}
 
 -- the masks as remainders
 pub parted-is : (v : ℕ) → parted v ≡ record { r = v / 2048 % 32 * 255 / 31; g = v / 32 % 64 * 255 / 63; b = v % 32 * 255 / 31 }
@@ -20,10 +20,6 @@ over-whole [] [] e = refl
 over-whole [] (o ∷ out) e = absurd (omega arith)
 over-whole (x ∷ xs) [] e = absurd (omega arith)
 over-whole (x ∷ xs) (o ∷ out) e = ap (λ l. x ∷ l) (over-whole xs out (omega arith))
-
--- the colours of pixel n, where a whole pixel stands there
-abbrev pub coloursAt : List ℕ → ℕ → Colours
-coloursAt fb n = parted (fromLe (getD fb (n * 2) 0) (getD fb (n * 2 + 1) 0))
 
 -- the three bytes of each of the first n pixels
 pub first : ℕ → List ℕ → List ℕ
@@ -89,9 +85,8 @@ over-three (x ∷ xs) (o ∷ out) c =
 pub lays : (out a b d : List ℕ) (i : ℕ) (c : Colours) → a ≡ set out i (c .r) → b ≡ set a (i + 1) (c .g) → d ≡ set b (i + 2) (c .b) → d ≡ triple out i c
 lays out a b d i c p q r = cc
 
-pub pixel-is : (fb : List ℕ) (k hi lo v : ℕ) (c : Colours)
-    → hi ≡ getD fb (k % 16384 * 2 + 1) 0 → lo ≡ getD fb (k % 16384 * 2) 0 → v ≡ hi * 256 + lo → c ≡ parted v → c ≡ pixelAt fb k
-pixel-is fb k hi lo v c p q r s = cc
+pub pixel-is : (fb : List ℕ) (n hi lo v : ℕ) (c : Colours) → hi ≡ getD fb (n * 2 + 1) 0 → lo ≡ getD fb (n * 2) 0 → v ≡ hi * 256 + lo → c ≡ parted v → c ≡ coloursAt fb n
+pixel-is fb n hi lo v c p q r s = cc
 
 -- ---- the loop: over what was there, the colours of the first pixels
 module _ (fb out : List ℕ) where
@@ -106,10 +101,9 @@ module _ (fb out : List ℕ) where
       ∙ sym (over-three (first n fb) out (coloursAt fb n))
       ∙ sym (ap (λ l. over l out) (ap (λ m. first m fb) k ∙ first-more n fb h))
 
-  pub more-shown : (n : ℕ) (a b : List ℕ) (hi lo v : ℕ) (c : Colours) → n * 2 + 1 < length fb → a ≡ over (first n fb) out
-      → hi ≡ getD fb (n * 2 + 1) 0 → lo ≡ getD fb (n * 2) 0 → v ≡ hi * 256 + lo → c ≡ parted v → b ≡ triple a (n * 3) c
+  pub more-shown : (n : ℕ) (a b : List ℕ) (c : Colours) → n * 2 + 1 < length fb → a ≡ over (first n fb) out → c ≡ coloursAt fb n → b ≡ triple a (n * 3) c
       → b ≡ over (first (n + 1) fb) out
-  more-shown n a b hi lo v c h e p q r d t = (cc) ∙ more n h
+  more-shown n a b c h e d t = (cc) ∙ more n h
 
   pub all-shown : (n : ℕ) → n ≡ length fb / 2 → over (first n fb) out ≡ over (rgbOf fb) out
   all-shown n e = ap (λ l. over l out) (first-all n fb (omega arith))

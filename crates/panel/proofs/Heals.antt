@@ -11,7 +11,7 @@ use Rattle.panel.specs.declared.Held.the-variants.{Nothing, Byte}
 use Rattle.panel.specs.declared.Window.{Window}
 use Rattle.panel.specs.declared.Pen.{Pen}
 use Rattle.panel.specs.declared.Panel.{Panel}
-use Rattle.panel.specs.Lcd.{penAt, withPen, begun, commanded, counted, penned, inked, codeOf, argued, fed, painted}
+use Rattle.panel.specs.Lcd.{penAt, withPen, withFrames, begun, commanded, counted, penned, inked, codeOf, argued, fed, painted}
 use Rattle.panel.specs.Entries.{Screen, screen}
 use Rattle.panel.specs.Runs.{Input, byte, copy, Act, order, input, ordered, taken, later, redrawn, bytesIn, copies, windowBytes, uncounted}
 use Rattle.panel.specs.Runs.{Same, EndsDamage}
@@ -62,9 +62,6 @@ at-end s after one two l e =
 
 -- ---- and from then on: the count of frames bears on nothing else
 
-abbrev recount : Panel → ℕ → Panel
-recount p f = withPen p (penAt (p .pen .x) (p .pen .y) (p .pen .half) f)
-
 pick-same : (t : Bool) (a b c d : Panel) → uncounted a ≡ uncounted c → uncounted b ≡ uncounted d → uncounted (cond t a b) ≡ uncounted (cond t c d)
 pick-same true a b c d p q = p
 pick-same false a b c d p q = q
@@ -79,18 +76,18 @@ unfolding inked
 inked-same fb x y Nothing f g b = refl
 inked-same fb x y (Byte h) f g b = refl
 
-fed-same : (p : Panel) (f g b : ℕ) → uncounted (fed (recount p f) b) ≡ uncounted (fed (recount p g) b)
+fed-same : (p : Panel) (f g b : ℕ) → uncounted (fed (withFrames p f) b) ≡ uncounted (fed (withFrames p g) b)
 unfolding fed argued
 fed-same p f g b =
     pick-same (eqb (codeOf (p .cmd)) 0x2C) _ _ _ _
     (ap (withPen p) (penned-same (p .window) (p .pen .x) (p .pen .y) (p .pen .half) f g b))
     (pick-same (ltb (p .count) 4) _ _ _ _ refl refl)
 
-painted-same : (p : Panel) (fb : List ℕ) (f g b : ℕ) → painted (recount p f) fb b ≡ painted (recount p g) fb b
+painted-same : (p : Panel) (fb : List ℕ) (f g b : ℕ) → painted (withFrames p f) fb b ≡ painted (withFrames p g) fb b
 unfolding painted
 painted-same p fb f g b = ap (λ l. cond (eqb (codeOf (p .cmd)) 0x2C) l fb) (inked-same fb (p .pen .x) (p .pen .y) (p .pen .half) f g b)
 
-commanded-same : (p : Panel) (f g c : ℕ) → uncounted (commanded (recount p f) c) ≡ uncounted (commanded (recount p g) c)
+commanded-same : (p : Panel) (f g c : ℕ) → uncounted (commanded (withFrames p f) c) ≡ uncounted (commanded (withFrames p g) c)
 unfolding commanded
 commanded-same p f g c = ap (begun (Byte c) (p .window)) (go (eqb c 0x2C))
   where
@@ -108,7 +105,7 @@ module _ {s t : Screen} (r : Same s t) where
   keeps-order c =
       record {
         pixels = r .pixels;
-        state = commanded-same (uncounted (s .panel)) (frames s) (frames t) c ∙ ap (λ q. uncounted (commanded (recount q (frames t)) c)) (r .state);
+        state = commanded-same (uncounted (s .panel)) (frames s) (frames t) c ∙ ap (λ q. uncounted (commanded (withFrames q (frames t)) c)) (r .state);
       }
 
   pub keeps-input : (i : Input) → Same (taken s i) (taken t i)
@@ -118,8 +115,8 @@ module _ {s t : Screen} (r : Same s t) where
         pixels =
             ap (λ l. painted (s .panel) l b) (r .pixels)
             ∙ painted-same (uncounted (s .panel)) (t .fb) (frames s) (frames t) b
-            ∙ ap (λ q. painted (recount q (frames t)) (t .fb) b) (r .state);
-        state = fed-same (uncounted (s .panel)) (frames s) (frames t) b ∙ ap (λ q. uncounted (fed (recount q (frames t)) b)) (r .state);
+            ∙ ap (λ q. painted (withFrames q (frames t)) (t .fb) b) (r .state);
+        state = fed-same (uncounted (s .panel)) (frames s) (frames t) b ∙ ap (λ q. uncounted (fed (withFrames q (frames t)) b)) (r .state);
       }
   keeps-input (copy m) = record { pixels = refl; state = r .state }
 

@@ -1,9 +1,10 @@
 -- What meets an entry's contract is the only thing that does.
 use Prim.Native.Nat.{ℕ}
 use mathlib.Core.Path.{_≡_, refl, ap}
+use mathlib.Core.Bool.{cond}
 use mathlib.Core.List.{List}
-use native.Mathlib.Omega.{arith}
-use Rattle.whole.proofs.Unique.{unique}
+use lib.Dec.{eqb}
+use Rattle.whole.proofs.Unique.{unique, told}
 use Rattle.panel.specs.declared.Panel.{Panel}
 use Rattle.panel.specs.declared.Colours.{Colours}
 use Rattle.panel.specs.declared.Refusal.{Refusal}
@@ -12,18 +13,17 @@ use Rattle.panel.specs.declared.Sent.{Sent}
 use Rattle.panel.specs.declared.Shown.{Shown}
 use Rattle.panel.specs.Entries.{numberOf, Outcome, outcome, Pixel, pixel, Picture, picture}
 
+-- the refusal of a number
+abbrev refusalOf : ℕ → Refusal
+refusalOf n = cond (eqb n 0) Done BadMemory
+
 -- a refusal is known by its number
 number-tells : (a b : Refusal) → numberOf a ≡ numberOf b → a ≡ b
-number-tells Done Done e = refl
-number-tells Done BadMemory e = absurd (no e)
+number-tells = told numberOf refusalOf back
   where
-    no : _≡_ {A = ℕ} 0 7 → ⊥
-    no e = omega arith
-number-tells BadMemory Done e = absurd (no e)
-  where
-    no : _≡_ {A = ℕ} 7 0 → ⊥
-    no e = omega arith
-number-tells BadMemory BadMemory e = refl
+    back : (r : Refusal) → refusalOf (numberOf r) ≡ r
+    back Done = refl
+    back BadMemory = refl
 
 sent-is : {a b : Refusal} {p q : Panel} → a ≡ b → p ≡ q → _≡_ {A = Sent} (record { refusal = a; panel = p }) (record { refusal = b; panel = q })
 sent-is e f = rw (e, f)

@@ -27,9 +27,13 @@ rgbOf [] = []
 rgbOf (lo ∷ []) = []
 rgbOf (lo ∷ hi ∷ rest) = pushed (parted (fromLe lo hi)) (rgbOf rest)
 
+-- pixel n
+abbrev pub coloursAt : List ℕ → ℕ → Colours
+coloursAt fb n = parted (fromLe (getD fb (n * 2) 0) (getD fb (n * 2 + 1) 0))
+
 -- pixel k modulo 16,384
 abbrev pub pixelAt : List ℕ → ℕ → Colours
-pixelAt fb k = parted (fromLe (getD fb (k % 16384 * 2) 0) (getD fb (k % 16384 * 2 + 1) 0))
+pixelAt fb k = coloursAt fb (k % 16384)
 
 -- the three bytes from place i on
 abbrev pub tripleAt : List ℕ → ℕ → Colours

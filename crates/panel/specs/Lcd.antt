@@ -19,6 +19,9 @@ penAt x y h f = record { x = x; y = y; half = h; frames = f }
 abbrev pub withPen : Panel → Pen → Panel
 withPen p q = record { cmd = p .cmd; args = p .args; count = p .count; window = p .window; pen = q }
 
+abbrev pub withFrames : Panel → ℕ → Panel
+withFrames p f = withPen p (penAt (p .pen .x) (p .pen .y) (p .pen .half) f)
+
 abbrev pub zeros : List ℕ
 zeros = 0 ∷ 0 ∷ 0 ∷ 0 ∷ []
 
@@ -114,4 +117,4 @@ painted p fb b = cond (eqb (codeOf (p .cmd)) 0x2C) (inked fb (p .pen) b) fb
 -- ---- DMA: a frame more
 
 unfoldable pub counted : Panel → Panel
-counted p = withPen p (penAt (p .pen .x) (p .pen .y) (p .pen .half) (counts (p .pen .frames)))
+counted p = withFrames p (counts (p .pen .frames))

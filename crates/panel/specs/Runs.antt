@@ -5,7 +5,7 @@ use mathlib.Core.List.{List, [], _∷_}
 use lib.ListN.{length}
 use Rattle.panel.specs.declared.Window.{Window}
 use Rattle.panel.specs.declared.Panel.{Panel}
-use Rattle.panel.specs.Lcd.{penAt, withPen, spot, fed, painted, commanded, counted}
+use Rattle.panel.specs.Lcd.{withFrames, spot, fed, painted, commanded, counted}
 use Rattle.panel.specs.Entries.{Screen, screen}
 
 -- a data byte, or a DMA that puts these bytes in the pixels' place
@@ -63,7 +63,7 @@ windowBytes w = (w .y1 - w .y0 + 1) * (w .x1 - w .x0 + 1) * 2
 
 -- all of a panel but its count of frames
 abbrev pub uncounted : Panel → Panel
-uncounted p = withPen p (penAt (p .pen .x) (p .pen .y) (p .pen .half) 0)
+uncounted p = withFrames p 0
 
 -- two screens that agree in their pixels and in all of the panel but the count of frames
 pub record Same (s t : Screen) : Type 0 where

@@ -24,7 +24,7 @@ pub fn wide(h: u8, l: u8) -> u16
 }
 
 // The window after the four bytes of a command: 0x2A sets its columns, 0x2B its rows.
-pub fn aim(w: Window, c: u16, lo: u16, hi: u16) -> Window
+fn aim(w: Window, c: u16, lo: u16, hi: u16) -> Window
     ensures { λ r. ⌜ r ≡ aimed w c lo hi ⌝ }
 {
     if c == 0x2A {
@@ -47,7 +47,7 @@ pub fn aim(w: Window, c: u16, lo: u16, hi: u16) -> Window
 }
 
 // The first four are kept, and the fourth acts.
-pub fn argument(p: Panel, b: u8) -> Panel
+pub(crate) fn argument(p: Panel, b: u8) -> Panel
     ensures { λ r. ⌜ r ≡ argued p b ⌝ }
 {
     let n = p.count;

@@ -1,14 +1,14 @@
 // The pixels' colours, 8 bits each.
 ghost use mathlib.Core.Path.{_≡_};
-ghost use Prim.Native.Nat.{_+_, _<_, _^_};
-ghost use Rattle.panel.specs.Colour.{parted, pixelAt, triple, over, rgbOf};
+ghost use Prim.Native.Nat.{_+_, _*_, _<_, _^_};
+ghost use Rattle.panel.specs.Colour.{parted, coloursAt, pixelAt, triple, over, rgbOf};
 use crate::Colours;
 use crate::args::wide;
 use crate::glass::load;
 use crate::glass::store;
 
 // Five bits of red, six of green, five of blue.
-pub fn parts(v: u16) -> Colours
+fn parts(v: u16) -> Colours
     ensures { λ r. ⌜ r ≡ parted v ⌝ }
 {
     let w = v as u32;
@@ -19,12 +19,19 @@ pub fn parts(v: u16) -> Colours
     }
 }
 
+// The colours of pixel n; a byte that is not there counts as 0.
+fn pixel(fb: &[u8], n: usize) -> Colours
+    requires { ⌜ n * 2 + 1 < 2 ^ 64 ⌝ }
+    ensures { λ r. ⌜ r ≡ coloursAt (now (fb .entry)) n ⌝ }
+{
+    parts(wide(load(fb, n * 2 + 1), load(fb, n * 2)))
+}
+
 // The colours of pixel k modulo 16,384.
 pub fn at(fb: &[u8], k: u32) -> Colours
     ensures { λ r. ⌜ r ≡ pixelAt (now (fb .entry)) k ⌝ }
 {
-    let i = (k % 16384) as usize * 2;
-    parts(wide(load(fb, i + 1), load(fb, i)))
+    pixel(fb, (k % 16384) as usize)
 }
 
 // The three bytes of a pixel.
@@ -44,11 +51,7 @@ pub fn screen(fb: &[u8], out: &mut [u8])
     let n = fb.len() / 2;
     let mut i = 0;
     while i < n {
-        lay(
-            out,
-            i * 3,
-            parts(wide(load(fb, i * 2 + 1), load(fb, i * 2))),
-        );
+        lay(out, i * 3, pixel(fb, i));
         i += 1;
     }
 }

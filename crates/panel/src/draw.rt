@@ -1,4 +1,4 @@
-// Pixel data: the bytes after 0x2C.
+// Pixel data: the bytes after 0x2C. The Rust's `pixel` is `place`, which stores it, and `next`, which moves on.
 ghost use mathlib.Core.Path.{_≡_};
 ghost use Rattle.panel.specs.Lcd.{penAt, put, nextPen, penned, inked};
 ghost use Rattle.panel.specs.declared.Held.the-variants.{Nothing};
@@ -9,7 +9,7 @@ use crate::Window;
 use crate::glass::store;
 
 // A pixel, high byte h and low byte b, at x, y, where that lies on the glass. The low byte stands first.
-pub fn place(fb: &mut [u8], x: u16, y: u16, h: u8, b: u8)
+fn place(fb: &mut [u8], x: u16, y: u16, h: u8, b: u8)
     ensures { λ r. ⌜ now (fb .exit) ≡ put (now (fb .entry)) x y h b ⌝ }
 {
     if x < 128 {
@@ -22,7 +22,7 @@ pub fn place(fb: &mut [u8], x: u16, y: u16, h: u8, b: u8)
 }
 
 // A pen with no half pixel.
-pub fn pen_at(x: u16, y: u16, frames: u64) -> Pen
+fn pen_at(x: u16, y: u16, frames: u64) -> Pen
     ensures { λ r. ⌜ r ≡ penAt x y Nothing frames ⌝ }
 {
     Pen {

@@ -1,12 +1,12 @@
 -- Within the limits every number of ticks that is cut is at most 2 ^ 52, so the cut is its whole part; and timers stay within them.
-use mathlib.Core.Path.{_≡_, refl, sym, ap, subst}
+use mathlib.Core.Path.{_≡_, sym, subst}
 use mathlib.Core.Bool.{Bool, false, cond, _&&_, _||_}
-use Prim.Native.Nat.{ℕ, zero, suc, _/_, _^_, _≤_, _<_, zero-le}
+use Prim.Native.Nat.{ℕ, zero, suc, _/_, _^_, _≤_, _<_}
 use native.Mathlib.Nat.{le-of-lt, le-of-eq, le-trans, zero-lt-suc, div-le-self}
 use native.Mathlib.Omega.{arith}
 use lib.IntN.{pos}
 use lib.Dec.{T, eqb, ltb, lit<, lit≤}
-use lib.Ieee.{Float, fin, binary64, ofBits, ofInt, sub, mul, div, le, lt, toUnsigned}
+use lib.Ieee.{Float, fin, binary64, ofBits, ofInt, sub, div, le, toUnsigned}
 use borrow.Author.Tests.{ne-eqb}
 use Rattle.whole.specs.Bounds.{AtMost, AtLeast, WholePart}
 use Rattle.whole.specs.Limits.{goodTime}

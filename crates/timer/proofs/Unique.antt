@@ -1,10 +1,10 @@
 -- What meets a contract that is an equation is the only thing that does.
-use mathlib.Core.Path.{_≡_, refl, sym, ap, _∙_}
+use mathlib.Core.Path.{_≡_, refl, ap}
 use mathlib.Core.List.{List}
 use mathlib.Core.Bool.{cond}
 use Prim.Native.Nat.{ℕ}
 use lib.Dec.{eqb}
-use Rattle.whole.proofs.Unique.{unique}
+use Rattle.whole.proofs.Unique.{unique, told}
 use Rattle.timer.specs.declared.Refusal.{Refusal}
 use Rattle.timer.specs.declared.Refusal.the-variants.{Done, SoundFull, NoEvent}
 use Rattle.timer.specs.declared.Event.{Event}
@@ -18,7 +18,7 @@ refusalOf n = cond (eqb n 0) Done (cond (eqb n 5) SoundFull NoEvent)
 
 -- a refusal is known by its number
 number-tells : (a b : Refusal) → numberOf a ≡ numberOf b → a ≡ b
-number-tells a b e = sym (back a) ∙ ap refusalOf e ∙ back b
+number-tells = told numberOf refusalOf back
   where
     back : (r : Refusal) → refusalOf (numberOf r) ≡ r
     back Done = refl

@@ -1,6 +1,6 @@
 -- A timer, as document 000 has it: Timer, sysclk, timer_rate, timer_period, timer_elapsed, timer_counter, timer_write_ctrl,
 -- timer_advance and the timer words of mmio_read. Every f64 operation stands in the Rust's order; a literal is given by its bits.
-use mathlib.Core.Bool.{Bool, false, not, cond, _&&_, _||_}
+use mathlib.Core.Bool.{Bool, false, cond, _&&_, _||_}
 use Prim.Native.Nat.{ℕ, _+_, _-_, _/_, _%_}
 use lib.IntN.{pos}
 use lib.Bits.{bitAnd, bitOr}

@@ -3,14 +3,14 @@
 use mathlib.Core.Path.{_≡_, refl, sym, ap, _∙_, subst}
 use mathlib.Core.Logic.{_⊎_, inl, inr}
 use mathlib.Core.Bool.{Bool, true, false, not, cond, true≢false}
-use Prim.Native.Nat.{ℕ, zero, suc, _+_, _-_, _*_, _/_, _%_, _^_, _≤_, _<_, min, zero-le}
+use Prim.Native.Nat.{ℕ, zero, suc, _+_, _-_, _*_, _/_, _%_, _^_, _≤_, _<_, zero-le}
 use native.Mathlib.Nat.{le-trans, le-of-eq, lt-of-lt-of-le, eq-or-lt-of-le, not-le-of-lt, mod-eq-of-lt, mul-le-mul-right, mul-lt-mul-of-pos-right}
 use native.Mathlib.Omega.{arith}
 use lib.IntN.{ℤ, pos}
 use lib.Dec.{T, ltb→lt, nltb→le, le→leb, leb, ltb, eqb, leb→le, eqb→eq, not-T, lit≤}
 use lib.Pow.{pow-pos, pow-mono, pow-add}
 use lib.Count.{trailingZeros}
-use lib.Ieee.{minus, Float, nan, inf, fin, binary64, down, odd, ofFields, ofBits, toBits, fits, ne, isNan}
+use lib.Ieee.{minus, Float, nan, inf, fin, binary64, odd, ofFields, ofBits, toBits, fits, ne, isNan}
 use lib.Ieee.Bits.{is-false, is-true, cond-no, ofBits-toBits}
 use lib.Ieee.Compare.{differs-from-itself, nan-differs}
 use lib.Ieee.Exact.{HasValue, odd-sign}

@@ -1,4 +1,3 @@
-use mathlib.Core.Path.{ap}
 use borrow.Author.Needs.{needs}
 use Rattle.timer.proofs.Cases.{advance-stands, advance-within, advance-counts}
 use Rattle.timer.proofs.advance.Statement.{statement}
