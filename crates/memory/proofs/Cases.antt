@@ -1,0 +1,124 @@
+-- The branches of the definitions, each with the fact that leads to it.
+use Prim.Native.Nat.{ℕ, suc, _+_, _-_, _*_, _/_, _%_, _^_, _≤_, _<_}
+use mathlib.Core.Path.{_≡_, refl, sym}
+use mathlib.Core.Bool.{Bool, true, false, _&&_}
+use mathlib.Core.List.{List}
+use mathlib.Core.Logic.{_≢_}
+use native.Mathlib.Nat.{add-zero, sub-zero, sub-self, mod-eq-of-lt, div-le-self}
+use native.Mathlib.Omega.{arith}
+use lib.ListN.{length, getD, set}
+use lib.Seq.{sets}
+use lib.Dec.{leb}
+use borrow.Author.Tests.{le-leb, lt-leb, leb-true, eq-eqb, ne-eqb}
+use Rattle.memory.specs.declared.Place.the-variants.{Ram, Sram, Gpio, Register, Stray}
+use Rattle.memory.specs.Places.{within, isRegister, placeOf}
+use Rattle.memory.specs.Bytes.{le, loaded, bytesOf, storedAt}
+use Rattle.memory.specs.Access.{spanOf, cutOf, shifted, maskOf}
+
+-- ---- places
+first-of : (x y : Bool) → x && y ≡ true → x ≡ true
+first-of true y h = refl
+first-of false y h = h
+
+pub within-from : (first last a : ℕ) → within first last a ≡ true → first ≤ a
+unfolding within
+within-from first last a h = leb-true _ _ (first-of (leb first a) (leb a last) h)
+
+module _ (a : ℕ) where
+  pub place-ram : within 0x20000000 0x20FFFFFF a ≡ true → Ram (a - 0x20000000) ≡ placeOf a
+  unfolding placeOf
+  place-ram h = rw h
+
+  pub place-sram : within 0x20000000 0x20FFFFFF a ≡ false → within 0xF8000000 0xF80FFFFF a ≡ true → Sram (a - 0xF8000000) ≡ placeOf a
+  unfolding placeOf
+  place-sram r h = rw (r, h)
+
+  pub place-gpio : within 0x20000000 0x20FFFFFF a ≡ false → within 0xF8000000 0xF80FFFFF a ≡ false → within 0xC0000000 0xC0000FFF a ≡ true
+      → Gpio (a - 0xC0000000) ≡ placeOf a
+  unfolding placeOf
+  place-gpio r s h = rw (r, s, h)
+
+  pub place-register : within 0x20000000 0x20FFFFFF a ≡ false → within 0xF8000000 0xF80FFFFF a ≡ false → within 0xC0000000 0xC0000FFF a ≡ false
+      → isRegister a ≡ true → Register ≡ placeOf a
+  unfolding placeOf
+  place-register r s g h = rw (r, s, g, h)
+
+  pub place-stray : within 0x20000000 0x20FFFFFF a ≡ false → within 0xF8000000 0xF80FFFFF a ≡ false → within 0xC0000000 0xC0000FFF a ≡ false
+      → isRegister a ≡ false → Stray ≡ placeOf a
+  unfolding placeOf
+  place-stray r s g h = rw (r, s, g, h)
+
+-- ---- bytes
+module _ (m : List ℕ) (o n : ℕ) where
+  pub load-out : length m < o + n → 0 ≡ loaded m o n
+  unfolding loaded
+  load-out h = rw (lt-leb _ _ h)
+
+  pub load-in : (i v : ℕ) → o + n ≤ length m → i ≤ 0 → v ≡ le m (o + i) (n - i) → v ≡ loaded m o n
+  unfolding loaded
+  load-in i v h l e =
+      let z : i ≡ 0 = omega arith in
+      rw (le-leb _ _ h) (rw (z, add-zero, sub-zero) at e)
+
+  pub le-none : 0 ≡ le m (o + n) (n - n)
+  unfolding le
+  le-none = rw sub-self
+
+  pub le-more : (i v r : ℕ) → 0 < i → i ≤ n → v ≡ le m (o + i) (n - i) → r ≡ (getD m (o + (i - 1)) 0 + 256 * v) % 2 ^ 32
+      → r ≡ le m (o + (i - 1)) (n - (i - 1))
+  unfolding le
+  le-more i v r h g e f =
+      let z : n - (i - 1) ≡ suc (n - i) = omega arith in
+      let y : (o + (i - 1)) + 1 ≡ o + i = omega arith in
+      rw (z, y, ← e) f
+
+  pub store-out : (v : ℕ) → length m < o + n → m ≡ storedAt m o n v
+  unfolding storedAt
+  store-out v h = rw (lt-leb _ _ h)
+
+  pub store-start : (v : ℕ) → sets m (o + 0) (bytesOf (n - 0) v) ≡ sets m o (bytesOf n v)
+  store-start v = rw (add-zero, sub-zero)
+
+  pub store-more : (i v b : ℕ) → i < n → b ≡ v % 256
+      → sets (set m (o + i) b) (o + (i + 1)) (bytesOf (n - (i + 1)) (v / 256)) ≡ sets m (o + i) (bytesOf (n - i) v)
+  unfolding bytesOf
+  store-more i v b h e =
+      let z : n - i ≡ suc (n - (i + 1)) = omega arith in
+      let y : o + (i + 1) ≡ suc (o + i) = omega arith in
+      rw (z, y, e)
+
+  pub store-end : (m₀ : List ℕ) (i v w : ℕ) → o + n ≤ length m₀ → n ≤ i → sets m (o + i) (bytesOf (n - i) w) ≡ sets m₀ o (bytesOf n v)
+      → m ≡ storedAt m₀ o n v
+  unfolding bytesOf storedAt
+  store-end m₀ i v w g h e =
+      let z : n - i ≡ 0 = omega arith in
+      let y : sets m (o + i) (bytesOf 0 w) ≡ sets m₀ o (bytesOf n v) = rw z at e in
+      rw (le-leb _ _ g) y
+
+-- ---- a part of a register word
+module _ (a n : ℕ) where
+  pub mask-word : n ≡ 4 → 0xFFFFFFFF ≡ maskOf a n
+  unfolding maskOf
+  mask-word e = rw (eq-eqb _ _ e)
+
+  pub mask-half : (r : ℕ) → n ≢ 4 → n ≡ 2 → r ≡ shifted 0xFFFF a → r ≡ maskOf a n
+  unfolding maskOf spanOf
+  mask-half r d e f = rw (ne-eqb _ _ d, eq-eqb _ _ e) f
+
+  pub mask-byte : (r : ℕ) → n ≢ 4 → n ≢ 2 → r ≡ shifted 0xFF a → r ≡ maskOf a n
+  unfolding maskOf spanOf
+  mask-byte r d e f = rw (ne-eqb _ _ d, ne-eqb _ _ e) f
+
+  pub cut-word : (w : ℕ) → w < 2 ^ 32 → n ≡ 4 → w / 2 ^ (8 * (a % 4)) ≡ cutOf w a n
+  unfolding cutOf spanOf
+  cut-word w l e =
+      let h : w / 2 ^ (8 * (a % 4)) < 2 ^ 32 = omega (arith, div-le-self w (2 ^ (8 * (a % 4)))) in
+      rw (eq-eqb _ _ e) (sym (mod-eq-of-lt h))
+
+  pub cut-half : (w : ℕ) → n ≢ 4 → n ≡ 2 → w / 2 ^ (8 * (a % 4)) % 65536 ≡ cutOf w a n
+  unfolding cutOf spanOf
+  cut-half w d e = rw (ne-eqb _ _ d, eq-eqb _ _ e)
+
+  pub cut-byte : (w : ℕ) → n ≢ 4 → n ≢ 2 → w / 2 ^ (8 * (a % 4)) % 256 ≡ cutOf w a n
+  unfolding cutOf spanOf
+  cut-byte w d e = rw (ne-eqb _ _ d, ne-eqb _ _ e)

@@ -1,0 +1,4 @@
+pub mod Access
+pub mod Cases
+pub mod Judged
+pub mod Stored

@@ -1,0 +1,170 @@
+// Where an address lies, the bytes of a memory, and an access's part of a register word: `plain`, `slow_read`, `slow_write`,
+// `is_mmio` and the shifting and masking of `mmio_read` and `mmio_write` of core/src/sys.rs.
+//
+// Every size is taken; what refuses a size asks `good_size` first.
+ghost use mathlib.Core.Path.{_≡_};
+ghost use Prim.Native.Nat.{_+_, _*_, _%_, _^_};
+ghost use lib.ListN.{getD};
+ghost use Rattle.memory.specs.Places.{within, isRegister, placeOf};
+ghost use Rattle.memory.specs.Bytes.{loaded, storedAt};
+ghost use Rattle.memory.specs.Access.{goodSize, shifted, maskOf, cutOf, writtenOf, mergedOf};
+
+// The memory that an address lies in, with its place there.
+pub enum Place {
+    Ram(usize),
+    Sram(usize),
+    Gpio(usize),
+    Register,
+    Stray,
+}
+
+// ---- places
+
+fn is_within(first: u32, last: u32, addr: u32) -> bool
+    ensures { λ r. ⌜ r ≡ within first last addr ⌝ }
+{
+    (first <= addr) & (addr <= last)
+}
+
+fn is_mmio(addr: u32) -> bool
+    ensures { λ r. ⌜ r ≡ isRegister addr ⌝ }
+{
+    is_within(0xC000_1000, 0xC0FF_FFFF, addr)
+        | is_within(0xD000_0000, 0xD0FF_FFFF, addr)
+        | is_within(0xFF00_0000, 0xFFFF_EFFF, addr)
+}
+
+// The first byte of an access decides.
+pub fn locate(addr: u32) -> Place
+    ensures { λ r. ⌜ r ≡ placeOf addr ⌝ }
+{
+    if is_within(0x2000_0000, 0x20FF_FFFF, addr) {
+        return Place::Ram((addr - 0x2000_0000) as usize);
+    }
+    if is_within(0xF800_0000, 0xF80F_FFFF, addr) {
+        return Place::Sram((addr - 0xF800_0000) as usize);
+    }
+    if is_within(0xC000_0000, 0xC000_0FFF, addr) {
+        return Place::Gpio((addr - 0xC000_0000) as usize);
+    }
+    if is_mmio(addr) {
+        return Place::Register;
+    }
+    Place::Stray
+}
+
+// ---- bytes
+
+// The byte at a place, 0 past the end.
+pub fn byte(m: &[u8], at: usize) -> u8
+    ensures { λ r. ⌜ r ≡ getD (now (m .entry)) at 0 ⌝ }
+{
+    if at < m.len() { m[at] } else { 0 }
+}
+
+// A byte below the value so far: the Rust's `v << 8 | b`, whose top byte is lost.
+fn grown(v: u32, b: u8) -> u32
+    ensures { λ r. ⌜ r ≡ (b + 256 * v) % 2 ^ 32 ⌝ }
+{
+    v % 0x100_0000 * 256 + b as u32
+}
+
+// The value of `size` bytes, the lowest first; 0 where they pass the end.
+pub fn load(m: &[u8], at: usize, size: usize) -> u32
+    ensures { λ r. ⌜ r ≡ loaded (now (m .entry)) at size ⌝ }
+{
+    if m.len() < size {
+        return 0;
+    }
+    if m.len() - size < at {
+        return 0;
+    }
+    let mut v: u32 = 0;
+    let mut i = size;
+    while 0 < i {
+        i -= 1;
+        v = grown(v, m[at + i]);
+    }
+    v
+}
+
+// The lowest `size` bytes of a value; nothing where they pass the end.
+pub fn store(m: &mut [u8], at: usize, size: usize, value: u32)
+    ensures { λ r. ⌜ now (m .exit) ≡ storedAt (now (m .entry)) at size value ⌝ }
+{
+    if m.len() < size {
+        return;
+    }
+    if m.len() - size < at {
+        return;
+    }
+    let mut v = value;
+    let mut i: usize = 0;
+    while i < size {
+        m[at + i] = low(v);
+        v = v / 256;
+        i += 1;
+    }
+}
+
+pub fn low(word: u32) -> u8
+    ensures { λ r. ⌜ r ≡ word % 256 ⌝ }
+{
+    (word % 256) as u8
+}
+
+// ---- a part of a register word
+
+pub fn good_size(size: u32) -> bool
+    ensures { λ r. ⌜ r ≡ goodSize size ⌝ }
+{
+    (size == 1) | (size == 2) | (size == 4)
+}
+
+// A value as it lies in the word: bits past the word are lost.
+fn shift(value: u32, addr: u32) -> u32
+    ensures { λ r. ⌜ r ≡ shifted value addr ⌝ }
+{
+    value << (8 * (addr % 4))
+}
+
+// The bits of the word that an access reaches; a size of 4 reaches them all, even unaligned.
+fn mask(addr: u32, size: u32) -> u32
+    ensures { λ r. ⌜ r ≡ maskOf addr size ⌝ }
+{
+    if size == 4 {
+        return 0xFFFF_FFFF;
+    }
+    if size == 2 {
+        return shift(0xFFFF, addr);
+    }
+    shift(0xFF, addr)
+}
+
+// What an access reads of a word.
+pub fn cut(word: u32, addr: u32, size: u32) -> u32
+    ensures { λ r. ⌜ r ≡ cutOf word addr size ⌝ }
+{
+    let w = word >> (8 * (addr % 4));
+    if size == 4 {
+        return w;
+    }
+    if size == 2 {
+        return w % 0x1_0000;
+    }
+    w % 0x100
+}
+
+// The bits that an access writes.
+pub fn written(addr: u32, size: u32, value: u32) -> u32
+    ensures { λ r. ⌜ r ≡ writtenOf addr size value ⌝ }
+{
+    shift(value, addr) & mask(addr, size)
+}
+
+// The word after a write.
+pub fn merged(old: u32, addr: u32, size: u32, value: u32) -> u32
+    ensures { λ r. ⌜ r ≡ mergedOf old addr size value ⌝ }
+{
+    (old & !mask(addr, size)) | written(addr, size, value)
+}
