@@ -1,0 +1,3 @@
+-- What the crate's contracts cite, and what its theorems are stated with.
+pub mod Words
+pub mod Within
