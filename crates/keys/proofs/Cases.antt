@@ -1,0 +1,190 @@
+-- The branches of the definitions, each with the fact that leads to it, and the steps of their loops.
+use Prim.Native.Nat.{ℕ, suc, _+_, _-_, _≤_, _<_}
+use mathlib.Core.Path.{_≡_, refl, sym, ap, _∙_}
+use mathlib.Core.Bool.{Bool, true, false, cond, not}
+use mathlib.Core.List.{List}
+use mathlib.Core.Logic.{_≢_}
+use native.Mathlib.Nat.{sub-zero}
+use native.Mathlib.Numerals.{add-one}
+use native.Mathlib.Omega.{arith}
+use lib.Dec.{T, ltb, leb, eqb}
+use lib.ListN.{getD, set}
+use lib.Ieee.{Float, nan, binary64, ofBits}
+use borrow.Author.Tests.{lt-ltb, le-ltb, le-leb, lt-leb, ltb-true, leb-true, eq-eqb, ne-eqb}
+use Rattle.whole.specs.declared.Checked.{Checked}
+use Rattle.whole.specs.declared.Checked.the-variants.{Good, Bad}
+use Rattle.whole.specs.Limits.{goodTime, timeOf}
+use Rattle.whole.proofs.Numbers.{checked-good, checked-bad}
+use Rattle.memory.specs.Bytes.{loaded, storedAt}
+use Rattle.keys.specs.declared.Held.{Held}
+use Rattle.keys.specs.declared.Keys.{Keys}
+use Rattle.keys.specs.declared.Refusal.the-variants.{Done, BadKey, BadTime, KeysFull}
+use Rattle.keys.specs.Script.{placesOf, waits, freeFrom, freeOf, countedOf, Script, script, Outcome, outcome, placed, putOf, pressOf}
+use Rattle.keys.specs.Live as live
+use Rattle.keys.specs.Live.{withLive, withHolds, liveOf, holdOf, also, heldFrom, heldOf, tapped}
+use Rattle.keys.specs.Lines.{wanted, driven, lines, syncOf}
+use Rattle.keys.specs.Edges.{edgesOf, edgesFrom, pressEdges}
+
+-- ---- places
+pub places-most : (count : ℕ) → placesOf count ≤ 64
+places-most count = by (ltb count 64) refl
+  where
+    by : (b : Bool) → ltb count 64 ≡ b → cond b count 64 ≤ 64
+    by true h = let l : count < 64 = ltb-true count 64 h in omega arith
+    by false h = omega arith
+
+module _ (place count n : ℕ) (e : n ≡ placesOf count) where
+  pub counted-in : place < n → n ≡ countedOf place count
+  unfolding countedOf
+  counted-in l = rw (← e, lt-ltb _ _ l)
+
+  pub counted-after : n ≤ place → place + 1 ≡ countedOf place count
+  unfolding countedOf
+  counted-after l = rw (← e, le-ltb _ _ l)
+
+-- ---- the search for a place
+module _ (times : List Float) (now : Float) (m i : ℕ) where
+  pub from-waits : waits (getD times i nan) now ≡ true → freeFrom (suc m) i times now ≡ freeFrom m (i + 1) times now
+  unfolding freeFrom
+  from-waits h = rw h
+
+  pub from-expired : waits (getD times i nan) now ≡ false → freeFrom (suc m) i times now ≡ i
+  unfolding freeFrom
+  from-expired h = rw h
+
+-- what a test that is turned over says
+turned : (b : Bool) (x : Bool) → x ≡ not b → b ≡ not x
+turned true x h = rw h
+turned false x h = rw h
+
+module _ (times : List Float) (count : ℕ) (now : Float) (n : ℕ) where
+  pub free-start : n ≡ placesOf count → freeOf times count now ≡ freeFrom (n - 0) 0 times now
+  unfolding freeOf
+  free-start e = rw (sub-zero, e)
+
+  module _ (i : ℕ) (x : Bool) (l : i < n) (e : freeOf times count now ≡ freeFrom (n - i) i times now) (w : x ≡ not (waits (getD times i nan) now)) where
+    step : freeOf times count now ≡ freeFrom (suc (n - (i + 1))) i times now
+    step = let z : n - i ≡ suc (n - (i + 1)) = omega arith in rw z at e
+
+    pub free-here : x ≡ true → i ≡ freeOf times count now
+    free-here t = sym (step ∙ from-expired times now (n - (i + 1)) i (turned _ x w ∙ ap not t))
+
+    pub free-on : x ≡ false → freeOf times count now ≡ freeFrom (n - (i + 1)) (i + 1) times now
+    free-on t = step ∙ from-waits times now (n - (i + 1)) i (turned _ x w ∙ ap not t)
+
+  pub free-none : (i : ℕ) → n ≤ i → freeOf times count now ≡ freeFrom (n - i) i times now → i ≡ freeOf times count now
+  unfolding freeFrom
+  free-none i h e = let z : n - i ≡ 0 = omega arith in sym (e ∙ ap (λ (k : ℕ). freeFrom k i times now) z)
+
+-- ---- press
+module _ (times : List Float) (codes : List ℕ) (count code : ℕ) (at now : Float) (p : ℕ) (e : p ≡ freeOf times count now) where
+  pub put-in : (n : ℕ) → p < 64 → n ≡ countedOf p count → outcome Done (script (set times p at) (set codes p code) n) ≡ putOf (script times codes count) code at now
+  unfolding putOf placed
+  put-in n l k = rw (← e, lt-ltb _ _ l, k)
+
+  pub put-full : 64 ≤ p → outcome KeysFull (script times codes count) ≡ putOf (script times codes count) code at now
+  unfolding putOf
+  put-full l = rw (← e, le-ltb _ _ l)
+
+module _ (s : Script) (key : ℕ) (at now : Float) where
+  pub press-bad-key : 2 < key → outcome BadKey s ≡ pressOf s key at now
+  unfolding pressOf
+  press-bad-key h = rw (lt-leb _ _ h)
+
+  pub press-bad-time : key ≤ 2 → goodTime at ≡ false → outcome BadTime s ≡ pressOf s key at now
+  unfolding pressOf
+  press-bad-time h g = rw (le-leb _ _ h, g)
+
+  pub press-put : (o : Outcome) → key ≤ 2 → goodTime at ≡ true → o ≡ putOf s key at now → o ≡ pressOf s key at now
+  unfolding pressOf
+  press-put o h g e = rw (le-leb _ _ h, g) e
+
+  -- what holds after each answer holds after a press
+  pub press-each : (P : Outcome → Type 0) → P (outcome BadKey s) → P (outcome BadTime s) → P (outcome KeysFull s)
+      → (key ≤ 2 → T (goodTime at) → freeOf (s .times) (s .count) now < 64 → P (outcome Done (placed s (freeOf (s .times) (s .count) now) key at)))
+      → P (pressOf s key at now)
+  unfolding pressOf putOf
+  press-each P k t f d = by (leb key 2) refl (goodTime at) refl (ltb (freeOf (s .times) (s .count) now) 64) refl
+    where
+      by : (a : Bool) → leb key 2 ≡ a → (b : Bool) → goodTime at ≡ b → (c : Bool) → ltb (freeOf (s .times) (s .count) now) 64 ≡ c
+          → P (cond a (cond b (cond c (outcome Done (placed s (freeOf (s .times) (s .count) now) key at)) (outcome KeysFull s)) (outcome BadTime s)) (outcome BadKey s))
+      by false p b q c r = k
+      by true p false q c r = t
+      by true p true q false r = f
+      by true p true q true r = d (leb-true key 2 p) (rw q tt) (ltb-true _ 64 r)
+
+-- ---- from bits: what is read is the float of the pattern, and what is not is no good time
+module _ (bits : ℕ) (t : Checked) (h : t ≡ timeOf bits) where
+  pub bits-good : (x : Float) → t ≡ Good x → x ≡ ofBits binary64 bits
+  bits-good x e = checked-good (goodTime (ofBits binary64 bits)) bits x (sym e ∙ h)
+
+  pub bits-bad : t ≡ Bad → goodTime (ofBits binary64 bits) ≡ false
+  bits-bad e = checked-bad (goodTime (ofBits binary64 bits)) bits (sym e ∙ h)
+
+  pub press-from : (s : Script) (key : ℕ) (x now : Float) (o : Outcome) → t ≡ Good x → o ≡ pressOf s key x now → o ≡ pressOf s key (ofBits binary64 bits) now
+  press-from s key x now o e k = rw (← bits-good x e) k
+
+-- ---- live keys and taps
+module _ (k : Keys) (key : ℕ) where
+  pub live-bad : (down : Bool) → 2 < key → live.outcome BadKey k ≡ liveOf k key down
+  unfolding liveOf
+  live-bad down h = rw (lt-leb _ _ h)
+
+  pub live-set : (down a b c : Bool) → key ≤ 2 → a ≡ cond (eqb key 0) down (k .live .a) → b ≡ cond (eqb key 1) down (k .live .b)
+      → c ≡ cond (eqb key 2) down (k .live .c) → live.outcome Done (withLive k (record { a = a; b = b; c = c })) ≡ liveOf k key down
+  unfolding liveOf
+  live-set down a b c h p q r = rw (le-leb _ _ h, p, q, r)
+
+  pub hold-bad-key : (until : Float) → 2 < key → live.outcome BadKey k ≡ holdOf k key until
+  unfolding holdOf
+  hold-bad-key until h = rw (lt-leb _ _ h)
+
+  pub hold-bad-time : (until : Float) → key ≤ 2 → goodTime until ≡ false → live.outcome BadTime k ≡ holdOf k key until
+  unfolding holdOf
+  hold-bad-time until h g = rw (le-leb _ _ h, g)
+
+  pub hold-set : (until a b c : Float) → key ≤ 2 → goodTime until ≡ true → a ≡ cond (eqb key 0) until (k .holds .a)
+      → b ≡ cond (eqb key 1) until (k .holds .b) → c ≡ cond (eqb key 2) until (k .holds .c)
+      → live.outcome Done (withHolds k (record { a = a; b = b; c = c })) ≡ holdOf k key until
+  unfolding holdOf
+  hold-set until a b c h g p q r = rw (le-leb _ _ h, g, p, q, r)
+
+-- ---- the presses, one at a time
+module _ (times : List Float) (codes : List ℕ) (now : Float) where
+  pub held-none : (h : Held) → h ≡ heldFrom times codes h now 0
+  unfolding heldFrom
+  held-none h = refl
+
+  pub held-more : (h₀ h : Held) (i : ℕ) → h ≡ heldFrom times codes h₀ now i
+      → also h (getD times i nan) (getD codes i 0) now ≡ heldFrom times codes h₀ now (i + 1)
+  unfolding heldFrom
+  held-more h₀ h i e = rw (add-one, e)
+
+  pub held-all : (k : Keys) (n i : ℕ) (h₀ h : Held) → n ≡ placesOf (k .count) → h₀ ≡ tapped (k .live) (k .holds) now → i ≤ n → n ≤ i
+      → h ≡ heldFrom times codes h₀ now i → h ≡ heldOf times codes k now
+  unfolding heldOf
+  held-all k n i h₀ h p q a b e = let z : i ≡ n = omega arith in e ∙ rw (z, p, q)
+
+module _ (times : List Float) (now t : Float) where
+  pub edges-none : t ≡ edgesFrom times now t 0
+  unfolding edgesFrom
+  edges-none = refl
+
+  pub edges-more : (r : Float) (i : ℕ) → r ≡ edgesFrom times now t i → edgesOf (getD times i nan) now r ≡ edgesFrom times now t (i + 1)
+  unfolding edgesFrom
+  edges-more r i e = rw (add-one, e)
+
+  pub edges-all : (count n i : ℕ) (r : Float) → n ≡ placesOf count → i ≤ n → n ≤ i → r ≡ edgesFrom times now t i → r ≡ pressEdges times count now t
+  unfolding pressEdges
+  edges-all count n i r p a b e = let z : i ≡ n = omega arith in e ∙ rw (z, p)
+
+-- ---- the lines
+module _ (gpio : List ℕ) (applied : ℕ) (h : Held) (w : ℕ) (e : w ≡ wanted h) where
+  pub sync-same : w ≡ applied → lines gpio applied ≡ syncOf gpio applied h
+  unfolding syncOf
+  sync-same s = rw (← e, eq-eqb _ _ s)
+
+  pub sync-new : (word d : ℕ) (out : List ℕ) → w ≢ applied → word ≡ loaded gpio 0x20 4 → d ≡ driven word applied w → out ≡ storedAt gpio 0x20 4 d
+      → lines out w ≡ syncOf gpio applied h
+  unfolding syncOf
+  sync-new word d out s p q r = rw (← e, ne-eqb _ _ s, r, q, p)

@@ -1,0 +1,13 @@
+pub mod Ahead
+pub mod Canonical
+pub mod Cases
+pub mod Driven
+pub mod Expired
+pub mod Finite
+pub mod Full
+pub mod Kept
+pub mod Limits
+pub mod Literal
+pub mod SameEdges
+pub mod SameKeys
+pub mod Unique

@@ -1,0 +1,68 @@
+-- What meets a contract is the only thing that does.
+use Prim.Native.Nat.{ℕ}
+use mathlib.Core.Path.{_≡_, refl, ap}
+use mathlib.Core.Bool.{cond}
+use mathlib.Core.List.{List}
+use lib.Dec.{eqb}
+use lib.Ieee.{Float}
+use Rattle.whole.proofs.Unique.{unique, told}
+use Rattle.keys.specs.declared.Keys.{Keys}
+use Rattle.keys.specs.declared.Refusal.{Refusal}
+use Rattle.keys.specs.declared.Refusal.the-variants.{Done, BadKey, BadTime, KeysFull}
+use Rattle.keys.specs.declared.Pressed.{Pressed}
+use Rattle.keys.specs.declared.Changed.{Changed}
+use Rattle.keys.specs.Keys.{numberOf, Buttons, buttons}
+use Rattle.keys.specs.Script.{script, outcome}
+use Rattle.keys.specs.Script as presses
+use Rattle.keys.specs.Live as live
+use Rattle.keys.specs.Live.{changed}
+use Rattle.keys.specs.Lines.{Lines, lines}
+
+-- the refusal of a number
+abbrev refusalOf : ℕ → Refusal
+refusalOf n = cond (eqb n 0) Done (cond (eqb n 8) BadKey (cond (eqb n 1) BadTime KeysFull))
+
+-- a refusal is known by its number
+number-tells : (a b : Refusal) → numberOf a ≡ numberOf b → a ≡ b
+number-tells = told numberOf refusalOf back
+  where
+    back : (r : Refusal) → refusalOf (numberOf r) ≡ r
+    back Done = refl
+    back BadKey = refl
+    back BadTime = refl
+    back KeysFull = refl
+
+pressed-is : {a b : Refusal} {m n : ℕ} → a ≡ b → m ≡ n → _≡_ {A = Pressed} (record { refusal = a; count = m }) (record { refusal = b; count = n })
+pressed-is e f = rw (e, f)
+
+changed-is : {a b : Refusal} {k l : Keys} → a ≡ b → k ≡ l → _≡_ {A = Changed} (record { refusal = a; keys = k }) (record { refusal = b; keys = l })
+changed-is e f = rw (e, f)
+
+-- of a press there is one answer, and the later arrays are one pair of lists
+pub one-press : (d : presses.Outcome) (r s : Pressed) (times ts : List Float) (codes cs : List ℕ)
+    → outcome (r .refusal) (script times codes (r .count)) ≡ d → outcome (s .refusal) (script ts cs (s .count)) ≡ d → (r ≡ s) × (times ≡ ts) × (codes ≡ cs)
+one-press d r s times ts codes cs h k =
+    let e : outcome (r .refusal) (script times codes (r .count)) ≡ outcome (s .refusal) (script ts cs (s .count)) = unique h k in (
+      pressed-is (number-tells (r .refusal) (s .refusal) (ap (λ (o : presses.Outcome). o .refusal) e)) (ap (λ (o : presses.Outcome). o .script .count) e),
+      ap (λ (o : presses.Outcome). o .script .times) e,
+      ap (λ (o : presses.Outcome). o .script .codes) e,
+    )
+
+-- of a live key and of a tap there is one answer
+pub one-change : (d : live.Outcome) (r s : Changed) → changed r ≡ d → changed s ≡ d → r ≡ s
+one-change d r s h k =
+    let e : changed r ≡ changed s = unique h k in
+    changed-is (number-tells (r .refusal) (s .refusal) (ap (λ (o : live.Outcome). o .refusal) e)) (ap (λ (o : live.Outcome). o .keys) e)
+
+-- of the lines there is one later memory, and one thing applied
+pub one-sync : (d : Lines) (a b : ℕ) (m n : List ℕ) → lines m a ≡ d → lines n b ≡ d → (a ≡ b) × (m ≡ n)
+one-sync d a b m n h k =
+    let e : lines m a ≡ lines n b = unique h k in
+    (ap (λ (l : Lines). l .applied) e, ap (λ (l : Lines). l .gpio) e)
+
+-- of a wipe there is one state
+pub one-clear : (d : Buttons) (k l : Keys) (times ts : List Float) (codes cs : List ℕ) → buttons times codes k ≡ d → buttons ts cs l ≡ d
+    → (k ≡ l) × (times ≡ ts) × (codes ≡ cs)
+one-clear d k l times ts codes cs g h =
+    let e : buttons times codes k ≡ buttons ts cs l = unique g h in
+    (ap (λ (b : Buttons). b .keys) e, ap (λ (b : Buttons). b .times) e, ap (λ (b : Buttons). b .codes) e)

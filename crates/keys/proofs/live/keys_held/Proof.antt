@@ -1,0 +1,65 @@
+use Prim.Native.Nat.{_-_, _≤_}
+use mathlib.Core.Path.{_≡_, _∙_}
+use native.Mathlib.Omega.{arith}
+use Rattle.keys.specs.Live.{heldFrom}
+use Rattle.keys.proofs.Cases.{places-most, held-none, held-more, held-all}
+use borrow.Author.Needs.{needs}
+use Rattle.keys.proofs.live.keys_held.Statement.{statement}
+use Rattle.keys.proofs.live.keys_held.Tie as tie
+
+abbrev Inv-loop : tie.InvT-loop
+Inv-loop times codes time n held₀ i₀ held i = (i ≤ n) × (n ≤ 64) × (held ≡ heldFrom times codes held₀ time i)
+
+abbrev μ-loop : tie.MeasureT-loop
+μ-loop times codes time n held₀ i₀ held i = n - i
+
+places-requires : tie.Need-places-requires Inv-loop μ-loop
+places-requires c κs = search needs
+
+tapped-requires : tie.Need-tapped-requires Inv-loop μ-loop
+tapped-requires c κs = search needs
+
+loop-holds : tie.Need-loop-holds Inv-loop μ-loop
+loop-holds c = (search needs, omega (arith, (c .before .places .ensures), places-most ((c .before .before .args .keys .count))), held-none _ _ _ _)
+
+mul-also : tie.Need-mul-also Inv-loop μ-loop
+mul-also c = search needs
+
+element-copy-out-also : tie.Need-element-copy-out-also Inv-loop μ-loop
+element-copy-out-also c = search needs
+
+element-copy-out-also-2 : tie.Need-element-copy-out-also-2 Inv-loop μ-loop
+element-copy-out-also-2 c = search needs
+
+also-requires : tie.Need-also-requires Inv-loop μ-loop
+also-requires c κs = search needs
+
+add-i : tie.Need-add-i Inv-loop μ-loop
+add-i c = search needs
+
+loop-less : tie.Need-loop-less Inv-loop μ-loop
+loop-less c = search needs
+
+loop-again : tie.Need-loop-again Inv-loop μ-loop
+loop-again c = (search needs, search needs, (c .also .ensures) ∙ held-more _ _ _ _ _ _ (c .before .before .before .before .loop .inv .2))
+
+returns : tie.Need-returns Inv-loop μ-loop
+returns c = held-all _ _ _ _ _ _ _ _ (c .before .before .before .places .ensures) (c .before .before .tapped .ensures) (c .before .loop .inv .0) (c .loop-test .left) (c .before .loop .inv .2)
+
+pub keys-held-spec : {M : Type 1} → statement M
+keys-held-spec =
+    tie.close
+    (tie.spec
+    Inv-loop
+    μ-loop
+    places-requires
+    tapped-requires
+    loop-holds
+    mul-also
+    element-copy-out-also
+    element-copy-out-also-2
+    also-requires
+    add-i
+    loop-less
+    loop-again
+    returns)
