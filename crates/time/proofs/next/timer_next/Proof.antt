@@ -1,0 +1,29 @@
+use native.Mathlib.Omega.{arith}
+use Prim.Native.Nat.{_^_}
+use lib.Dec.{le→leb}
+use lib.Ieee.{inFloat}
+use Rattle.time.specs.Next.{timerNext}
+use borrow.Author.Needs.{needs}
+use Rattle.time.proofs.next.timer_next.Statement.{statement}
+use Rattle.time.proofs.next.timer_next.Tie as tie
+
+one-more-requires : tie.Need-one-more-requires
+one-more-requires c κs = search needs
+
+period-requires : tie.Need-period-requires
+period-requires c κs = search needs
+
+int-to-float-p : tie.Need-int-to-float-p
+unfolding inFloat
+int-to-float-p c = le→leb ((c .before .period .result)) (2 ^ 53) (omega arith)
+
+rate-requires : tie.Need-rate-requires
+rate-requires c κs = search needs
+
+returns : tie.Need-returns
+unfolding timerNext
+returns c = rw (c .before .before .before .before .one-more .ensures, c .before .before .before .period .ensures, c .before .rate .ensures)
+
+pub timer-next-spec : {M : Type 1} → statement M
+timer-next-spec =
+    tie.close (tie.spec one-more-requires period-requires int-to-float-p rate-requires returns)

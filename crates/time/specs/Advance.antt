@@ -1,0 +1,142 @@
+-- Time goes on: advance, timer_advance, adc_advance, rtc_irq_advance. Where the Rust leaves a word alone the same value is put back,
+-- which changes nothing.
+use Prim.Native.Nat.{ℕ}
+use mathlib.Core.Bool.{Bool}
+use mathlib.Core.List.{List, [], _∷_}
+use lib.ListN.{getD}
+use lib.Ieee.{Float}
+use Rattle.registers.specs.Words.{ownAt, ownWith}
+use Rattle.timer.specs.declared.Timer.{Timer}
+use Rattle.timer.specs.Timers.{advancedOf}
+use Rattle.clock.specs.declared.Times.{Times}
+use Rattle.clock.specs.declared.RtcIrq.{RtcIrq}
+use Rattle.clock.specs.declared.Signal.{Signal}
+use Rattle.clock.specs.declared.Ticked.{Ticked}
+use Rattle.clock.specs.declared.Adc.{Adc}
+use Rattle.clock.specs.declared.Moved.{Moved}
+use Rattle.clock.specs.declared.Moved.the-variants.{To, BadTime}
+use Rattle.clock.specs.Times.{movedOf}
+use Rattle.clock.specs.Sources.{vsyncOf, tickedOf}
+use Rattle.clock.specs.Adc.{convertedOf}
+use Rattle.keys.specs.declared.Keys.{Keys}
+use Rattle.keys.specs.Live.{heldOf}
+use Rattle.keys.specs.Lines.{syncOf}
+use Rattle.time.specs.declared.Clocks.{Clocks}
+use Rattle.time.specs.declared.Advanced.{Advanced}
+use Rattle.time.specs.Clocks.{controlAt, reloadAt}
+use Rattle.time.specs.Irq.{none}
+
+-- ---- the timers
+
+unfoldable pub timerAfter : List ℕ → ℕ → Timer → Float → ℕ → Timer
+timerAfter own n t now clock = advancedOf t now clock (controlAt own n) (reloadAt own n)
+
+unfoldable pub timersAfter : List ℕ → List Timer → Float → ℕ → List Timer
+timersAfter own ts now clock =
+    timerAfter own 0 (getD ts 0 none) now clock
+    ∷ timerAfter own 1 (getD ts 1 none) now clock
+    ∷ timerAfter own 2 (getD ts 2 none) now clock
+    ∷ timerAfter own 3 (getD ts 3 none) now clock
+    ∷ timerAfter own 4 (getD ts 4 none) now clock
+    ∷ timerAfter own 5 (getD ts 5 none) now clock
+    ∷ []
+
+-- ---- the panel's vertical sync
+
+-- the words, and the last sync seen
+pub record Synced : Type 0 where
+  pub own : List ℕ
+  pub vsync : ℕ
+
+abbrev pub synced : List ℕ → ℕ → Synced
+synced own vsync = record { own = own; vsync = vsync }
+
+abbrev pub signalled : List ℕ → Signal → Synced
+signalled own s = synced (ownWith own 0xD050018C (s .status)) (s .seen)
+
+unfoldable pub syncedOf : List ℕ → ℕ → Float → Synced
+syncedOf own last now = signalled own (vsyncOf last now (ownAt own 0xD050018C))
+
+-- ---- the ADC
+
+-- the words, and whether it converts
+pub record Converted : Type 0 where
+  pub own : List ℕ
+  pub converting : Bool
+
+abbrev pub converted : List ℕ → Bool → Converted
+converted own converting = record { own = own; converting = converting }
+
+abbrev pub storedIn : List ℕ → Adc → Converted
+storedIn own adc = converted (ownWith (ownWith own 0xC00C0008 (adc .result)) 0xC00C0004 (adc .control)) (adc .converting)
+
+unfoldable pub convertedIn : List ℕ → Bool → Converted
+convertedIn own converting =
+    storedIn own (convertedOf (record { converting = converting; control = ownAt own 0xC00C0004; result = ownAt own 0xC00C0008 }))
+
+-- ---- the 1 Hz tick
+
+-- the words, and the SoC's clock
+pub record Ticking : Type 0 where
+  pub own : List ℕ
+  pub irq : RtcIrq
+
+abbrev pub ticked : List ℕ → RtcIrq → Ticking
+ticked own irq = record { own = own; irq = irq }
+
+abbrev pub tickedWith : List ℕ → Ticked → Ticking
+tickedWith own t = ticked (ownWith own 0xC0040054 (t .status)) (t .irq)
+
+unfoldable pub tickedIn : List ℕ → RtcIrq → Float → Ticking
+tickedIn own irq game = tickedWith own (tickedOf irq game (ownAt own 0xC0040054))
+
+-- ---- all devices, at later times t
+
+-- the words, and the clocks
+pub record Devices : Type 0 where
+  pub own : List ℕ
+  pub clocks : Clocks
+
+abbrev pub devices : List ℕ → Clocks → Devices
+devices own clocks = record { own = own; clocks = clocks }
+
+-- timers 0 to 5, vsync, ADC, 1 Hz tick
+unfoldable pub devicesOf : List ℕ → Clocks → ℕ → Times → Devices
+devicesOf own c clock t =
+    let timers = timersAfter own (c .timers) (t .now) clock in
+    let s = syncedOf own (c .vsync) (t .now) in
+    let a = convertedIn (s .own) (c .converting) in
+    let h = tickedIn (a .own) (c .irq) (t .game) in
+    devices (h .own) (record { times = t; timers = timers; irq = h .irq; vsync = s .vsync; converting = a .converting })
+
+-- ---- the whole
+
+-- the words, the GPIO memory, 01's number, the clocks, and what is applied to the lines
+pub record Outcome : Type 0 where
+  pub own : List ℕ
+  pub gpio : List ℕ
+  pub refusal : ℕ
+  pub clocks : Clocks
+  pub applied : ℕ
+
+abbrev pub outcome : List ℕ → List ℕ → ℕ → Clocks → ℕ → Outcome
+outcome own gpio refusal clocks applied = record { own = own; gpio = gpio; refusal = refusal; clocks = clocks; applied = applied }
+
+abbrev pub advanced : List ℕ → List ℕ → Advanced → Outcome
+advanced own gpio r = outcome own gpio (r .refusal) (r .clocks) (r .applied)
+
+-- the devices, and the keys that are down at the new time
+unfoldable pub movedTo : List ℕ → List ℕ → List Float → List ℕ → Clocks → Keys → ℕ → Times → Outcome
+movedTo own gpio times codes c k clock t =
+    let d = devicesOf own c clock t in
+    let l = syncOf gpio (k .applied) (heldOf times codes k (t .now)) in
+    outcome (d .own) (l .gpio) 0 (d .clocks) (l .applied)
+
+-- a time that is refused changes nothing
+unfoldable pub moved : List ℕ → List ℕ → List Float → List ℕ → Clocks → Keys → ℕ → Moved → Outcome
+moved own gpio times codes c k clock (To t) = movedTo own gpio times codes c k clock t
+moved own gpio times codes c k clock BadTime = outcome own gpio 1 c (k .applied)
+
+-- game time and now first
+unfoldable pub advanceOf : List ℕ → List ℕ → List Float → List ℕ → Clocks → Keys → ℕ → Float → Outcome
+advanceOf own gpio times codes c k clock to = moved own gpio times codes c k clock (movedOf (c .times) to)

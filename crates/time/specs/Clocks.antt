@@ -1,0 +1,20 @@
+-- The clocks after a wipe, and the timers' words.
+use Prim.Native.Nat.{ℕ, _+_, _*_}
+use mathlib.Core.Bool.{false}
+use mathlib.Core.List.{List}
+use lib.ListN.{replicate}
+use Rattle.registers.specs.Words.{ownAt}
+use Rattle.timer.specs.Timers.{freshTimer}
+use Rattle.clock.specs.Times.{freshTimes}
+use Rattle.clock.specs.Day.{freshIrq}
+use Rattle.time.specs.declared.Clocks.{Clocks}
+
+unfoldable pub freshClocks : Clocks
+freshClocks = record { times = freshTimes; timers = replicate 6 freshTimer; irq = freshIrq; vsync = 0; converting = false }
+
+-- the control and reload words of timer n
+abbrev pub controlAt : List ℕ → ℕ → ℕ
+controlAt own n = ownAt own (0xC0020000 + 0x20 * n)
+
+abbrev pub reloadAt : List ℕ → ℕ → ℕ
+reloadAt own n = ownAt own (0xC0020008 + 0x20 * n)

@@ -1,0 +1,5 @@
+pub mod Clocks
+pub mod Irq
+pub mod Advance
+pub mod Next
+pub mod Within
