@@ -1,0 +1,38 @@
+use Rattle.bus.proofs.Cases.{reg-read}
+use Rattle.registers.specs.Words.{registersOf}
+use borrow.Author.Needs.{needs}
+use Rattle.bus.proofs.read.mmio_read.Statement.{statement}
+use Rattle.bus.proofs.read.mmio_read.Tie as tie
+
+sub-word : tie.Need-sub-word
+sub-word c = search needs
+
+reg-requires : tie.Need-reg-requires
+reg-requires c κs = search needs
+
+load-requires : tie.Need-load-requires
+load-requires c κs = search needs
+
+word-value-requires : tie.Need-word-value-requires
+word-value-requires c κs = search needs
+
+read-effect-requires : tie.Need-read-effect-requires
+read-effect-requires c κs = search needs
+
+cut-requires : tie.Need-cut-requires
+cut-requires c κs = search needs
+
+returns : tie.Need-returns
+returns c = let a = (c .before .before .before .before .before .before .before .before .before .args) in reg-read (registersOf (a .own .now) (a .addresses .now) (a .values .now)) (a .sram .now) (a .devices) (a .addr) (a .size) (c .before .before .before .before .before .before .reg .ensures) (c .before .before .before .before .before .load .ensures) (c .before .before .before .word-value .ensures) (c .before .read-effect .ensures) (c .cut .ensures)
+
+pub mmio-read-spec : {M : Type 1} → statement M
+mmio-read-spec =
+    tie.close
+    (tie.spec
+    sub-word
+    reg-requires
+    load-requires
+    word-value-requires
+    read-effect-requires
+    cut-requires
+    returns)

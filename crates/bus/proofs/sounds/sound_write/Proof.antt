@@ -1,0 +1,45 @@
+use Rattle.bus.proofs.Cases.{sound-full, sound-same, sound-change}
+use borrow.Author.Needs.{needs}
+use Rattle.bus.proofs.sounds.sound_write.Statement.{statement}
+use Rattle.bus.proofs.sounds.sound_write.Tie as tie
+
+sound-after-requires : tie.Need-sound-after-requires
+sound-after-requires c κs = search needs
+
+enum-told : tie.Need-enum-told
+enum-told c = search needs
+
+returns : tie.Need-returns
+returns c = let a = (c .before .before .before .before .args) in sound-full (a .own .now) (a .devices) (a .next) (a .clock) (a .full) (a .word) (a .kept) (c .before .before .sound-after .ensures) (c .enum-told .given .1)
+
+enum-told-2 : tie.Need-enum-told-2
+enum-told-2 c = search needs
+
+own-insert-requires : tie.Need-own-insert-requires
+own-insert-requires c κs = search needs
+
+returns-2 : tie.Need-returns-2
+returns-2 c = let a = (c .before .before .before .before .before .before .args) in sound-same (a .own .now) (a .devices) (a .next) (a .clock) (a .full) (a .word) (a .kept) (c .before .before .before .before .sound-after .ensures) (c .before .before .enum-told2 .given .1) (c .own-insert .ensures)
+
+enum-known-sounded : tie.Need-enum-known-sounded
+enum-known-sounded c = search needs
+
+own-insert-requires-2 : tie.Need-own-insert-requires-2
+own-insert-requires-2 c κs = search needs
+
+returns-3 : tie.Need-returns-3
+returns-3 c = let a = (c .before .before .before .before .before .before .before .args) in sound-change (a .own .now) (a .devices) (a .next) (a .clock) (a .full) (a .word) (a .kept) (c .before .before .before .before .before .sound-after .ensures) (c .before .before .before .sounded .given .1) (c .own-insert2 .ensures)
+
+pub sound-write-spec : {M : Type 1} → statement M
+sound-write-spec =
+    tie.close
+    (tie.spec
+    sound-after-requires
+    enum-told
+    returns
+    enum-told-2
+    own-insert-requires
+    returns-2
+    enum-known-sounded
+    own-insert-requires-2
+    returns-3)

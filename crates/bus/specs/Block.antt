@@ -1,0 +1,93 @@
+-- Bytes of the bus without side effects: peek8, peek32, read_block; and poke.
+use Prim.Native.Nat.{ℕ, zero, suc, _+_, _-_, _*_, _%_, _^_}
+use mathlib.Core.Bool.{Bool, false}
+use mathlib.Core.List.{List, [], _∷_}
+use lib.ListN.{length, getD}
+use lib.Dec.{leb}
+use Rattle.registers.specs.declared.Registers.{Registers}
+use Rattle.registers.specs.Words.{wordAt}
+use Rattle.memory.specs.declared.Place.{Place}
+use Rattle.memory.specs.declared.Place.the-variants.{Ram, Sram, Gpio, Register, Stray}
+use Rattle.memory.specs.Places.{placeOf}
+use Rattle.memory.specs.Bytes.{storedAt}
+use Rattle.memory.specs.Access.{cutOf}
+
+-- the memory byte, the stored register byte or 0
+abbrev pub peekAt : Place → Registers → List ℕ → List ℕ → List ℕ → ℕ → ℕ
+peekAt (Ram o) r m s g a = getD m o 0
+peekAt (Sram o) r m s g a = getD s o 0
+peekAt (Gpio o) r m s g a = getD g o 0
+peekAt Register r m s g a = cutOf (wordAt r (a - a % 4)) a 1 % 256
+peekAt Stray r m s g a = 0
+
+unfoldable pub peekOf : Registers → List ℕ → List ℕ → List ℕ → ℕ → ℕ
+peekOf r m s g a = peekAt (placeOf a) r m s g a
+
+abbrev pub joinedOf : ℕ → ℕ → ℕ → ℕ → ℕ
+joinedOf a b c d = a + b * 2 ^ 8 + c * 2 ^ 16 + d * 2 ^ 24
+
+-- the byte i after an address, modulo 2^32
+abbrev pub peekOn : Registers → List ℕ → List ℕ → List ℕ → ℕ → ℕ → ℕ
+peekOn r m s g a i = peekOf r m s g ((a + i) % 2 ^ 32)
+
+unfoldable pub wordOf : Registers → List ℕ → List ℕ → List ℕ → ℕ → ℕ
+wordOf r m s g a = joinedOf (peekOn r m s g a 0) (peekOn r m s g a 1) (peekOn r m s g a 2) (peekOn r m s g a 3)
+
+-- f of i and of the n - 1 numbers after it
+unfoldable pub table : (ℕ → ℕ) → ℕ → ℕ → List ℕ
+table f i zero = []
+table f i (suc n) = f i ∷ table f (suc i) n
+
+-- the n bytes from an address on
+unfoldable pub blockOf : Registers → List ℕ → List ℕ → List ℕ → ℕ → ℕ → List ℕ
+blockOf r m s g a n = table (λ i. peekOn r m s g a i) 0 n
+
+-- whether they lie in one memory of these lengths; stray space is in pages of 65,536
+abbrev pub wholeAt : Place → ℕ → ℕ → ℕ → ℕ → ℕ → Bool
+wholeAt (Ram o) m s g a n = leb (o + n) m
+wholeAt (Sram o) m s g a n = leb (o + n) s
+wholeAt (Gpio o) m s g a n = leb (o + n) g
+wholeAt Register m s g a n = false
+wholeAt Stray m s g a n = leb (a % 65536 + n) 65536
+
+unfoldable pub wholeOf : ℕ → ℕ → ℕ → ℕ → ℕ → Bool
+wholeOf m s g a n = wholeAt (placeOf a) m s g a n
+
+pub record Block : Type 0 where
+  pub whole : Bool
+  pub bytes : List ℕ
+
+abbrev pub block : Bool → List ℕ → Block
+block b l = record { whole = b; bytes = l }
+
+unfoldable pub readOf : Registers → List ℕ → List ℕ → List ℕ → ℕ → ℕ → Block
+readOf r m s g a n = block (wholeOf (length m) (length s) (length g) a n) (blockOf r m s g a n)
+
+-- ---- poke
+
+-- the memories that bytes can be laid into
+pub record Plain : Type 0 where
+  pub ram : List ℕ
+  pub sram : List ℕ
+  pub gpio : List ℕ
+
+abbrev pub plain : List ℕ → List ℕ → List ℕ → Plain
+plain m s g = record { ram = m; sram = s; gpio = g }
+
+abbrev pub pokedAt : Place → Plain → ℕ → Plain
+pokedAt (Ram o) p b = plain (storedAt (p .ram) o 1 b) (p .sram) (p .gpio)
+pokedAt (Sram o) p b = plain (p .ram) (storedAt (p .sram) o 1 b) (p .gpio)
+pokedAt (Gpio o) p b = plain (p .ram) (p .sram) (storedAt (p .gpio) o 1 b)
+pokedAt Register p b = p
+pokedAt Stray p b = p
+
+unfoldable pub pokedOf : Plain → ℕ → ℕ → Plain
+pokedOf p a b = pokedAt (placeOf a) p b
+
+-- a byte after the other, from place i after an address
+unfoldable pub laidFrom : Plain → ℕ → ℕ → List ℕ → Plain
+laidFrom p a i [] = p
+laidFrom p a i (b ∷ bs) = laidFrom (pokedOf p ((a + i) % 2 ^ 32) b) a (i + 1) bs
+
+unfoldable pub laidOf : Plain → ℕ → List ℕ → Plain
+laidOf p a bs = laidFrom p a 0 bs

@@ -1,0 +1,10 @@
+-- What the crate's contracts cite, and what its theorems are stated with.
+pub mod World
+pub mod Chip
+pub mod Rtc
+pub mod Block
+pub mod Screen
+pub mod Sounds
+pub mod Words
+pub mod Write
+pub mod Read

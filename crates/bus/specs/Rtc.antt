@@ -1,0 +1,20 @@
+-- The RTC chip behind its bus: rtc_command, with the address and data words.
+use Prim.Native.Nat.{ℕ}
+use mathlib.Core.List.{List}
+use lib.Ieee.{Float}
+use Rattle.registers.specs.Words.{ownAt, ownWith}
+use Rattle.clock.specs.declared.Rtc.{Rtc}
+use Rattle.clock.specs.Rtc.{commandedOf}
+
+pub record Ran : Type 0 where
+  pub own : List ℕ
+  pub chip : Rtc
+
+abbrev pub ran : List ℕ → Rtc → Ran
+ran o r = record { own = o; chip = r }
+
+abbrev pub commandedBy : List ℕ → Rtc → Float → ℕ → Ran
+commandedBy own r game new = ran own (commandedOf r game (ownAt own 0xC0090004) (ownAt own 0xC0090008) new)
+
+unfoldable pub commandWritten : List ℕ → Rtc → Float → ℕ → Ran
+commandWritten own r game new = commandedBy (ownWith own 0xC009000C new) r game new

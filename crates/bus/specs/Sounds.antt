@@ -1,0 +1,57 @@
+-- The timers' control words and the buzzer: timer_write_ctrl, sound_update.
+use Prim.Native.Nat.{ℕ}
+use mathlib.Core.Bool.{Bool, true, cond}
+use mathlib.Core.List.{List}
+use lib.ListN.{getD, set}
+use lib.Dec.{eqb}
+use lib.Ieee.{nan}
+use mathlib.Core.Bool.{false}
+use Rattle.registers.specs.Words.{ownAt, ownWith}
+use Rattle.timer.specs.declared.Timer.{Timer}
+use Rattle.timer.specs.declared.Tone.{Tone}
+use Rattle.timer.specs.declared.Written.{Written}
+use Rattle.timer.specs.declared.Sounded.{Sounded}
+use Rattle.timer.specs.declared.Sounded.the-variants.{Same, Change, SoundFull}
+use Rattle.timer.specs.Timers.{writtenOf}
+use Rattle.timer.specs.Sound.{toneOf, soundedOf}
+use Rattle.time.specs.declared.Clocks.{Clocks}
+use Rattle.bus.specs.declared.Devices.{Devices}
+use Rattle.bus.specs.World.{Said, said, answer, well, withClocks, withTone}
+
+-- stands for a timer past the sixth, which there is none of
+abbrev pub none : Timer
+none = record { start = nan; seen = 0; pending = false }
+
+abbrev pub timersSet : Clocks → List Timer → Clocks
+timersSet c x = record { times = c .times; timers = x; irq = c .irq; vsync = c .vsync; converting = c .converting }
+
+abbrev pub timerSet : Devices → ℕ → Timer → Devices
+timerSet d n t = withClocks d (timersSet (d .clocks) (set (d .clocks .timers) n t))
+
+-- the buzzer by timer 4's control, reload and compare words, once one of them is v
+unfoldable pub soundOf : List ℕ → Tone → ℕ → Bool → ℕ → ℕ → Sounded
+soundOf own tone clock full word v =
+    soundedOf tone full
+    (toneOf clock
+    (cond (eqb word 0xC0020080) v (ownAt own 0xC0020080))
+    (cond (eqb word 0xC0020088) v (ownAt own 0xC0020088))
+    (cond (eqb word 0xC002008C) v (ownAt own 0xC002008C)))
+
+-- the word is stored and the devices are the next ones, with the new tone; or nothing changes
+abbrev pub sounding : Sounded → List ℕ → Devices → Devices → ℕ → ℕ → Said
+sounding SoundFull own d next word v = said own (answer 5 d)
+sounding Same own d next word v = well (ownWith own word v) next
+sounding (Change tone) own d next word v = said (ownWith own word v) (record { refusal = 0; event = true; devices = withTone next tone })
+
+unfoldable pub soundWritten : List ℕ → Devices → Devices → ℕ → Bool → ℕ → ℕ → Said
+soundWritten own d next clock full word v = sounding (soundOf own (d .tone) clock full word v) own d next word v
+
+abbrev pub controlWritten : Written → List ℕ → Devices → ℕ → Bool → ℕ → ℕ → Said
+controlWritten x own d clock full n word =
+    cond (eqb n 4) (soundWritten own d (timerSet d n (x .timer)) clock full word (x .control))
+    (well (ownWith own word (x .control)) (timerSet d n (x .timer)))
+
+-- the control word of timer n
+unfoldable pub timerWritten : List ℕ → Devices → ℕ → Bool → ℕ → ℕ → ℕ → ℕ → Said
+timerWritten own d clock full n word old new =
+    controlWritten (writtenOf (getD (d .clocks .timers) n none) (d .clocks .times .now) new old) own d clock full n word

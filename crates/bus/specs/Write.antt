@@ -1,0 +1,100 @@
+-- What a write on the bus does: slow_write and mmio_write.
+use Prim.Native.Nat.{ℕ, _-_, _%_}
+use mathlib.Core.Bool.{Bool, false, cond}
+use mathlib.Core.List.{List}
+use lib.Dec.{eqb}
+use Rattle.registers.specs.declared.Registers.{Registers}
+use Rattle.registers.specs.Words.{Outcome, registersOf, wordAt, putWord}
+use Rattle.memory.specs.declared.Place.{Place}
+use Rattle.memory.specs.declared.Place.the-variants.{Ram, Sram, Gpio, Register, Stray}
+use Rattle.memory.specs.Places.{placeOf}
+use Rattle.memory.specs.Bytes.{loaded, storedAt}
+use Rattle.memory.specs.Access.{goodSize, mergedOf, writtenOf}
+use Rattle.panel.specs.Entries.{screen}
+use Rattle.clock.specs.Rtc.{rtcOf}
+use Rattle.bus.specs.declared.Devices.{Devices}
+use Rattle.bus.specs.declared.Wrote.{Wrote}
+use Rattle.bus.specs.World.{World, world, Out, out, done, Said, answer, withFlash, withPanel, withLatch}
+use Rattle.bus.specs.Chip.{Flashed, selectWritten, sendWritten}
+use Rattle.bus.specs.Rtc.{Ran, commandWritten}
+use Rattle.bus.specs.Screen.{Copied, controlled}
+use Rattle.bus.specs.Words.{actsOf, wordWritten}
+
+-- a word that only is stored
+pub record Stored : Type 0 where
+  pub registers : Registers
+  pub wrote : Wrote
+
+abbrev pub stored : Registers → Wrote → Stored
+stored r w = record { registers = r; wrote = w }
+
+abbrev pub settled : Outcome → Devices → Stored
+settled o d = stored (o .registers) (answer (o .refusal) d)
+
+unfoldable pub storedWord : Registers → Devices → ℕ → ℕ → Stored
+storedWord r d word new = settled (putWord r word new) d
+
+-- ---- an outcome in the world
+
+abbrev pub ownIn : World → List ℕ → Registers
+ownIn w own = registersOf own (w .registers .addresses) (w .registers .values)
+
+abbrev pub byFlash : World → Flashed → Out
+byFlash w x = done (world (ownIn w (x .own)) (w .rtc) (x .left .page) (x .left .ram) (w .sram) (w .gpio) (w .fb) (withFlash (w .devices) (x .left .chip)))
+
+abbrev pub byPanel : World → Copied → Out
+byPanel w x =
+    done (world (ownIn w (x .own)) (w .rtc) (w .page) (w .ram) (w .sram) (w .gpio) (x .screen .fb) (withPanel (w .devices) (x .screen .panel)))
+
+abbrev pub byRtc : World → Ran → Out
+byRtc w x = done (world (ownIn w (x .own)) (x .chip .regs) (w .page) (w .ram) (w .sram) (w .gpio) (w .fb) (withLatch (w .devices) (x .chip .latch)))
+
+abbrev pub byWord : World → Said → Out
+byWord w x = out (world (ownIn w (x .own)) (w .rtc) (w .page) (w .ram) (w .sram) (w .gpio) (w .fb) (x .wrote .devices)) (x .wrote .refusal) (x .wrote .event)
+
+abbrev pub byStore : World → Stored → Out
+byStore w x = out (world (x .registers) (w .rtc) (w .page) (w .ram) (w .sram) (w .gpio) (w .fb) (x .wrote .devices)) (x .wrote .refusal) (x .wrote .event)
+
+-- ---- a register
+
+-- the system clock's word, at 0xF80090A4
+abbrev pub clockIn : List ℕ → ℕ
+clockIn sram = loaded sram 0x90A4 4
+
+unfoldable pub portWritten : World → Bool → ℕ → ℕ → ℕ → ℕ → Out
+portWritten w full word old new part =
+    cond (eqb word 0xC0150000) (byFlash w (selectWritten (w .registers .own) (w .devices .flash) (w .page) (w .ram) new))
+    (cond (eqb word 0xC0150008) (byFlash w (sendWritten (w .registers .own) (w .devices .flash) (w .page) (w .ram) new))
+    (cond (eqb word 0xD0500140) (byPanel w (controlled (w .registers) (w .ram) (w .sram) (w .gpio) (screen (w .devices .panel) (w .fb)) new))
+    (cond (eqb word 0xC009000C) (byRtc w (commandWritten (w .registers .own) (rtcOf (w .rtc) (w .devices .latch)) (w .devices .clocks .times .game) new))
+    (cond (actsOf word) (byWord w (wordWritten (w .registers .own) (w .devices) (clockIn (w .sram)) full word old new part))
+    (byStore w (storedWord (w .registers) (w .devices) word new))))))
+
+-- the word that an address lies in
+abbrev pub wordOf : ℕ → ℕ
+wordOf a = a - a % 4
+
+unfoldable pub regWritten : World → Bool → ℕ → ℕ → ℕ → Out
+regWritten w full a n v =
+    portWritten w full (wordOf a) (wordAt (w .registers) (wordOf a)) (mergedOf (wordAt (w .registers) (wordOf a)) a n v) (writtenOf a n v)
+
+-- ---- any address
+
+abbrev pub withRam : World → List ℕ → World
+withRam w m = world (w .registers) (w .rtc) (w .page) m (w .sram) (w .gpio) (w .fb) (w .devices)
+
+abbrev pub withSram : World → List ℕ → World
+withSram w m = world (w .registers) (w .rtc) (w .page) (w .ram) m (w .gpio) (w .fb) (w .devices)
+
+abbrev pub withGpio : World → List ℕ → World
+withGpio w m = world (w .registers) (w .rtc) (w .page) (w .ram) (w .sram) m (w .fb) (w .devices)
+
+abbrev pub writeAt : Place → World → Bool → ℕ → ℕ → ℕ → Out
+writeAt (Ram o) w full a n v = done (withRam w (storedAt (w .ram) o n v))
+writeAt (Sram o) w full a n v = done (withSram w (storedAt (w .sram) o n v))
+writeAt (Gpio o) w full a n v = done (withGpio w (storedAt (w .gpio) o n v))
+writeAt Register w full a n v = regWritten w full a n v
+writeAt Stray w full a n v = out w 6 false
+
+unfoldable pub writeOf : World → Bool → ℕ → ℕ → ℕ → Out
+writeOf w full a n v = cond (goodSize n) (writeAt (placeOf a) w full a n v) (out w 9 false)

@@ -1,0 +1,156 @@
+// Bytes of the bus without side effects, and bytes laid into plain memory.
+ghost use mathlib.Core.Path.{_≡_};
+ghost use Prim.Native.Nat.{_+_, _%_, _^_};
+ghost use lib.Dec.{leb};
+ghost use lib.ListN.{length};
+ghost use Rattle.registers.specs.Words.{registersOf};
+ghost use Rattle.bus.specs.Block.{peekOf, joinedOf, wordOf, blockOf, wholeOf, block, readOf, plain, pokedOf, laidOf};
+use memory::Place;
+
+fn along(from: u32, i: usize) -> u32
+    ensures { λ r. ⌜ r ≡ (from + i) % 2 ^ 32 ⌝ }
+{
+    std::num::wrapping_add_u32(from, (i % 0x1_0000_0000) as u32)
+}
+
+// The memory byte, the stored register byte or 0 at an address.
+pub fn peek8(
+    own: &[u32; 76],
+    addresses: &[u32; 256],
+    values: &[u32; 256],
+    ram: &[u8],
+    sram: &[u8],
+    gpio: &[u8],
+    addr: u32,
+) -> u8
+    ensures { λ r. ⌜ r ≡ peekOf (registersOf (now (own .entry)) (now (addresses .entry)) (now (values .entry))) (now (ram .entry)) (now (sram .entry)) (now (gpio .entry)) addr ⌝ }
+{
+    let place = memory::locate(addr);
+    match place {
+        Place::Ram(at) => memory::byte(ram, at),
+        Place::Sram(at) => memory::byte(sram, at),
+        Place::Gpio(at) => memory::byte(gpio, at),
+        Place::Register => {
+            let word = registers::reg(own, addresses, values, addr - addr % 4);
+            memory::low(memory::cut(word, addr, 1))
+        }
+        Place::Stray => 0,
+    }
+}
+
+fn joined(a: u8, b: u8, c: u8, d: u8) -> u32
+    ensures { λ r. ⌜ r ≡ joinedOf a b c d ⌝ }
+{
+    a as u32 + b as u32 * 0x100 + c as u32 * 0x1_0000 + d as u32 * 0x100_0000
+}
+
+// Four bytes, each by itself, the lowest first.
+pub fn peek32(
+    own: &[u32; 76],
+    addresses: &[u32; 256],
+    values: &[u32; 256],
+    ram: &[u8],
+    sram: &[u8],
+    gpio: &[u8],
+    addr: u32,
+) -> u32
+    ensures { λ r. ⌜ r ≡ wordOf (registersOf (now (own .entry)) (now (addresses .entry)) (now (values .entry))) (now (ram .entry)) (now (sram .entry)) (now (gpio .entry)) addr ⌝ }
+{
+    let a = peek8(own, addresses, values, ram, sram, gpio, along(addr, 0));
+    let b = peek8(own, addresses, values, ram, sram, gpio, along(addr, 1));
+    let c = peek8(own, addresses, values, ram, sram, gpio, along(addr, 2));
+    let d = peek8(own, addresses, values, ram, sram, gpio, along(addr, 3));
+    joined(a, b, c, d)
+}
+
+fn fits(len: usize, at: usize, n: usize) -> bool
+    ensures { λ r. ⌜ r ≡ leb (at + n) len ⌝ }
+{
+    if len < n {
+        return false;
+    }
+    at <= len - n
+}
+
+// Whether a block lies in one memory. Stray space counts in pages of 64 KiB, as the Rust has it.
+fn is_whole(ram: usize, sram: usize, gpio: usize, addr: u32, n: usize) -> bool
+    ensures { λ r. ⌜ r ≡ wholeOf ram sram gpio addr n ⌝ }
+{
+    let place = memory::locate(addr);
+    match place {
+        Place::Ram(at) => fits(ram, at, n),
+        Place::Sram(at) => fits(sram, at, n),
+        Place::Gpio(at) => fits(gpio, at, n),
+        Place::Register => false,
+        Place::Stray => fits(65536, (addr % 65536) as usize, n),
+    }
+}
+
+fn copy(
+    own: &[u32; 76],
+    addresses: &[u32; 256],
+    values: &[u32; 256],
+    ram: &[u8],
+    sram: &[u8],
+    gpio: &[u8],
+    addr: u32,
+    buf: &mut [u8],
+)
+    ensures { λ _. ⌜ now (buf .exit) ≡ blockOf (registersOf (now (own .entry)) (now (addresses .entry)) (now (values .entry))) (now (ram .entry)) (now (sram .entry)) (now (gpio .entry)) addr (length (now (buf .entry))) ⌝ }
+{
+    let n = buf.len();
+    let mut i: usize = 0;
+    while i < n {
+        buf[i] = peek8(own, addresses, values, ram, sram, gpio, along(addr, i));
+        i += 1;
+    }
+}
+
+// A block of the bus; the answer says whether it lies in one memory.
+pub fn read_block(
+    own: &[u32; 76],
+    addresses: &[u32; 256],
+    values: &[u32; 256],
+    ram: &[u8],
+    sram: &[u8],
+    gpio: &[u8],
+    addr: u32,
+    buf: &mut [u8],
+) -> bool
+    ensures { λ r. ⌜ block r (now (buf .exit)) ≡ readOf (registersOf (now (own .entry)) (now (addresses .entry)) (now (values .entry))) (now (ram .entry)) (now (sram .entry)) (now (gpio .entry)) addr (length (now (buf .entry))) ⌝ }
+{
+    let n = buf.len();
+    copy(own, addresses, values, ram, sram, gpio, addr, buf);
+    is_whole(ram.len(), sram.len(), gpio.len(), addr, n)
+}
+
+fn poke8(ram: &mut [u8], sram: &mut [u8], gpio: &mut [u8], addr: u32, b: u8)
+    ensures { λ _. ⌜ plain (now (ram .exit)) (now (sram .exit)) (now (gpio .exit)) ≡ pokedOf (plain (now (ram .entry)) (now (sram .entry)) (now (gpio .entry))) addr b ⌝ }
+{
+    let place = memory::locate(addr);
+    match place {
+        Place::Ram(at) => {
+            memory::store(ram, at, 1, b as u32);
+        }
+        Place::Sram(at) => {
+            memory::store(sram, at, 1, b as u32);
+        }
+        Place::Gpio(at) => {
+            memory::store(gpio, at, 1, b as u32);
+        }
+        Place::Register => {}
+        Place::Stray => {}
+    }
+}
+
+// Bytes laid into memories; those that fall elsewhere are dropped.
+pub fn poke(ram: &mut [u8], sram: &mut [u8], gpio: &mut [u8], addr: u32, bytes: &[u8])
+    ensures { λ _. ⌜ plain (now (ram .exit)) (now (sram .exit)) (now (gpio .exit)) ≡ laidOf (plain (now (ram .entry)) (now (sram .entry)) (now (gpio .entry))) addr (now (bytes .entry)) ⌝ }
+{
+    let n = bytes.len();
+    let mut i: usize = 0;
+    while i < n {
+        poke8(ram, sram, gpio, along(addr, i), bytes[i]);
+        i += 1;
+    }
+}

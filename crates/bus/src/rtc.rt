@@ -1,0 +1,20 @@
+// The RTC chip behind its command word.
+ghost use mathlib.Core.Path.{_≡_};
+ghost use Rattle.clock.specs.Rtc.{rtcOf};
+ghost use Rattle.bus.specs.Rtc.{ran, commandWritten};
+use clock::Latch;
+
+pub(crate) fn command_write(
+    own: &mut [u32; 76],
+    regs: &mut [u8; 256],
+    latch: Latch,
+    game: f64,
+    new: u32,
+) -> Latch
+    ensures { λ r. ⌜ ran (now (own .exit)) (rtcOf (now (regs .exit)) r) ≡ commandWritten (now (own .entry)) (rtcOf (now (regs .entry)) latch) game new ⌝ }
+{
+    registers::own_insert(own, 0xC009_000C, new);
+    let address = registers::own_reg(own, 0xC009_0004);
+    let word = registers::own_reg(own, 0xC009_0008);
+    clock::chip::rtc_command(regs, latch, game, address, word, new)
+}
