@@ -1,0 +1,115 @@
+-- What each call answers and leaves, by the definitions of the crates below.
+use Prim.Native.Nat.{ℕ}
+use mathlib.Core.Bool.{Bool}
+use mathlib.Core.List.{List}
+use lib.Ieee.{Float}
+use lib.ListN.{replicate}
+use Rattle.clock.specs.declared.Paced.{Paced}
+use Rattle.clock.specs.declared.Paced.the-variants.{By, BadTurbo}
+use Rattle.clock.specs.Times.{pacedOf}
+use Rattle.timer.specs.Events as events
+use Rattle.timer.specs.Events.{TakeOutcome}
+use Rattle.keys.specs.declared.Held.{Held}
+use Rattle.keys.specs.Live as live
+use Rattle.keys.specs.Script as script
+use Rattle.keys.specs.Within.{withCount, withApplied}
+use Rattle.time.specs.declared.NextTime.{NextTime}
+use Rattle.time.specs.Irq as irq
+use Rattle.time.specs.Advance as move
+use Rattle.time.specs.Next as next
+use Rattle.bus.specs.World.{Out}
+use Rattle.bus.specs.Write as write
+use Rattle.bus.specs.Write.{clockIn}
+use Rattle.bus.specs.Read as read
+use Rattle.bus.specs.Read.{ReadOut}
+use Rattle.system.specs.declared.System.{System}
+use Rattle.system.specs.declared.Changed.{Changed}
+use Rattle.system.specs.declared.Read.{Read}
+use Rattle.system.specs.declared.Taken.{Taken}
+use Rattle.system.specs.declared.Counters.{Counters}
+use Rattle.system.specs.System.{Machine, machine, Left, left, presses, withOwn, withClocks, withTimes, withKeys, withPresses, withQueue, worldIn, withWorld, noted, freshSystem}
+
+abbrev pub changed : ℕ → System → Changed
+changed n s = record { refusal = n; system = s }
+
+-- ---- reads and writes
+
+abbrev pub reading : System → ReadOut → Read
+reading s x = record { refusal = x .got .refusal; value = x .got .value; system = withOwn s (x .own) }
+
+unfoldable pub readOf : System → List ℕ → List ℕ → List ℕ → ℕ → ℕ → Read
+readOf s m r g a n = reading s (read.readOf (s .registers) m r g (s .devices) a n)
+
+abbrev pub writing : Machine → Out → Left
+writing m x = left (withWorld m (x .world) (noted (m .system .queue) (x .world .devices) (x .event))) (x .refusal)
+
+unfoldable pub writeOf : Machine → ℕ → ℕ → ℕ → Left
+writeOf m a n v = writing m (write.writeOf (worldIn m) (events.fullOf (m .system .queue .ring)) a n v)
+
+-- ---- time
+
+-- the state, the GPIO memory and 01's number
+pub record Moved : Type 0 where
+  pub changed : Changed
+  pub gpio : List ℕ
+
+abbrev pub moved : Changed → List ℕ → Moved
+moved c g = record { changed = c; gpio = g }
+
+abbrev pub moving : System → move.Outcome → Moved
+moving s x =
+    moved (changed (x .refusal) (withKeys (withClocks (withOwn s (x .own)) (x .clocks)) (withApplied (s .keys) (x .applied)))) (x .gpio)
+
+unfoldable pub advanceOf : System → List ℕ → List ℕ → Float → Moved
+advanceOf s r g to =
+    moving s (move.advanceOf (s .registers .own) g (s .presses .times) (s .presses .codes) (s .devices .clocks) (s .keys) (clockIn r) to)
+
+unfoldable pub nextOf : System → List ℕ → NextTime
+nextOf s r = next.nextOf (s .registers .own) (s .presses .times) (s .devices .clocks) (s .keys) (clockIn r)
+
+abbrev pub pacing : System → Paced → Changed
+pacing s (By t) = changed 0 (withTimes s t)
+pacing s BadTurbo = changed 2 s
+
+unfoldable pub turboOf : System → Float → Changed
+turboOf s to = pacing s (pacedOf (s .devices .clocks .times) to)
+
+unfoldable pub pendingOf : System → ℕ
+pendingOf s = irq.pendingOf (s .registers .own) (s .devices .clocks .timers)
+
+unfoldable pub wantedOf : System → Bool
+wantedOf s = irq.wantedOf (s .registers .own) (s .devices .clocks .timers)
+
+abbrev pub taking : System → TakeOutcome → Taken
+taking s x = record { refusal = x .refusal; event = x .event; system = withQueue s (x .queue) }
+
+unfoldable pub takeOf : System → Taken
+takeOf s = taking s (events.takeOf (s .queue))
+
+-- ---- keys
+
+unfoldable pub liveOf : System → ℕ → Bool → Changed
+liveOf s key down = changed (live.liveOf (s .keys) key down .refusal) (withKeys s (live.liveOf (s .keys) key down .keys))
+
+unfoldable pub holdOf : System → ℕ → Float → Changed
+holdOf s key until = changed (live.holdOf (s .keys) key until .refusal) (withKeys s (live.holdOf (s .keys) key until .keys))
+
+abbrev pub pressing : System → script.Outcome → Changed
+pressing s x =
+    changed (x .refusal) (withPresses (withKeys s (withCount (s .keys) (x .script .count))) (presses (x .script .times) (x .script .codes)))
+
+unfoldable pub pressOf : System → ℕ → Float → Changed
+pressOf s key at =
+    pressing s (script.pressOf (script.script (s .presses .times) (s .presses .codes) (s .keys .count)) key at (s .devices .clocks .times .now))
+
+unfoldable pub heldOf : System → Held
+heldOf s = live.heldOf (s .presses .times) (s .presses .codes) (s .keys) (s .devices .clocks .times .now)
+
+-- ---- counters, wipe
+
+abbrev pub countersOf : System → Counters
+countersOf s = record { frames = s .devices .panel .pen .frames; writes = s .devices .flash .writes; off = s .devices .off }
+
+-- of memories of these lengths
+unfoldable pub wipedOf : ℕ → ℕ → ℕ → ℕ → Machine
+wipedOf m r g f = machine freshSystem (replicate m 0) (replicate r 0) (replicate g 0) (replicate f 0)

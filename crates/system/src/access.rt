@@ -1,0 +1,111 @@
+// Reads and writes on the bus.
+ghost use mathlib.Core.Path.{_≡_};
+ghost use Rattle.system.specs.System.{machine, left};
+ghost use Rattle.system.specs.Calls.{readOf, writeOf};
+use crate::Changed;
+use crate::Read;
+use crate::System;
+use crate::parts::note;
+use crate::parts::with_own;
+use registers::Registers;
+use timer::Queue;
+
+pub fn read(s: System, ram: &[u8], sram: &[u8], gpio: &[u8], addr: u32, size: u32) -> Read
+    ensures { λ r. ⌜ r ≡ readOf s (now (ram .entry)) (now (sram .entry)) (now (gpio .entry)) addr size ⌝ }
+{
+    let registers = s.registers;
+    let mut own = registers.own;
+    let addresses = registers.addresses;
+    let values = registers.values;
+    let devices = s.devices;
+    let got = bus::read::read(
+        &mut own,
+        &addresses,
+        &values,
+        ram,
+        sram,
+        gpio,
+        devices,
+        addr,
+        size,
+    );
+    let system = with_own(s, own);
+    Read {
+        refusal: got.refusal,
+        value: got.value,
+        system,
+    }
+}
+
+pub fn write(
+    s: System,
+    ram: &mut [u8],
+    sram: &mut [u8],
+    gpio: &mut [u8],
+    fb: &mut [u8],
+    addr: u32,
+    size: u32,
+    value: u32,
+) -> Changed
+    ensures { λ r. ⌜ left (machine (r .system) (now (ram .exit)) (now (sram .exit)) (now (gpio .exit)) (now (fb .exit))) (r .refusal)
+        ≡ writeOf (machine s (now (ram .entry)) (now (sram .entry)) (now (gpio .entry)) (now (fb .entry))) addr size value ⌝ }
+{
+    let registers = s.registers;
+    let mut own = registers.own;
+    let mut addresses = registers.addresses;
+    let mut values = registers.values;
+    let mut rtc = s.rtc;
+    let mut page = s.page;
+    let queue = s.queue;
+    let mut times = queue.times;
+    let mut frequencies = queue.frequencies;
+    let mut duties = queue.duties;
+    let wrote = bus::write::write(
+        &mut own,
+        &mut addresses,
+        &mut values,
+        &mut rtc,
+        &mut page,
+        ram,
+        sram,
+        gpio,
+        fb,
+        s.devices,
+        timer::events::full(queue.ring),
+        addr,
+        size,
+        value,
+    );
+    let devices = wrote.devices;
+    let ring = note(
+        &mut times,
+        &mut frequencies,
+        &mut duties,
+        queue.ring,
+        devices,
+        wrote.event,
+    );
+    let presses = s.presses;
+    let keys = s.keys;
+    Changed {
+        refusal: wrote.refusal,
+        system: System {
+            registers: Registers {
+                own,
+                addresses,
+                values,
+            },
+            rtc,
+            page,
+            devices,
+            queue: Queue {
+                times,
+                frequencies,
+                duties,
+                ring,
+            },
+            presses,
+            keys,
+        },
+    }
+}
