@@ -256,7 +256,7 @@ kept-forgets u v w g c ku kv =
     same : bared (after u (cs true)) ≡ bared (after v (cs true))
     same = reopened u w g c ku ∙ sym (reopened v w g c kv)
 
-run-bad : (w : Board) (xs : List Step) → goodSize (length (w .array)) ≡ false → run w xs ≡ w
+pub run-bad : (w : Board) (xs : List Step) → goodSize (length (w .array)) ≡ false → run w xs ≡ w
 run-bad w [] g = refl
 run-bad w (x ∷ xs) g = ap (λ (z : Board). run z xs) (after-bad w x g) ∙ run-bad w xs g
 

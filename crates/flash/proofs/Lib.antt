@@ -9,6 +9,7 @@ pub mod Page
 pub mod Forget
 pub mod Refine
 pub mod Runs
+pub mod Long
 pub mod Judged
 pub mod Codes
 pub mod Conform

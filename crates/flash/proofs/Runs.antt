@@ -70,7 +70,7 @@ take-bytes (suc n) (x ∷ m) y (suc k) = take-bytes n m (λ j. y (suc j)) k
 drop-bytes : (n : ℕ) (m : List ℕ) → Bytes m → Bytes (drop n m)
 drop-bytes n m y k = rw (getD-drop n m k 0) (y (n + k))
 
-patch-long : (m : List ℕ) (a k : ℕ) (p : List ℕ) → a + k ≤ length m → length p ≡ k → length (patch m a k p) ≡ length m
+pub patch-long : (m : List ℕ) (a k : ℕ) (p : List ℕ) → a + k ≤ length m → length p ≡ k → length (patch m a k p) ≡ length m
 patch-long m a k p l e = rw (length-append, length-append, length-drop, length-take-le a m (omega arith), e) (omega arith)
 
 pub keeps : (a : Act) (b m : List ℕ) → Sized (length m) → Bytes m → (length (finishArrayW a b m) ≡ length m) × Bytes (finishArrayW a b m)
