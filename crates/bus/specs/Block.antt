@@ -1,6 +1,6 @@
 -- Bytes of the bus without side effects: peek8, peek32, read_block; and poke.
 use Prim.Native.Nat.{ℕ, zero, suc, _+_, _-_, _*_, _%_, _^_}
-use mathlib.Core.Bool.{Bool, false}
+use mathlib.Core.Bool.{Bool, false, cond, _&&_}
 use mathlib.Core.List.{List, [], _∷_}
 use lib.ListN.{length, getD}
 use lib.Dec.{leb}
@@ -41,6 +41,15 @@ table f i (suc n) = f i ∷ table f (suc i) n
 -- the n bytes from an address on
 unfoldable pub blockOf : Registers → List ℕ → List ℕ → List ℕ → ℕ → ℕ → List ℕ
 blockOf r m s g a n = table (λ i. peekOn r m s g a i) 0 n
+
+-- whether they lie in a memory of so many addresses from the first on, and of this length
+unfoldable pub liesIn : ℕ → ℕ → ℕ → ℕ → ℕ → Bool
+liesIn first size len a n = leb first a && (leb (a - first + n) size && leb (a - first + n) len)
+
+-- in which, by the lengths of RAM, SRAM and GPIO: 1, 2 or 3, or 0 in none
+unfoldable pub runOf : ℕ → ℕ → ℕ → ℕ → ℕ → ℕ
+runOf m s g a n =
+    cond (liesIn 0x20000000 0x1000000 m a n) 1 (cond (liesIn 0xF8000000 0x100000 s a n) 2 (cond (liesIn 0xC0000000 0x1000 g a n) 3 0))
 
 -- whether they lie in one memory of these lengths; stray space is in pages of 65,536
 abbrev pub wholeAt : Place → ℕ → ℕ → ℕ → ℕ → ℕ → Bool

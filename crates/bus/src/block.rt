@@ -1,10 +1,10 @@
 // Bytes of the bus without side effects, and bytes laid into plain memory.
 ghost use mathlib.Core.Path.{_≡_};
-ghost use Prim.Native.Nat.{_+_, _%_, _^_};
+ghost use Prim.Native.Nat.{_+_, _-_, _%_, _^_, _≤_};
 ghost use lib.Dec.{leb};
-ghost use lib.ListN.{length};
+ghost use lib.ListN.{length, take, drop};
 ghost use Rattle.registers.specs.Words.{registersOf};
-ghost use Rattle.bus.specs.Block.{peekOf, joinedOf, wordOf, blockOf, wholeOf, block, readOf, plain, pokedOf, laidOf};
+ghost use Rattle.bus.specs.Block.{peekOf, joinedOf, wordOf, blockOf, liesIn, runOf, wholeOf, block, readOf, plain, pokedOf, laidOf};
 use memory::Place;
 
 fn along(from: u32, i: usize) -> u32
@@ -86,7 +86,56 @@ fn is_whole(ram: usize, sram: usize, gpio: usize, addr: u32, n: usize) -> bool
     }
 }
 
-fn copy(
+// Whether a block lies whole in a memory, which has so many addresses from the first on and is so long.
+fn lies_in(first: u32, size: usize, len: usize, addr: u32, n: usize) -> bool
+    ensures { λ r. ⌜ r ≡ liesIn first size len addr n ⌝ }
+{
+    if addr < first {
+        return false;
+    }
+    let at = (addr - first) as usize;
+    fits(size, at, n) & fits(len, at, n)
+}
+
+// The memory that a block lies in whole: 1 RAM, 2 SRAM, 3 GPIO, or 0.
+fn run_of(ram: usize, sram: usize, gpio: usize, addr: u32, n: usize) -> u8
+    ensures { λ r. ⌜ r ≡ runOf ram sram gpio addr n ⌝ }
+{
+    if lies_in(0x2000_0000, 0x100_0000, ram, addr, n) {
+        return 1;
+    }
+    if lies_in(0xF800_0000, 0x10_0000, sram, addr, n) {
+        return 2;
+    }
+    if lies_in(0xC000_0000, 0x1000, gpio, addr, n) {
+        return 3;
+    }
+    0
+}
+
+// Where an address stands after the first of its memory.
+fn offset(addr: u32, first: u32) -> usize
+    ensures { λ r. ⌜ r ≡ addr - first ⌝ }
+{
+    if addr < first {
+        return 0;
+    }
+    (addr - first) as usize
+}
+
+fn lay(m: &[u8], at: usize, buf: &mut [u8])
+    requires { ⌜ at + length (now buf) ≤ length (now m) ⌝ }
+    ensures { λ _. ⌜ now (buf .exit) ≡ take (length (now (buf .entry))) (drop at (now (m .entry))) ⌝ }
+{
+    let n = buf.len();
+    let mut i: usize = 0;
+    while i < n {
+        buf[i] = m[at + i];
+        i += 1;
+    }
+}
+
+fn gather(
     own: &[u32; 76],
     addresses: &[u32; 256],
     values: &[u32; 256],
@@ -103,6 +152,36 @@ fn copy(
     while i < n {
         buf[i] = peek8(own, addresses, values, ram, sram, gpio, along(addr, i));
         i += 1;
+    }
+}
+
+// Byte by byte only where a block does not lie in one memory.
+fn copy(
+    own: &[u32; 76],
+    addresses: &[u32; 256],
+    values: &[u32; 256],
+    ram: &[u8],
+    sram: &[u8],
+    gpio: &[u8],
+    addr: u32,
+    buf: &mut [u8],
+)
+    ensures { λ _. ⌜ now (buf .exit) ≡ blockOf (registersOf (now (own .entry)) (now (addresses .entry)) (now (values .entry))) (now (ram .entry)) (now (sram .entry)) (now (gpio .entry)) addr (length (now (buf .entry))) ⌝ }
+{
+    let run = run_of(ram.len(), sram.len(), gpio.len(), addr, buf.len());
+    match run {
+        1 => {
+            lay(ram, offset(addr, 0x2000_0000), buf);
+        }
+        2 => {
+            lay(sram, offset(addr, 0xF800_0000), buf);
+        }
+        3 => {
+            lay(gpio, offset(addr, 0xC000_0000), buf);
+        }
+        _ => {
+            gather(own, addresses, values, ram, sram, gpio, addr, buf);
+        }
     }
 }
 

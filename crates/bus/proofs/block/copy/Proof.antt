@@ -1,75 +1,76 @@
-use Prim.Native.Nat.{ℕ, _-_, _≤_, _<_}
-use mathlib.Core.Path.{_≡_, refl, _∙_}
-use mathlib.Core.List.{_++_}
-use native.Mathlib.Numerals.{add-one}
-use native.Mathlib.Omega.{arith}
-use lib.ListN.{length, take, drop, length-set}
+use Rattle.bus.proofs.Whole.{run-ram, run-sram, run-gpio, laid-ram, laid-sram, laid-gpio}
 use Rattle.registers.specs.Words.{registersOf}
-use Rattle.bus.specs.Block.{peekOn, table, blockOf}
-use Rattle.bus.proofs.Parts.{table-step, table-whole}
+use lib.ListN.{length}
+use native.Mathlib.Omega.{arith}
 use borrow.Author.Needs.{needs}
 use Rattle.bus.proofs.block.copy.Statement.{statement}
 use Rattle.bus.proofs.block.copy.Tie as tie
 
-abbrev Inv-loop : tie.InvT-loop
-Inv-loop own addresses values ram sram gpio addr buf₀ n i₀ buf i =
-    (n ≡ length buf₀) × (i ≤ n) × (length buf ≡ length buf₀)
-    × (buf ≡ take i (table (λ k. peekOn (registersOf own addresses values) ram sram gpio addr k) 0 (length buf₀)) ++ drop i buf₀)
+run-of-requires : tie.Need-run-of-requires
+run-of-requires c κs = search needs
 
-abbrev μ-loop : tie.MeasureT-loop
-μ-loop own addresses values ram sram gpio addr buf₀ n i₀ buf i = n - i
+offset-requires : tie.Need-offset-requires
+offset-requires c κs = search needs
 
-loop-holds : tie.Need-loop-holds Inv-loop μ-loop
-unfolding table
-loop-holds c = (refl, omega arith, refl, refl)
+lay-requires : tie.Need-lay-requires
+lay-requires c κs = let a = (c .before .before .before .before .before .before .before .before .args) in let w = run-ram (a .ram .now) (a .sram .now) (a .gpio .now) (a .addr) (length (a .buf .now)) (c .before .before .before .run-of .ensures) (c .before .before .match .keys1) in omega (arith, w .long, (c .before .offset .ensures))
 
-along-requires : tie.Need-along-requires Inv-loop μ-loop
-along-requires c κs = search needs
+offset-requires-2 : tie.Need-offset-requires-2
+offset-requires-2 c κs = search needs
 
-peek8-requires : tie.Need-peek8-requires Inv-loop μ-loop
-peek8-requires c κs = search needs
+lay-requires-2 : tie.Need-lay-requires-2
+lay-requires-2 c κs = let a = (c .before .before .before .before .before .before .before .before .args) in let w = run-sram (a .ram .now) (a .sram .now) (a .gpio .now) (a .addr) (length (a .buf .now)) (c .before .before .before .run-of .ensures) (c .before .before .match .keys2) in omega (arith, w .long, (c .before .offset2 .ensures))
 
-slice-write-buf : tie.Need-slice-write-buf Inv-loop μ-loop
-slice-write-buf c = omega arith
+offset-requires-3 : tie.Need-offset-requires-3
+offset-requires-3 c κs = search needs
 
-add-i : tie.Need-add-i Inv-loop μ-loop
-add-i c = omega arith
+lay-requires-3 : tie.Need-lay-requires-3
+lay-requires-3 c κs = let a = (c .before .before .before .before .before .before .before .before .args) in let w = run-gpio (a .ram .now) (a .sram .now) (a .gpio .now) (a .addr) (length (a .buf .now)) (c .before .before .before .run-of .ensures) (c .before .before .match .keys3) in omega (arith, w .long, (c .before .offset3 .ensures))
 
-loop-less : tie.Need-loop-less Inv-loop μ-loop
-loop-less c = omega arith
+gather-requires : tie.Need-gather-requires
+gather-requires c κs = search needs
 
-loop-again : tie.Need-loop-again Inv-loop μ-loop
-loop-again c =
-    let a = (c .before .before .before .before .before .before .before .before .args) in
-    let l = (c .before .before .before .loop) in
-    let i = l .inv in
-    let f : ℕ → ℕ = (λ k. peekOn (registersOf (a .own .now) (a .addresses .now) (a .values .now)) (a .ram .now) (a .sram .now) (a .gpio .now) (a .addr) k) in
-    let m : l .i < length (a .buf .now) = omega arith in
-    (i .0, omega arith, simp length-set (i .2), rw (i .3, (c .peek8 .ensures), (c .before .along .ensures), add-one) (table-step f (l .i) 0 (l .i) (a .buf .now) (omega arith) m))
+same-length : tie.Need-same-length
+same-length c = search needs
 
-same-length : tie.Need-same-length Inv-loop μ-loop
-same-length c = (c .before .loop .inv .2)
+returns : tie.Need-returns
+returns c = let a = (c .before .before .before .before .before .before .before .before .before .before .before .args) in let w = run-ram (a .ram .now) (a .sram .now) (a .gpio .now) (a .addr) (length (a .buf .now)) (c .before .before .before .before .before .before .run-of .ensures) (c .before .before .before .before .before .match .keys1) in laid-ram (registersOf (a .own .now) (a .addresses .now) (a .values .now)) (a .ram .now) (a .sram .now) (a .gpio .now) (a .addr) (length (a .buf .now)) w (c .before .before .before .before .offset .ensures) (c .before .before .lay .ensures)
 
-returns : tie.Need-returns Inv-loop μ-loop
-unfolding blockOf
-returns c =
-    let a = (c .before .before .before .before .before .before .args) in
-    let i = (c .before .loop .inv) in
-    let e : (c .before .loop .i) ≡ length (a .buf .now) = omega arith in
-    i .3 ∙ rw e (table-whole _ (a .buf .now))
+same-length-2 : tie.Need-same-length-2
+same-length-2 c = search needs
+
+returns-2 : tie.Need-returns-2
+returns-2 c = let a = (c .before .before .before .before .before .before .before .before .before .before .before .args) in let w = run-sram (a .ram .now) (a .sram .now) (a .gpio .now) (a .addr) (length (a .buf .now)) (c .before .before .before .before .before .before .run-of .ensures) (c .before .before .before .before .before .match .keys2) in laid-sram (registersOf (a .own .now) (a .addresses .now) (a .values .now)) (a .ram .now) (a .sram .now) (a .gpio .now) (a .addr) (length (a .buf .now)) w (c .before .before .before .before .offset2 .ensures) (c .before .before .lay2 .ensures)
+
+same-length-3 : tie.Need-same-length-3
+same-length-3 c = search needs
+
+returns-3 : tie.Need-returns-3
+returns-3 c = let a = (c .before .before .before .before .before .before .before .before .before .before .before .args) in let w = run-gpio (a .ram .now) (a .sram .now) (a .gpio .now) (a .addr) (length (a .buf .now)) (c .before .before .before .before .before .before .run-of .ensures) (c .before .before .before .before .before .match .keys3) in laid-gpio (registersOf (a .own .now) (a .addresses .now) (a .values .now)) (a .ram .now) (a .sram .now) (a .gpio .now) (a .addr) (length (a .buf .now)) w (c .before .before .before .before .offset3 .ensures) (c .before .before .lay3 .ensures)
+
+same-length-4 : tie.Need-same-length-4
+same-length-4 c = search needs
+
+returns-4 : tie.Need-returns-4
+returns-4 c = search needs
 
 pub copy-spec : {M : Type 1} → statement M
 copy-spec =
     tie.close
     (tie.spec
-    Inv-loop
-    μ-loop
-    loop-holds
-    along-requires
-    peek8-requires
-    slice-write-buf
-    add-i
-    loop-less
-    loop-again
+    run-of-requires
+    offset-requires
+    lay-requires
+    offset-requires-2
+    lay-requires-2
+    offset-requires-3
+    lay-requires-3
+    gather-requires
     same-length
-    returns)
+    returns
+    same-length-2
+    returns-2
+    same-length-3
+    returns-3
+    same-length-4
+    returns-4)
