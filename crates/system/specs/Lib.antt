@@ -2,3 +2,9 @@
 pub mod System
 pub mod Calls
 pub mod Steps
+pub mod Table
+pub mod Limits
+pub mod Refusals
+pub mod Lengths
+pub mod Carried
+pub mod Damage

@@ -1,0 +1,16 @@
+-- Each example of the table holds.
+use mathlib.Core.Path.{refl}
+use Rattle.whole.specs.Table.{All}
+use Rattle.registers.specs.Words as words
+use Rattle.memory.specs.Access as access
+use Rattle.memory.specs.Places as places
+use Rattle.bus.specs.Words as acting
+use Rattle.bus.specs.Write as writing
+use Rattle.system.specs.System.{freshSystem}
+use Rattle.system.specs.Calls.{writeOf}
+use Rattle.system.specs.Steps.{step}
+use Rattle.system.specs.Table.{table}
+
+pub judged : All table
+unfolding step writeOf freshSystem writing.writeOf writing.regWritten writing.portWritten writing.storedWord acting.actsOf acting.controlAt acting.fieldAt acting.wordWritten words.wordAt words.putWord words.putOther words.otherAt words.roomFor words.without words.place words.scan words.ownAt words.ownWith words.slotOf words.ownWords words.wordsFrom words.namedWords words.index words.unstored words.freshRegisters access.goodSize access.mergedOf access.writtenOf access.maskOf access.spanOf access.shifted places.placeOf places.isRegister places.within
+judged = (refl, (refl, (refl, (refl, tt))))

@@ -1,0 +1,198 @@
+-- The limits hold after a wipe, and every operation but a write keeps them. That a write does is in Writes.
+use Prim.Native.Nat.{ℕ}
+use mathlib.Core.Path.{_≡_, refl, _∙_}
+use mathlib.Core.Bool.{Bool}
+use mathlib.Core.List.{List}
+use lib.ListN.{length}
+use lib.Dec.{eqb, lit≤}
+use lib.Ieee.{Float, ofBits, le}
+use Rattle.whole.proofs.Words.{either}
+use Rattle.registers.specs.declared.Registers.{Registers}
+use Rattle.registers.specs.Words.{registersOf}
+use Rattle.registers.specs.Within.{Tidy}
+use Rattle.registers.proofs.Own.{own-length}
+use Rattle.registers.proofs.Tidy.{tidy-fresh}
+use Rattle.memory.specs.declared.Place.{Place}
+use Rattle.memory.specs.declared.Place.the-variants.{Ram, Sram, Gpio, Register, Stray}
+use Rattle.memory.specs.Places.{placeOf}
+use Rattle.memory.specs.Access.{goodSize}
+use Rattle.memory.proofs.Stored.{load-fits}
+use Rattle.timer.specs.Within.{Held}
+use Rattle.timer.specs.Sound.{silence}
+use Rattle.timer.proofs.Tidy.{empty-canonical, take-canonical}
+use Rattle.clock.specs.declared.Moved.{Moved}
+use Rattle.clock.specs.declared.Moved.the-variants.{To, BadTime}
+use Rattle.clock.specs.declared.Paced.{Paced}
+use Rattle.clock.specs.declared.Paced.the-variants.{By, BadTurbo}
+use Rattle.clock.specs.Times.{movedOf, pacedOf}
+use Rattle.clock.proofs.TimeLimits.{paces-within}
+use Rattle.clock.proofs.RtcLimits.{fresh-latched, later-latched}
+use Rattle.keys.specs.declared.Keys.{Keys}
+use Rattle.keys.specs.Keys.{buttons}
+use Rattle.keys.specs.Live.{heldOf}
+use Rattle.keys.specs.Within as keys
+use Rattle.keys.proofs.Limits as keys-limits
+use Rattle.keys.proofs.Kept.{press-within}
+use Rattle.time.specs.declared.Clocks.{Clocks}
+use Rattle.time.specs.Advance as move
+use Rattle.time.proofs.Limits as time-limits
+use Rattle.bus.specs.declared.Devices.{Devices}
+use Rattle.bus.specs.Write.{clockIn}
+use Rattle.bus.specs.Read as read
+use Rattle.bus.specs.Read.{ReadOut, afterRead, regRead, readAt}
+use Rattle.system.specs.System.{Machine, machine, freshDevices, freshSystem}
+use Rattle.system.specs.Calls.{readOf, advanceOf, pacing, turboOf, takeOf, liveOf, holdOf, pressOf, wipedOf}
+use Rattle.system.specs.Steps.{withSystem}
+use Rattle.system.specs.Limits.{WithinLimits, buttonsIn}
+
+-- ---- after a wipe
+
+silence-held : Held silence
+unfolding ofBits le
+silence-held = record { frequency = lit≤ tt; from = tt; to = tt }
+
+pub fresh-limits : (m r g f : ℕ) → WithinLimits (wipedOf m r g f)
+unfolding wipedOf freshSystem freshDevices
+fresh-limits m r g f = record {
+  registers = tidy-fresh;
+  clocks = time-limits.fresh-within;
+  rtc = fresh-latched _ (time-limits.fresh-within .times .game-limit);
+  tone = silence-held;
+  queue = empty-canonical;
+  keys = keys-limits.fresh-within;
+}
+
+-- ---- words with storage of their own are replaced
+
+pub own-tidy : (r : Registers) (own : List ℕ) → Tidy r → length own ≡ length (r .own) → Tidy (registersOf own (r .addresses) (r .values))
+own-tidy r own w e = record { own = e ∙ w .own; others = w .others }
+
+-- ---- a read
+
+read-length : (own : List ℕ) (word : ℕ) → length (afterRead own word) ≡ length own
+unfolding afterRead
+read-length own word = either (λ (l : List ℕ). length l ≡ length own) (eqb word 0xC0080010) _ own (own-length own _ _) refl
+
+module _ (r : Registers) (m s g : List ℕ) (d : Devices) (a n : ℕ) where
+  placed-length : (p : Place) → length (readAt p r m s g d a n .own) ≡ length (r .own)
+  unfolding regRead
+  placed-length (Ram o) = refl
+  placed-length (Sram o) = refl
+  placed-length (Gpio o) = refl
+  placed-length Register = read-length (r .own) _
+  placed-length Stray = refl
+
+  given-length : length (read.readOf r m s g d a n .own) ≡ length (r .own)
+  unfolding read.readOf
+  given-length = either (λ (x : ReadOut). length (x .own) ≡ length (r .own)) (goodSize n) _ _ (placed-length (placeOf a)) refl
+
+module _ (m : Machine) (w : WithinLimits m) where
+  pub read-limits : (a n : ℕ) → WithinLimits (withSystem m (readOf (m .system) (m .ram) (m .sram) (m .gpio) a n .system))
+  unfolding readOf
+  read-limits a n = record {
+    registers = own-tidy (m .system .registers) _ (w .registers) (given-length (m .system .registers) (m .ram) (m .sram) (m .gpio) (m .system .devices) a n);
+    clocks = w .clocks;
+    rtc = w .rtc;
+    tone = w .tone;
+    queue = w .queue;
+    keys = w .keys;
+  }
+
+  -- ---- keys and events
+
+  pub live-limits : (key : ℕ) (down : Bool) → WithinLimits (withSystem m (liveOf (m .system) key down .system))
+  unfolding liveOf
+  live-limits key down = record {
+    registers = w .registers;
+    clocks = w .clocks;
+    rtc = w .rtc;
+    tone = w .tone;
+    queue = w .queue;
+    keys = keys-limits.live-within (buttonsIn (m .system)) key down (w .keys);
+  }
+
+  pub hold-limits : (key : ℕ) (until : Float) → WithinLimits (withSystem m (holdOf (m .system) key until .system))
+  unfolding holdOf
+  hold-limits key until = record {
+    registers = w .registers;
+    clocks = w .clocks;
+    rtc = w .rtc;
+    tone = w .tone;
+    queue = w .queue;
+    keys = keys-limits.hold-within (buttonsIn (m .system)) key until (w .keys);
+  }
+
+  pub press-limits : (key : ℕ) (at : Float) → WithinLimits (withSystem m (pressOf (m .system) key at .system))
+  unfolding pressOf
+  press-limits key at = record {
+    registers = w .registers;
+    clocks = w .clocks;
+    rtc = w .rtc;
+    tone = w .tone;
+    queue = w .queue;
+    keys = press-within (buttonsIn (m .system)) key at (m .system .devices .clocks .times .now) (w .keys);
+  }
+
+  pub take-limits : WithinLimits (withSystem m (takeOf (m .system) .system))
+  unfolding takeOf
+  take-limits = record {
+    registers = w .registers;
+    clocks = w .clocks;
+    rtc = w .rtc;
+    tone = w .tone;
+    queue = take-canonical (m .system .queue) (w .queue);
+    keys = w .keys;
+  }
+
+  -- ---- another turbo
+
+  pub turbo-limits : (to : Float) → WithinLimits (withSystem m (turboOf (m .system) to .system))
+  unfolding turboOf
+  turbo-limits to = by (pacedOf (m .system .devices .clocks .times) to) refl
+    where
+      by : (p : Paced) → pacedOf (m .system .devices .clocks .times) to ≡ p → WithinLimits (withSystem m (pacing (m .system) p .system))
+      by (By t) e = record {
+        registers = w .registers;
+        clocks = time-limits.turbo-within (m .system .devices .clocks) (w .clocks) t to e;
+        rtc = rw (paces-within (m .system .devices .clocks .times) t to (w .clocks .times) e .2) (w .rtc);
+        tone = w .tone;
+        queue = w .queue;
+        keys = w .keys;
+      }
+      by BadTurbo e = w
+
+-- ---- time goes on
+
+module _ (own gpio : List ℕ) (times : List Float) (codes : List ℕ) (c : Clocks) (k : Keys) (clock : ℕ) where
+  moved-length : (x : Moved) → length (move.moved own gpio times codes c k clock x .own) ≡ length own
+  unfolding move.moved move.movedTo move.devicesOf move.syncedOf move.convertedIn move.tickedIn
+  moved-length (To t) = own-length _ _ _ ∙ own-length _ _ _ ∙ own-length _ _ _ ∙ own-length _ _ _
+  moved-length BadTime = refl
+
+  moved-keys : (x : Moved) → keys.Within (buttons times codes k)
+      → keys.Within (buttons times codes (keys.withApplied k (move.moved own gpio times codes c k clock x .applied)))
+  unfolding move.moved move.movedTo
+  moved-keys (To t) w = keys-limits.sync-within (buttons times codes k) gpio (heldOf times codes k (t .now)) w
+  moved-keys BadTime w = w
+
+pub advance-limits : (m : Machine) (to : Float) → WithinLimits m
+    → WithinLimits (machine (advanceOf (m .system) (m .sram) (m .gpio) to .changed .system) (m .ram) (m .sram)
+    (advanceOf (m .system) (m .sram) (m .gpio) to .gpio) (m .fb))
+unfolding advanceOf move.advanceOf
+advance-limits m to w =
+    let c = m .system .devices .clocks in
+    let own = m .system .registers .own in
+    let clock = clockIn (m .sram) in
+    let later = time-limits.later-times own (m .gpio) (m .system .presses .times) (m .system .presses .codes) c (m .system .keys) clock to (w .clocks) in
+    let within = time-limits.advance-within own (m .gpio) (m .system .presses .times) (m .system .presses .codes) c (m .system .keys) clock to (w .clocks)
+    (load-fits (m .sram) 0x90A4 4) in
+    record {
+      registers = own-tidy (m .system .registers) _ (w .registers)
+          (moved-length own (m .gpio) (m .system .presses .times) (m .system .presses .codes) c (m .system .keys) clock (movedOf (c .times) to));
+      clocks = within;
+      rtc = later-latched (m .system .rtc) (m .system .devices .latch) (c .times .game) _ (w .clocks .times .game-limit) (within .times .game-limit)
+          (later .game-later) (w .rtc);
+      tone = w .tone;
+      queue = w .queue;
+      keys = moved-keys own (m .gpio) (m .system .presses .times) (m .system .presses .codes) c (m .system .keys) clock (movedOf (c .times) to) (w .keys);
+    }

@@ -1,0 +1,195 @@
+-- A write keeps the limits, whatever its address, its size and its value.
+use Prim.Native.Nat.{ℕ, _^_, _<_}
+use mathlib.Core.Path.{_≡_, refl, subst, _∙_}
+use mathlib.Core.Bool.{Bool, true, false, cond}
+use mathlib.Core.List.{List}
+use native.Mathlib.Omega.{arith}
+use lib.ListN.{length, getD}
+use lib.Bits.{bitAnd}
+use lib.Dec.{eqb}
+use Rattle.whole.specs.Words.{has}
+use Rattle.whole.proofs.Words.{either}
+use Rattle.registers.specs.declared.Registers.{Registers}
+use Rattle.registers.specs.Words.{registersOf, ownAt, ownWith, wordAt}
+use Rattle.registers.specs.Within.{Tidy}
+use Rattle.registers.proofs.Own.{own-length}
+use Rattle.registers.proofs.Tidy.{tidy-put}
+use Rattle.memory.specs.Access.{mergedOf, writtenOf}
+use Rattle.memory.proofs.Stored.{load-fits}
+use Rattle.flash.specs.declared.Chip.{Chip}
+use Rattle.panel.specs.declared.Panel.{Panel}
+use Rattle.panel.specs.Entries.{Screen}
+use Rattle.timer.specs.declared.Tone.{Tone}
+use Rattle.timer.specs.declared.Sounded.the-variants.{Same, Change, SoundFull}
+use Rattle.timer.specs.Canonical.{Canonical}
+use Rattle.timer.specs.Events.{fullOf}
+use Rattle.timer.specs.Timers as timers
+use Rattle.timer.specs.Sound.{toneOf, differOf, soundedOf}
+use Rattle.timer.specs.Within.{Held}
+use Rattle.timer.proofs.Held.{held}
+use Rattle.timer.proofs.Tidy.{put-canonical}
+use Rattle.clock.specs.Within.{Latched}
+use Rattle.clock.specs.Rtc.{rtcOf}
+use Rattle.clock.proofs.RtcLimits.{commands-latched}
+use Rattle.time.specs.declared.Clocks.{Clocks}
+use Rattle.time.specs.Within.{ClocksWithin}
+use Rattle.time.proofs.Limits.{timer-within, day-within, adc-within}
+use Rattle.bus.specs.declared.Devices.{Devices}
+use Rattle.bus.specs.World.{World, Out, Said, devicesOf, withClocks}
+use Rattle.bus.specs.Chip.{selectWritten, sendWritten}
+use Rattle.bus.specs.Rtc.{commandWritten}
+use Rattle.bus.specs.Screen.{Copied, copied, dmaDone, acted, controlled}
+use Rattle.bus.specs.Sounds.{none, timerSet, soundOf, soundWritten, timerWritten}
+use Rattle.bus.specs.Words.{controlAt, spiSent, adcWritten, daySet, wordWritten}
+use Rattle.bus.specs.Write.{clockIn, storedWord, wordOf, regWritten}
+use Rattle.bus.specs.Write as write
+use Rattle.bus.proofs.Branches.{by-write, by-port, by-word, by-sound, by-timer}
+use Rattle.system.specs.System.{Machine, worldIn, soundNow, noted}
+use Rattle.system.specs.Calls.{writeOf}
+use Rattle.system.specs.Limits.{WithinLimits}
+use Rattle.system.proofs.Kept.{own-tidy}
+
+-- what a write on the bus can reach of the limits
+record BusWithin (r : Registers) (c : List ℕ) (d : Devices) : Type 0 where
+  registers : Tidy r
+  clocks : ClocksWithin (d .clocks)
+  rtc : Latched c (d .latch) (d .clocks .times .game)
+  tone : Held (d .tone)
+
+-- ---- the panel's words keep their number
+
+module _ (r : Registers) (m s g : List ℕ) (t : Screen) where
+  abbrev SameLength : Copied → Type 0
+  SameLength x = length (x .own) ≡ length (r .own)
+
+  dma-length : SameLength (dmaDone r m s g t)
+  unfolding dmaDone
+  dma-length = either SameLength (eqb (ownAt (r .own) 0xD050033C) 0) _ _ refl (own-length (r .own) _ _)
+
+  acted-length : (val : ℕ) → SameLength (acted r m s g t val)
+  unfolding acted
+  acted-length val = by (eqb (bitAnd val 0xF0) 0x80) (eqb (bitAnd val 0xF0) 0xA0) (eqb (bitAnd val 0xF0) 0xD0) _ _
+    where
+      by : (a b c : Bool) (x y : Screen) → SameLength (cond a (copied (r .own) x) (cond b (copied (r .own) y) (cond c (dmaDone r m s g t) (copied (r .own) t))))
+      by true b c x y = refl
+      by false true c x y = refl
+      by false false true x y = dma-length
+      by false false false x y = refl
+
+controlled-length : (r : Registers) (m s g : List ℕ) (t : Screen) (val : ℕ) → length (controlled r m s g t val .own) ≡ length (r .own)
+unfolding controlled
+controlled-length r m s g t val =
+    either (λ (x : Copied). length (x .own) ≡ length (r .own)) (has val 1) _ _
+    (own-length _ _ _ ∙ acted-length _ m s g t val ∙ own-length (r .own) _ _) (own-length (r .own) _ _)
+
+-- ---- the tone of a change is one that timer 4's words give
+
+changed-held : (own : List ℕ) (state tone : Tone) (clock : ℕ) (full : Bool) (word v : ℕ) → clock < 2 ^ 32 → soundOf own state clock full word v ≡ Change tone
+    → Held tone
+unfolding soundOf soundedOf
+changed-held own state tone clock full word v h e = by (differOf new state) full e
+  where
+    new : Tone
+    new =
+        toneOf clock (cond (eqb word 0xC0020080) v (ownAt own 0xC0020080)) (cond (eqb word 0xC0020088) v (ownAt own 0xC0020088))
+        (cond (eqb word 0xC002008C) v (ownAt own 0xC002008C))
+
+    by : (a b : Bool) → cond a (cond b SoundFull (Change new)) Same ≡ Change tone → Held tone
+    by true false e = let same : new ≡ tone = cc in subst Held same (held clock _ _ _ h)
+    by true true e = absurd (let z : _≡_ {A = ℕ} 0 1 = cc in omega arith)
+    by false b e = absurd (let z : _≡_ {A = ℕ} 0 1 = cc in omega arith)
+
+-- ---- a write on the bus
+
+module _ (r : Registers) (c : List ℕ) (d : Devices) (w : BusWithin r c d) where
+  abbrev Kept : List ℕ → Devices → Type 0
+  Kept own e = BusWithin (registersOf own (r .addresses) (r .values)) c e
+
+  -- neither clocks nor RTC nor tone change
+  apart : (own : List ℕ) (f : Chip) (p : Panel) (off : Bool) → length own ≡ length (r .own) → Kept own (devicesOf f p (d .clocks) (d .latch) (d .tone) off)
+  apart own f p off e = record { registers = own-tidy r own (w .registers) e; clocks = w .clocks; rtc = w .rtc; tone = w .tone }
+
+  -- of the clocks all but game time may change
+  clocked : (own : List ℕ) (k : Clocks) → length own ≡ length (r .own) → k .times ≡ d .clocks .times → ClocksWithin k → Kept own (withClocks d k)
+  clocked own k e t h = record { registers = own-tidy r own (w .registers) e; clocks = h; rtc = rw t (w .rtc); tone = w .tone }
+
+  module _ (clock : ℕ) (full : Bool) (small : clock < 2 ^ 32) where
+    abbrev SaidKept : Said → Type 0
+    SaidKept x = Kept (x .own) (x .wrote .devices)
+
+    sound-kept : (next : Devices) (word v : ℕ) → Kept (ownWith (r .own) word v) next → SaidKept (soundWritten (r .own) d next clock full word v)
+    sound-kept next word v h =
+        by-sound SaidKept (r .own) d clock full next word v (λ e. w) (λ e. h)
+        (λ tone e. record {
+          registers = h .registers;
+          clocks = h .clocks;
+          rtc = h .rtc;
+          tone = changed-held (r .own) (d .tone) tone clock full word v small e;
+        })
+
+    timer-kept : (n word old new : ℕ) → n < 6 → SaidKept (timerWritten (r .own) d clock full n word old new)
+    timer-kept n word old new h =
+        let x = timers.writtenOf (getD (d .clocks .timers) n none) (d .clocks .times .now) new old in
+        let next : Kept (ownWith (r .own) word (x .control)) (timerSet d n (x .timer)) =
+        clocked _ _ (own-length (r .own) _ _) refl (timer-within (d .clocks) (w .clocks) n new old h) in
+        by-timer SaidKept (r .own) d clock full n word old new x refl (λ e. sound-kept _ word (x .control) next) (λ e. next)
+
+    word-kept : (word old new part : ℕ) → SaidKept (wordWritten (r .own) d clock full word old new part)
+    unfolding daySet adcWritten spiSent
+    word-kept word old new part =
+        by-word SaidKept (r .own) d clock full word old new part
+        (λ h. timer-kept (controlAt word) word old new h)
+        (λ h. clocked _ _ refl refl (day-within (d .clocks) (w .clocks) _ new))
+        (λ e. apart _ _ _ _ (own-length (r .own) _ _))
+        (λ e. clocked _ _ (own-length (r .own) _ _) refl (adc-within (d .clocks) (w .clocks) _))
+        (λ e. apart _ _ _ _ (own-length (r .own) _ _))
+        (λ e. apart _ _ _ _ (own-length (r .own) _ _))
+        (λ e. apart _ _ _ _ (own-length _ _ _ ∙ own-length _ _ _ ∙ own-length (r .own) _ _))
+        (sound-kept d word new (apart _ _ _ _ (own-length (r .own) _ _)))
+
+abbrev WorldKept : Out → Type 0
+WorldKept x = BusWithin (x .world .registers) (x .world .rtc) (x .world .devices)
+
+reg-kept : (w : World) (full : Bool) (a n v : ℕ) → BusWithin (w .registers) (w .rtc) (w .devices) → WorldKept (regWritten w full a n v)
+unfolding regWritten selectWritten sendWritten commandWritten storedWord
+reg-kept w full a n v h =
+    let r = w .registers in
+    let old = wordAt r (wordOf a) in
+    let new = mergedOf old a n v in
+    by-port WorldKept w full (wordOf a) old new (writtenOf a n v)
+    (λ e. apart r (w .rtc) (w .devices) h _ _ _ _ (own-length (r .own) _ _))
+    (λ e. apart r (w .rtc) (w .devices) h _ _ _ _ (own-length (r .own) _ _))
+    (λ e. apart r (w .rtc) (w .devices) h _ _ _ _ (controlled-length r (w .ram) (w .sram) (w .gpio) _ new))
+    (λ e. record {
+      registers = own-tidy r _ (h .registers) (own-length (r .own) _ _);
+      clocks = h .clocks;
+      rtc = commands-latched (rtcOf (w .rtc) (w .devices .latch)) (w .devices .clocks .times .game) _ _ new (h .rtc) (h .clocks .times .game-limit);
+      tone = h .tone;
+    })
+    (λ e₁ e₂ e₃ e₄ acts. word-kept r (w .rtc) (w .devices) h (clockIn (w .sram)) full (load-fits (w .sram) 0x90A4 4) (wordOf a) old new (writtenOf a n v))
+    (λ e₁ e₂ e₃ e₄ acts. record { registers = tidy-put r (wordOf a) new (h .registers); clocks = h .clocks; rtc = h .rtc; tone = h .tone })
+
+write-kept : (w : World) (full : Bool) (a n v : ℕ) → BusWithin (w .registers) (w .rtc) (w .devices) → WorldKept (write.writeOf w full a n v)
+write-kept w full a n v h =
+    by-write WorldKept w full a n v (λ g. h) (λ o g e. h) (λ o g e. h) (λ o g e. h) (λ g e. reg-kept w full a n v h) (λ g e. h)
+
+-- ---- a write of the machine
+
+pub write-limits : (m : Machine) (a n v : ℕ) → WithinLimits m → WithinLimits (writeOf m a n v .machine)
+unfolding writeOf
+write-limits m a n v w =
+    let x = write.writeOf (worldIn m) (fullOf (m .system .queue .ring)) a n v in
+    let h : WorldKept x =
+    write-kept (worldIn m) _ a n v (record { registers = w .registers; clocks = w .clocks; rtc = w .rtc; tone = w .tone }) in
+    record {
+      registers = h .registers;
+      clocks = h .clocks;
+      rtc = h .rtc;
+      tone = h .tone;
+      queue = event (x .world .devices) (x .event);
+      keys = w .keys;
+    }
+  where
+    event : (d : Devices) (b : Bool) → Canonical (noted (m .system .queue) d b)
+    event d true = put-canonical (m .system .queue) (soundNow d) (w .queue)
+    event d false = w .queue
