@@ -26,6 +26,9 @@ pub fn answer_list<D: Device>() -> io::Result<()> {
         // No list holds such a line, and no answer to it is laid down.
         let bad = || Error::new(ErrorKind::InvalidData, format!("line {} is no step", at + 1));
         let step = parse(&line?).ok_or_else(bad)?;
+        if D::ends(step) {
+            break;
+        }
         writeln!(out, "{}", device.answer(step))?;
     }
     out.flush()

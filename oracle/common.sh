@@ -62,10 +62,17 @@ differ() {
     exit 1
 }
 
+# What a program of the oracle says beside its output is of no matter unless it
+# fails.
+failed() {
+    cat -- "$1" >&2
+    exit 1
+}
+
 # Runs both sides on the list. Only what is printed is laid down, so the
 # port's status counts no further than to tell that it ran and ended by itself.
 judge() {
-    "$out/$oracle" <"$work/list" >"$work/rust"
+    "$out/$oracle" <"$work/list" >"$work/rust" 2>"$work/said" || failed "$work/said"
     status=0
     "$port" <"$work/list" >"$work/port" || status=$?
     cmp -s -- "$work/rust" "$work/port" || differ "$1" "$(first_difference)"
@@ -74,7 +81,7 @@ judge() {
 
 # Writes the list that the arguments say, and judges it by its name.
 compare_list() {
-    "$out/$generator" "$@" >"$work/list" 2>"$work/counts"
+    "$out/$generator" "$@" >"$work/list" 2>"$work/counts" || failed "$work/counts"
     judge "$list"
     cat -- "$work/counts" >>"$work/all_counts"
     total=$((total + 1))

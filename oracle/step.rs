@@ -33,10 +33,17 @@ pub fn refused(refusal: u8) -> Answer {
 
 /// Something that works steps and answers them.
 pub trait Device {
-    /// The kinds that do something; any other does nothing.
+    /// The kinds that do something; any other does nothing or ends the list.
     const KINDS: &'static [u64];
 
     fn start() -> Self;
+
+    /// A step that ends the list, and is not answered. A program that writes
+    /// lists does not ask.
+    #[allow(dead_code)]
+    fn ends(_step: Step) -> bool {
+        false
+    }
 
     fn answer(&mut self, step: Step) -> Answer;
 

@@ -3,6 +3,7 @@
 
 mod answers;
 mod device;
+mod limits;
 // The generator uses all of these, this program only some.
 #[allow(dead_code)]
 mod step;

@@ -4,6 +4,7 @@ mod device;
 // Every program that writes lists has it, and this one uses only some.
 #[allow(dead_code)]
 mod generator;
+mod limits;
 mod random;
 mod step;
 mod step_list;

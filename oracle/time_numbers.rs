@@ -1,7 +1,7 @@
 //! Numbers at the edges of what the time devices do.
 
+use crate::limits::{FASTEST, LAST_GAME_TIME, LAST_TIME, SLOWEST};
 use crate::random::Random;
-use crate::time_steps::{FASTEST, LAST_GAME_TIME, LAST_TIME, SLOWEST};
 
 pub const RELOADS: [u32; 8] = [0, 1, 2, 0x7FFF, 0x8000, 0xFC18, 0xFFFE, 0xFFFF];
 

@@ -1,11 +1,13 @@
 //! The steps of a list for the time devices (timers, sound, clocks, ADC), and
 //! how document 000 answers them. What the paper adds to document 000, the
-//! refusals, is decided here and nowhere else.
+//! refusals, is decided here, by the limits in `limits.rs`.
 
 use crate::cpu::Bus;
 use crate::device::fresh;
 use crate::step::*;
 use crate::sys::{System, LCD_BASE, SYSCLK_VAR};
+
+pub use crate::limits::*;
 
 pub const READ: u64 = 0x1;
 pub const WRITE: u64 = 0x2;
@@ -14,19 +16,6 @@ pub const TURBO: u64 = 0x6;
 pub const TAKE: u64 = 0x9;
 /// For tests only, as are looks and puts.
 pub const CLOCK: u64 = 0xA;
-
-pub const BAD_TIME: u8 = 1;
-pub const BAD_TURBO: u8 = 2;
-pub const SOUND_FULL: u8 = 5;
-pub const NO_EVENT: u8 = 12;
-
-pub const LAST_TIME: f64 = 2_097_152.0;
-pub const LAST_GAME_TIME: f64 = 2_147_483_648.0;
-pub const SLOWEST: f64 = 1.0 / 1024.0;
-pub const FASTEST: f64 = 1024.0;
-
-/// The sound events that wait at most.
-pub const EVENTS: usize = 256;
 
 impl Device for System {
     const KINDS: &'static [u64] = &[READ, WRITE, ADVANCE, TURBO, TAKE, CLOCK, LOOK, PUT];
@@ -84,23 +73,15 @@ fn write(system: &mut System, address: u32, value: u32) -> Answer {
 }
 
 fn advance(system: &mut System, to: f64) -> Answer {
-    if bad_time(system, to) {
+    if bad_advance(system, to) {
         return refused(BAD_TIME);
     }
     system.advance(to);
     DONE
 }
 
-fn bad_time(system: &System, to: f64) -> bool {
-    !to.is_finite()
-        || to.is_sign_negative()
-        || to > LAST_TIME
-        || to < system.now
-        || system.game_time + (to - system.now) * system.turbo > LAST_GAME_TIME
-}
-
 fn turbo(system: &mut System, turbo: f64) -> Answer {
-    if !(SLOWEST..=FASTEST).contains(&turbo) {
+    if bad_turbo(turbo) {
         return refused(BAD_TURBO);
     }
     system.turbo = turbo;
