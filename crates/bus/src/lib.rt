@@ -1,6 +1,6 @@
 // The bus: what the CPU sees of memories, registers and devices. `System` of core/src/sys.rs.
 //
-// The work is done over lent arrays and small structs; `value` has the same with the whole state in one struct. The functions
+// The work is done over lent arrays and small structs; crate system has the same with the whole state in one struct. The functions
 // take memories of any length: what lies past the end of one reads as 0 and is not stored.
 use clock::Latch;
 use flash::Chip;

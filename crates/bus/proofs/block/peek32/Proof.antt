@@ -32,7 +32,14 @@ joined-requires : tie.Need-joined-requires
 joined-requires c κs = search needs
 
 returns : tie.Need-returns
-returns c = let a = (c .before .before .before .before .before .before .before .before .before .before .before .before .args) in word-joined (registersOf (a .own .now) (a .addresses .now) (a .values .now)) (a .ram .now) (a .sram .now) (a .gpio .now) (a .addr) (c .before .before .before .before .before .before .before .before .along .ensures) (c .before .before .before .before .before .before .before .peek8 .ensures) (c .before .before .before .before .before .before .along2 .ensures) (c .before .before .before .before .before .peek82 .ensures) (c .before .before .before .before .along3 .ensures) (c .before .before .before .peek83 .ensures) (c .before .before .along4 .ensures) (c .before .peek84 .ensures) (c .joined .ensures)
+returns c =
+    let a = (c .before .before .before .before .before .before .before .before .before .before .before .before .args) in
+    let r = registersOf (a .own .now) (a .addresses .now) (a .values .now) in
+    word-joined r (a .ram .now) (a .sram .now) (a .gpio .now) (a .addr)
+    (c .before .before .before .before .before .before .before .before .along .ensures)
+    (c .before .before .before .before .before .before .before .peek8 .ensures) (c .before .before .before .before .before .before .along2 .ensures)
+    (c .before .before .before .before .before .peek82 .ensures) (c .before .before .before .before .along3 .ensures)
+    (c .before .before .before .peek83 .ensures) (c .before .before .along4 .ensures) (c .before .peek84 .ensures) (c .joined .ensures)
 
 pub peek32-spec : {M : Type 1} → statement M
 peek32-spec =

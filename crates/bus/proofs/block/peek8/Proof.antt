@@ -56,7 +56,10 @@ returns-3 c = rw (← (c .before .before .before .before .locate .ensures), (c .
 
 returns-4 : tie.Need-returns-4
 unfolding peekOf
-returns-4 c = rw (← (c .before .before .before .before .before .locate .ensures), (c .before .before .before .enum-told .given .1), ← (c .before .before .reg .ensures), ← (c .before .cut .ensures)) (c .low .ensures)
+returns-4 c =
+    rw
+    (← (c .before .before .before .before .before .locate .ensures), (c .before .before .before .enum-told .given .1), ← (c .before .before .reg .ensures), ← (c .before .cut .ensures))
+    (c .low .ensures)
 
 returns-5 : tie.Need-returns-5
 unfolding peekOf

@@ -35,21 +35,27 @@ same-length c = search needs
 
 returns : tie.Need-returns
 unfolding pokedOf
-returns c = rw (← (c .before .before .before .before .before .before .before .locate .ensures), (c .before .before .before .before .before .place .given .1), (c .before .before .store .ensures))
+returns c =
+    rw
+    (← (c .before .before .before .before .before .before .before .locate .ensures), (c .before .before .before .before .before .place .given .1), (c .before .before .store .ensures))
 
 same-length-2 : tie.Need-same-length-2
 same-length-2 c = search needs
 
 returns-2 : tie.Need-returns-2
 unfolding pokedOf
-returns-2 c = rw (← (c .before .before .before .before .before .before .before .locate .ensures), (c .before .before .before .before .before .place2 .given .1), (c .before .before .store2 .ensures))
+returns-2 c =
+    rw
+    (← (c .before .before .before .before .before .before .before .locate .ensures), (c .before .before .before .before .before .place2 .given .1), (c .before .before .store2 .ensures))
 
 same-length-3 : tie.Need-same-length-3
 same-length-3 c = search needs
 
 returns-3 : tie.Need-returns-3
 unfolding pokedOf
-returns-3 c = rw (← (c .before .before .before .before .before .before .before .locate .ensures), (c .before .before .before .before .before .place3 .given .1), (c .before .before .store3 .ensures))
+returns-3 c =
+    rw
+    (← (c .before .before .before .before .before .before .before .locate .ensures), (c .before .before .before .before .before .place3 .given .1), (c .before .before .store3 .ensures))
 
 returns-4 : tie.Need-returns-4
 unfolding pokedOf

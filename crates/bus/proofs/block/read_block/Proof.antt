@@ -15,7 +15,11 @@ same-length : tie.Need-same-length
 same-length c = search needs
 
 returns : tie.Need-returns
-returns c = let a = (c .before .before .before .before .before .before .before .before .before .args) in block-read (registersOf (a .own .now) (a .addresses .now) (a .values .now)) (a .ram .now) (a .sram .now) (a .gpio .now) (a .addr) (length (a .buf .now)) (c .before .before .before .copy .ensures) (c .is-whole .ensures)
+returns c =
+    let a = (c .before .before .before .before .before .before .before .before .before .args) in
+    let r = registersOf (a .own .now) (a .addresses .now) (a .values .now) in
+    block-read r (a .ram .now) (a .sram .now) (a .gpio .now) (a .addr) (length (a .buf .now)) (c .before .before .before .copy .ensures)
+    (c .is-whole .ensures)
 
 pub read-block-spec : {M : Type 1} → statement M
 read-block-spec = tie.close (tie.spec copy-requires is-whole-requires same-length returns)

@@ -22,11 +22,15 @@ lies-in-requires-3 c κs = search needs
 
 returns-3 : tie.Need-returns-3
 unfolding runOf
-returns-3 c = rw (← (c .before .before .before .before .before .lies-in .ensures), (c .before .before .before .before .if1 .left), ← (c .before .before .before .lies-in2 .ensures), (c .before .before .if2 .left), ← (c .before .lies-in3 .ensures), (c .if3 .taken))
+returns-3 c =
+    rw
+    (← (c .before .before .before .before .before .lies-in .ensures), (c .before .before .before .before .if1 .left), ← (c .before .before .before .lies-in2 .ensures), (c .before .before .if2 .left), ← (c .before .lies-in3 .ensures), (c .if3 .taken))
 
 returns-4 : tie.Need-returns-4
 unfolding runOf
-returns-4 c = rw (← (c .before .before .before .before .before .lies-in .ensures), (c .before .before .before .before .if1 .left), ← (c .before .before .before .lies-in2 .ensures), (c .before .before .if2 .left), ← (c .before .lies-in3 .ensures), (c .if3 .left))
+returns-4 c =
+    rw
+    (← (c .before .before .before .before .before .lies-in .ensures), (c .before .before .before .before .if1 .left), ← (c .before .before .before .lies-in2 .ensures), (c .before .before .if2 .left), ← (c .before .lies-in3 .ensures), (c .if3 .left))
 
 pub run-of-spec : {M : Type 1} → statement M
 run-of-spec =

@@ -21,7 +21,10 @@ same-length : tie.Need-same-length
 same-length c = search needs
 
 returns : tie.Need-returns
-returns c = let a = (c .before .before .before .before .before .before .before .before .args) in select-part (a .chip) (a .page .now) (a .ram .now) (c .before .before .before .before .before .before .part .ensures) (c .before .before .before .select .result) (a .on) (c .before .before .before .select .ensures)
+returns c =
+    let a = (c .before .before .before .before .before .before .before .before .args) in
+    select-part (a .chip) (a .page .now) (a .ram .now) (c .before .before .before .before .before .before .part .ensures)
+    (c .before .before .before .select .result) (a .on) (c .before .before .before .select .ensures)
 
 pub flash-select-spec : {M : Type 1} → statement M
 flash-select-spec =

@@ -15,7 +15,10 @@ transfer-requires : tie.Need-transfer-requires
 transfer-requires c κs = search needs
 
 returns : tie.Need-returns
-returns c = let a = (c .before .before .before .before .before .before .args) in send-part (a .chip) (a .page .now) (a .ram .now) (c .before .before .before .before .part .ensures) (c .before .transfer .result) (a .byte) (c .before .transfer .ensures)
+returns c =
+    let a = (c .before .before .before .before .before .before .args) in
+    send-part (a .chip) (a .page .now) (a .ram .now) (c .before .before .before .before .part .ensures) (c .before .transfer .result) (a .byte)
+    (c .before .transfer .ensures)
 
 pub flash-xfer-spec : {M : Type 1} → statement M
 flash-xfer-spec =

@@ -14,7 +14,10 @@ same-length : tie.Need-same-length
 same-length c = search needs
 
 returns : tie.Need-returns
-returns c = let a = (c .before .before .before .before .before .before .before .before .args) in select-stored (a .own .now) (a .chip) (a .page .now) (a .ram .now) (a .new) (c .before .before .before .before .before .own-insert .ensures) refl (c .before .before .flash-select .ensures)
+returns c =
+    let a = (c .before .before .before .before .before .before .before .before .args) in
+    select-stored (a .own .now) (a .chip) (a .page .now) (a .ram .now) (a .new) (c .before .before .before .before .before .own-insert .ensures) refl
+    (c .before .before .flash-select .ensures)
 
 pub select-write-spec : {M : Type 1} → statement M
 select-write-spec =

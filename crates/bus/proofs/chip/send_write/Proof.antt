@@ -13,7 +13,10 @@ flash-xfer-requires : tie.Need-flash-xfer-requires
 flash-xfer-requires c κs = search needs
 
 returns : tie.Need-returns
-returns c = let a = (c .before .before .before .before .before .before .args) in send-stored (a .own .now) (a .chip) (a .page .now) (a .ram .now) (a .new) (c .before .before .before .own-insert .ensures) (c .before .low .ensures) (c .flash-xfer .ensures)
+returns c =
+    let a = (c .before .before .before .before .before .before .args) in
+    send-stored (a .own .now) (a .chip) (a .page .now) (a .ram .now) (a .new) (c .before .before .before .own-insert .ensures)
+    (c .before .low .ensures) (c .flash-xfer .ensures)
 
 pub send-write-spec : {M : Type 1} → statement M
 send-write-spec = tie.close (tie.spec own-insert-requires low-requires flash-xfer-requires returns)

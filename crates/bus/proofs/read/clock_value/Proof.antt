@@ -22,7 +22,10 @@ timer-read-requires c κs = search needs
 
 returns-2 : tie.Need-returns-2
 unfolding movedValue
-returns-2 c = rw (← (c .before .before .before .before .field-at .ensures), le-ltb _ _ (c .before .before .before .if1 .left), ← (c .before .before .control-at .ensures), lt-ltb _ _ (c .before .if2 .taken)) (c .timer-read .ensures)
+returns-2 c =
+    rw
+    (← (c .before .before .before .before .field-at .ensures), le-ltb _ _ (c .before .before .before .if1 .left), ← (c .before .before .control-at .ensures), lt-ltb _ _ (c .before .if2 .taken))
+    (c .timer-read .ensures)
 
 counter-at-requires : tie.Need-counter-at-requires
 counter-at-requires c κs = search needs
@@ -32,11 +35,16 @@ counter-read-requires c κs = search needs
 
 returns-3 : tie.Need-returns-3
 unfolding movedValue
-returns-3 c = rw (← (c .before .before .before .before .before .before .field-at .ensures), le-ltb _ _ (c .before .before .before .before .before .if1 .left), ← (c .before .before .before .before .control-at .ensures), le-ltb _ _ (c .before .before .before .if2 .left), ← (c .before .before .counter-at .ensures), lt-ltb _ _ (c .before .if3 .taken)) (c .counter-read .ensures)
+returns-3 c =
+    rw
+    (← (c .before .before .before .before .before .before .field-at .ensures), le-ltb _ _ (c .before .before .before .before .before .if1 .left), ← (c .before .before .before .before .control-at .ensures), le-ltb _ _ (c .before .before .before .if2 .left), ← (c .before .before .counter-at .ensures), lt-ltb _ _ (c .before .if3 .taken))
+    (c .counter-read .ensures)
 
 returns-4 : tie.Need-returns-4
 unfolding movedValue
-returns-4 c = rw (← (c .before .before .before .before .before .field-at .ensures), le-ltb _ _ (c .before .before .before .before .if1 .left), ← (c .before .before .before .control-at .ensures), le-ltb _ _ (c .before .before .if2 .left), ← (c .before .counter-at .ensures), le-ltb _ _ (c .if3 .left))
+returns-4 c =
+    rw
+    (← (c .before .before .before .before .before .field-at .ensures), le-ltb _ _ (c .before .before .before .before .if1 .left), ← (c .before .before .before .control-at .ensures), le-ltb _ _ (c .before .before .if2 .left), ← (c .before .counter-at .ensures), le-ltb _ _ (c .if3 .left))
 
 pub clock-value-spec : {M : Type 1} → statement M
 clock-value-spec =

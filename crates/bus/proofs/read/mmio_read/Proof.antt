@@ -23,7 +23,12 @@ cut-requires : tie.Need-cut-requires
 cut-requires c κs = search needs
 
 returns : tie.Need-returns
-returns c = let a = (c .before .before .before .before .before .before .before .before .before .args) in reg-read (registersOf (a .own .now) (a .addresses .now) (a .values .now)) (a .sram .now) (a .devices) (a .addr) (a .size) (c .before .before .before .before .before .before .reg .ensures) (c .before .before .before .before .before .load .ensures) (c .before .before .before .word-value .ensures) (c .before .read-effect .ensures) (c .cut .ensures)
+returns c =
+    let a = (c .before .before .before .before .before .before .before .before .before .args) in
+    let r = registersOf (a .own .now) (a .addresses .now) (a .values .now) in
+    reg-read r (a .sram .now) (a .devices) (a .addr) (a .size) (c .before .before .before .before .before .before .reg .ensures)
+    (c .before .before .before .before .before .load .ensures) (c .before .before .before .word-value .ensures) (c .before .read-effect .ensures)
+    (c .cut .ensures)
 
 pub mmio-read-spec : {M : Type 1} → statement M
 mmio-read-spec =

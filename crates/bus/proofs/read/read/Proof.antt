@@ -8,7 +8,10 @@ good-size-requires : tie.Need-good-size-requires
 good-size-requires c κs = search needs
 
 returns : tie.Need-returns
-returns c = let a = (c .before .before .before .before .before .args) in read-size (registersOf (a .own .now) (a .addresses .now) (a .values .now)) (a .ram .now) (a .sram .now) (a .gpio .now) (a .devices) (a .addr) (a .size) (c .before .good-size .ensures) (c .if1 .taken)
+returns c =
+    let a = (c .before .before .before .before .before .args) in
+    let r = registersOf (a .own .now) (a .addresses .now) (a .values .now) in
+    read-size r (a .ram .now) (a .sram .now) (a .gpio .now) (a .devices) (a .addr) (a .size) (c .before .good-size .ensures) (c .if1 .taken)
 
 locate-requires : tie.Need-locate-requires
 locate-requires c κs = search needs
@@ -20,7 +23,12 @@ load-requires : tie.Need-load-requires
 load-requires c κs = search needs
 
 returns-2 : tie.Need-returns-2
-returns-2 c = let a = (c .before .before .before .before .before .before .before .before .before .before .args) in read-ram (registersOf (a .own .now) (a .addresses .now) (a .values .now)) (a .ram .now) (a .sram .now) (a .gpio .now) (a .devices) (a .addr) (a .size) (c .before .before .before .before .before .before .good-size .ensures) (c .before .before .before .before .before .if1 .left) (c .before .before .before .before .locate .ensures) (c .before .before .place .given .1) (c .load .ensures)
+returns-2 c =
+    let a = (c .before .before .before .before .before .before .before .before .before .before .args) in
+    let r = registersOf (a .own .now) (a .addresses .now) (a .values .now) in
+    read-ram r (a .ram .now) (a .sram .now) (a .gpio .now) (a .devices) (a .addr) (a .size)
+    (c .before .before .before .before .before .before .good-size .ensures) (c .before .before .before .before .before .if1 .left)
+    (c .before .before .before .before .locate .ensures) (c .before .before .place .given .1) (c .load .ensures)
 
 enum-known-place-2 : tie.Need-enum-known-place-2
 enum-known-place-2 c = search needs
@@ -29,7 +37,12 @@ load-requires-2 : tie.Need-load-requires-2
 load-requires-2 c κs = search needs
 
 returns-3 : tie.Need-returns-3
-returns-3 c = let a = (c .before .before .before .before .before .before .before .before .before .before .args) in read-sram (registersOf (a .own .now) (a .addresses .now) (a .values .now)) (a .ram .now) (a .sram .now) (a .gpio .now) (a .devices) (a .addr) (a .size) (c .before .before .before .before .before .before .good-size .ensures) (c .before .before .before .before .before .if1 .left) (c .before .before .before .before .locate .ensures) (c .before .before .place2 .given .1) (c .load2 .ensures)
+returns-3 c =
+    let a = (c .before .before .before .before .before .before .before .before .before .before .args) in
+    let r = registersOf (a .own .now) (a .addresses .now) (a .values .now) in
+    read-sram r (a .ram .now) (a .sram .now) (a .gpio .now) (a .devices) (a .addr) (a .size)
+    (c .before .before .before .before .before .before .good-size .ensures) (c .before .before .before .before .before .if1 .left)
+    (c .before .before .before .before .locate .ensures) (c .before .before .place2 .given .1) (c .load2 .ensures)
 
 enum-known-place-3 : tie.Need-enum-known-place-3
 enum-known-place-3 c = search needs
@@ -38,7 +51,12 @@ load-requires-3 : tie.Need-load-requires-3
 load-requires-3 c κs = search needs
 
 returns-4 : tie.Need-returns-4
-returns-4 c = let a = (c .before .before .before .before .before .before .before .before .before .before .args) in read-gpio (registersOf (a .own .now) (a .addresses .now) (a .values .now)) (a .ram .now) (a .sram .now) (a .gpio .now) (a .devices) (a .addr) (a .size) (c .before .before .before .before .before .before .good-size .ensures) (c .before .before .before .before .before .if1 .left) (c .before .before .before .before .locate .ensures) (c .before .before .place3 .given .1) (c .load3 .ensures)
+returns-4 c =
+    let a = (c .before .before .before .before .before .before .before .before .before .before .args) in
+    let r = registersOf (a .own .now) (a .addresses .now) (a .values .now) in
+    read-gpio r (a .ram .now) (a .sram .now) (a .gpio .now) (a .devices) (a .addr) (a .size)
+    (c .before .before .before .before .before .before .good-size .ensures) (c .before .before .before .before .before .if1 .left)
+    (c .before .before .before .before .locate .ensures) (c .before .before .place3 .given .1) (c .load3 .ensures)
 
 enum-told : tie.Need-enum-told
 enum-told c = search needs
@@ -47,13 +65,22 @@ mmio-read-requires : tie.Need-mmio-read-requires
 mmio-read-requires c κs = search needs
 
 returns-5 : tie.Need-returns-5
-returns-5 c = let a = (c .before .before .before .before .before .before .before .before .before .before .args) in read-register (registersOf (a .own .now) (a .addresses .now) (a .values .now)) (a .ram .now) (a .sram .now) (a .gpio .now) (a .devices) (a .addr) (a .size) (c .before .before .before .before .before .before .good-size .ensures) (c .before .before .before .before .before .if1 .left) (c .before .before .before .before .locate .ensures) (c .before .before .enum-told .given .1) (c .mmio-read .ensures)
+returns-5 c =
+    let a = (c .before .before .before .before .before .before .before .before .before .before .args) in
+    let r = registersOf (a .own .now) (a .addresses .now) (a .values .now) in
+    read-register r (a .ram .now) (a .sram .now) (a .gpio .now) (a .devices) (a .addr) (a .size)
+    (c .before .before .before .before .before .before .good-size .ensures) (c .before .before .before .before .before .if1 .left)
+    (c .before .before .before .before .locate .ensures) (c .before .before .enum-told .given .1) (c .mmio-read .ensures)
 
 enum-told-2 : tie.Need-enum-told-2
 enum-told-2 c = search needs
 
 returns-6 : tie.Need-returns-6
-returns-6 c = let a = (c .before .before .before .before .before .before .before .before .args) in read-stray (registersOf (a .own .now) (a .addresses .now) (a .values .now)) (a .ram .now) (a .sram .now) (a .gpio .now) (a .devices) (a .addr) (a .size) (c .before .before .before .before .good-size .ensures) (c .before .before .before .if1 .left) (c .before .before .locate .ensures) (c .enum-told2 .given .1)
+returns-6 c =
+    let a = (c .before .before .before .before .before .before .before .before .args) in
+    let r = registersOf (a .own .now) (a .addresses .now) (a .values .now) in
+    read-stray r (a .ram .now) (a .sram .now) (a .gpio .now) (a .devices) (a .addr) (a .size) (c .before .before .before .before .good-size .ensures)
+    (c .before .before .before .if1 .left) (c .before .before .locate .ensures) (c .enum-told2 .given .1)
 
 pub read-spec : {M : Type 1} → statement M
 read-spec =

@@ -16,7 +16,10 @@ rtc-command-requires : tie.Need-rtc-command-requires
 rtc-command-requires c κs = search needs
 
 returns : tie.Need-returns
-returns c = let a = (c .before .before .before .before .before .before .before .before .args) in command-ran (a .own .now) _ (a .game) (a .new) (c .before .before .before .before .before .before .own-insert .ensures) (c .before .before .before .before .own-reg .ensures) (c .before .before .own-reg2 .ensures) (c .rtc-command .ensures)
+returns c =
+    let a = (c .before .before .before .before .before .before .before .before .args) in
+    command-ran (a .own .now) _ (a .game) (a .new) (c .before .before .before .before .before .before .own-insert .ensures)
+    (c .before .before .before .before .own-reg .ensures) (c .before .before .own-reg2 .ensures) (c .rtc-command .ensures)
 
 pub command-write-spec : {M : Type 1} → statement M
 command-write-spec =

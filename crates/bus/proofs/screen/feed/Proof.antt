@@ -14,7 +14,10 @@ same-length : tie.Need-same-length
 same-length c = search needs
 
 returns : tie.Need-returns
-returns c = let a = (c .before .before .before .before .before .before .before .args) in feed-one (screen (a .p) (a .fb .now)) (a .one) (a .word) (c .before .before .before .before .before .if1 .taken) (c .before .before .before .low .ensures) (c .before .before .«data» .ensures)
+returns c =
+    let a = (c .before .before .before .before .before .before .before .args) in
+    feed-one (screen (a .p) (a .fb .now)) (a .one) (a .word) (c .before .before .before .before .before .if1 .taken)
+    (c .before .before .before .low .ensures) (c .before .before .«data» .ensures)
 
 low-requires-2 : tie.Need-low-requires-2
 low-requires-2 c κs = search needs
@@ -32,7 +35,13 @@ same-length-2 : tie.Need-same-length-2
 same-length-2 c = search needs
 
 returns-2 : tie.Need-returns-2
-returns-2 c = let a = (c .before .before .before .before .before .before .before .before .before .before .before .before .args) in feed-two (screen (a .p) (a .fb .now)) (a .one) (a .word) (c .before .before .before .before .before .before .before .before .before .before .if1 .left) (c .before .before .before .before .before .before .before .before .low2 .ensures) (c .before .before .before .before .before .before .before .data2 .ensures) (c .before .before .before .low3 .ensures) (c .before .before .data3 .ensures)
+returns-2 c =
+    let a = (c .before .before .before .before .before .before .before .before .before .before .before .before .args) in
+    feed-two (screen (a .p) (a .fb .now)) (a .one) (a .word)
+    (c .before .before .before .before .before .before .before .before .before .before .if1 .left)
+    (c .before .before .before .before .before .before .before .before .low2 .ensures)
+    (c .before .before .before .before .before .before .before .data2 .ensures) (c .before .before .before .low3 .ensures)
+    (c .before .before .data3 .ensures)
 
 pub feed-spec : {M : Type 1} → statement M
 feed-spec =

@@ -9,7 +9,10 @@ own-reg-requires : tie.Need-own-reg-requires
 own-reg-requires c κs = search needs
 
 returns : tie.Need-returns
-returns c = let a = (c .before .before .before .before .before .before .before .args) in dma-none (registersOf (a .own .now) (a .addresses .now) (a .values .now)) (a .ram .now) (a .sram .now) (a .gpio .now) (screen (a .p) (a .fb .now)) (c .before .own-reg .ensures) (c .if1 .taken)
+returns c =
+    let a = (c .before .before .before .before .before .before .before .args) in
+    let r = registersOf (a .own .now) (a .addresses .now) (a .values .now) in
+    dma-none r (a .ram .now) (a .sram .now) (a .gpio .now) (screen (a .p) (a .fb .now)) (c .before .own-reg .ensures) (c .if1 .taken)
 
 read-block-requires : tie.Need-read-block-requires
 read-block-requires c κs = search needs
@@ -27,7 +30,14 @@ same-length : tie.Need-same-length
 same-length c = search needs
 
 returns-2 : tie.Need-returns-2
-returns-2 c = let a = (c .before .before .before .before .before .before .before .before .before .before .before .before .before .before .before .before .before .args) in dma-done (registersOf (a .own .now) (a .addresses .now) (a .values .now)) (a .ram .now) (a .sram .now) (a .gpio .now) (screen (a .p) (a .fb .now)) (c .before .before .before .before .before .before .before .before .before .before .before .own-reg .ensures) (c .before .before .before .before .before .before .before .before .before .before .if1 .left) (block-bytes (registersOf (a .own .now) (a .addresses .now) (a .values .now)) (a .ram .now) (a .sram .now) (a .gpio .now) (c .before .before .before .before .before .before .before .before .before .before .before .own-reg .result) _ (c .before .before .before .before .before .before .before .read-block .ensures)) (c .before .before .before .own-reg2 .ensures) (c .before .own-insert .ensures) (c .count-frame .ensures)
+returns-2 c =
+    let a = (c .before .before .before .before .before .before .before .before .before .before .before .before .before .before .before .before .before .args) in
+    let r = registersOf (a .own .now) (a .addresses .now) (a .values .now) in
+    dma-done r (a .ram .now) (a .sram .now) (a .gpio .now) (screen (a .p) (a .fb .now))
+    (c .before .before .before .before .before .before .before .before .before .before .before .own-reg .ensures)
+    (c .before .before .before .before .before .before .before .before .before .before .if1 .left)
+    (block-bytes r (a .ram .now) (a .sram .now) (a .gpio .now) (c .before .before .before .before .before .before .before .before .before .before .before .own-reg .result) _ (c .before .before .before .before .before .before .before .read-block .ensures))
+    (c .before .before .before .own-reg2 .ensures) (c .before .own-insert .ensures) (c .count-frame .ensures)
 
 pub lcd-dma-spec : {M : Type 1} → statement M
 lcd-dma-spec =

@@ -10,7 +10,10 @@ enum-told : tie.Need-enum-told
 enum-told c = search needs
 
 returns : tie.Need-returns
-returns c = let a = (c .before .before .before .before .args) in sound-full (a .own .now) (a .devices) (a .next) (a .clock) (a .full) (a .word) (a .kept) (c .before .before .sound-after .ensures) (c .enum-told .given .1)
+returns c =
+    let a = (c .before .before .before .before .args) in
+    sound-full (a .own .now) (a .devices) (a .next) (a .clock) (a .full) (a .word) (a .kept) (c .before .before .sound-after .ensures)
+    (c .enum-told .given .1)
 
 enum-told-2 : tie.Need-enum-told-2
 enum-told-2 c = search needs
@@ -19,7 +22,10 @@ own-insert-requires : tie.Need-own-insert-requires
 own-insert-requires c κs = search needs
 
 returns-2 : tie.Need-returns-2
-returns-2 c = let a = (c .before .before .before .before .before .before .args) in sound-same (a .own .now) (a .devices) (a .next) (a .clock) (a .full) (a .word) (a .kept) (c .before .before .before .before .sound-after .ensures) (c .before .before .enum-told2 .given .1) (c .own-insert .ensures)
+returns-2 c =
+    let a = (c .before .before .before .before .before .before .args) in
+    sound-same (a .own .now) (a .devices) (a .next) (a .clock) (a .full) (a .word) (a .kept) (c .before .before .before .before .sound-after .ensures)
+    (c .before .before .enum-told2 .given .1) (c .own-insert .ensures)
 
 enum-known-sounded : tie.Need-enum-known-sounded
 enum-known-sounded c = search needs
@@ -28,7 +34,10 @@ own-insert-requires-2 : tie.Need-own-insert-requires-2
 own-insert-requires-2 c κs = search needs
 
 returns-3 : tie.Need-returns-3
-returns-3 c = let a = (c .before .before .before .before .before .before .before .args) in sound-change (a .own .now) (a .devices) (a .next) (a .clock) (a .full) (a .word) (a .kept) (c .before .before .before .before .before .sound-after .ensures) (c .before .before .before .sounded .given .1) (c .own-insert2 .ensures)
+returns-3 c =
+    let a = (c .before .before .before .before .before .before .before .args) in
+    sound-change (a .own .now) (a .devices) (a .next) (a .clock) (a .full) (a .word) (a .kept)
+    (c .before .before .before .before .before .sound-after .ensures) (c .before .before .before .sounded .given .1) (c .own-insert2 .ensures)
 
 pub sound-write-spec : {M : Type 1} → statement M
 sound-write-spec =

@@ -19,13 +19,21 @@ sound-write-requires : tie.Need-sound-write-requires
 sound-write-requires c κs = search needs
 
 returns : tie.Need-returns
-returns c = let a = (c .before .before .before .before .before .before .before .before .before .args) in timer-sound (a .own .now) (a .devices) (a .clock) (a .full) (a .n) (a .word) (a .old) (a .new) (c .before .before .before .before .write-ctrl .ensures) (c .before .before .before .with-timer .ensures) (c .before .before .if1 .taken) (c .sound-write .ensures)
+returns c =
+    let a = (c .before .before .before .before .before .before .before .before .before .args) in
+    timer-sound (a .own .now) (a .devices) (a .clock) (a .full) (a .n) (a .word) (a .old) (a .new)
+    (c .before .before .before .before .write-ctrl .ensures) (c .before .before .before .with-timer .ensures) (c .before .before .if1 .taken)
+    (c .sound-write .ensures)
 
 own-insert-requires : tie.Need-own-insert-requires
 own-insert-requires c κs = search needs
 
 returns-2 : tie.Need-returns-2
-returns-2 c = let a = (c .before .before .before .before .before .before .before .before .before .args) in timer-plain (a .own .now) (a .devices) (a .clock) (a .full) (a .n) (a .word) (a .old) (a .new) (c .before .before .before .before .write-ctrl .ensures) (c .before .before .before .with-timer .ensures) (c .before .before .if1 .left) (c .own-insert .ensures)
+returns-2 c =
+    let a = (c .before .before .before .before .before .before .before .before .before .args) in
+    timer-plain (a .own .now) (a .devices) (a .clock) (a .full) (a .n) (a .word) (a .old) (a .new)
+    (c .before .before .before .before .write-ctrl .ensures) (c .before .before .before .with-timer .ensures) (c .before .before .if1 .left)
+    (c .own-insert .ensures)
 
 pub timer-write-ctrl-spec : {M : Type 1} → statement M
 timer-write-ctrl-spec =

@@ -16,7 +16,10 @@ with-converting-requires : tie.Need-with-converting-requires
 with-converting-requires c κs = search needs
 
 returns : tie.Need-returns
-returns c = let a = (c .before .before .before .before .before .before .before .args) in adc-done (a .own .now) (a .devices) (a .old) (a .new) (c .before .before .before .before .own-reg .ensures) (c .before .before .before .adc-write-ctrl .ensures) (c .before .own-insert .ensures) (c .with-converting .ensures)
+returns c =
+    let a = (c .before .before .before .before .before .before .before .args) in
+    adc-done (a .own .now) (a .devices) (a .old) (a .new) (c .before .before .before .before .own-reg .ensures)
+    (c .before .before .before .adc-write-ctrl .ensures) (c .before .own-insert .ensures) (c .with-converting .ensures)
 
 pub adc-write-spec : {M : Type 1} → statement M
 adc-write-spec =

@@ -16,7 +16,10 @@ own-insert-requires-3 : tie.Need-own-insert-requires-3
 own-insert-requires-3 c κs = search needs
 
 returns : tie.Need-returns
-returns c = let a = (c .before .before .before .before .before .before .before .before .args) in spi-done (a .own .now) (a .new) (c .before .before .before .before .before .before .own-insert .ensures) (c .before .before .before .before .own-insert2 .ensures) (c .before .before .own-reg .ensures) (c .own-insert3 .ensures)
+returns c =
+    let a = (c .before .before .before .before .before .before .before .before .args) in
+    spi-done (a .own .now) (a .new) (c .before .before .before .before .before .before .own-insert .ensures)
+    (c .before .before .before .before .own-insert2 .ensures) (c .before .before .own-reg .ensures) (c .own-insert3 .ensures)
 
 pub spi-sent-spec : {M : Type 1} → statement M
 spi-sent-spec =

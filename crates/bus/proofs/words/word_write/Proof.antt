@@ -10,7 +10,10 @@ timer-write-ctrl-requires : tie.Need-timer-write-ctrl-requires
 timer-write-ctrl-requires c κs = search needs
 
 returns : tie.Need-returns
-returns c = let a = (c .before .before .before .before .args) in word-timer (a .own .now) (a .devices) (a .clock) (a .full) (a .word) (a .old) (a .new) (a .part) (c .before .before .before .control-at .ensures) (c .before .before .if1 .taken) (c .timer-write-ctrl .ensures)
+returns c =
+    let a = (c .before .before .before .before .args) in
+    word-timer (a .own .now) (a .devices) (a .clock) (a .full) (a .word) (a .old) (a .new) (a .part) (c .before .before .before .control-at .ensures)
+    (c .before .before .if1 .taken) (c .timer-write-ctrl .ensures)
 
 field-at-requires : tie.Need-field-at-requires
 field-at-requires c κs = search needs
@@ -22,7 +25,11 @@ done-requires : tie.Need-done-requires
 done-requires c κs = search needs
 
 returns-2 : tie.Need-returns-2
-returns-2 c = let a = (c .before .before .before .before .before .before .args) in word-day (a .own .now) (a .devices) (a .clock) (a .full) (a .word) (a .old) (a .new) (a .part) (c .before .before .before .before .before .control-at .ensures) (c .before .before .before .before .if1 .left) (c .before .before .before .field-at .ensures) (c .before .before .if2 .taken) (c .before .tod-write .ensures) (c .done .ensures)
+returns-2 c =
+    let a = (c .before .before .before .before .before .before .args) in
+    word-day (a .own .now) (a .devices) (a .clock) (a .full) (a .word) (a .old) (a .new) (a .part)
+    (c .before .before .before .before .before .control-at .ensures) (c .before .before .before .before .if1 .left)
+    (c .before .before .before .field-at .ensures) (c .before .before .if2 .taken) (c .before .tod-write .ensures) (c .done .ensures)
 
 own-insert-requires : tie.Need-own-insert-requires
 own-insert-requires c κs = search needs
@@ -31,7 +38,12 @@ done-requires-2 : tie.Need-done-requires-2
 done-requires-2 c κs = search needs
 
 returns-3 : tie.Need-returns-3
-returns-3 c = let a = (c .before .before .before .before .before .before .before .before .args) in word-lcd (a .own .now) (a .devices) (a .clock) (a .full) (a .word) (a .old) (a .new) (a .part) (c .before .before .before .before .before .before .before .control-at .ensures) (c .before .before .before .before .before .before .if1 .left) (c .before .before .before .before .before .field-at .ensures) (c .before .before .before .before .if2 .left) (c .before .before .before .match .keys1) (c .before .own-insert .ensures) (c .done2 .ensures)
+returns-3 c =
+    let a = (c .before .before .before .before .before .before .before .before .args) in
+    word-lcd (a .own .now) (a .devices) (a .clock) (a .full) (a .word) (a .old) (a .new) (a .part)
+    (c .before .before .before .before .before .before .before .control-at .ensures) (c .before .before .before .before .before .before .if1 .left)
+    (c .before .before .before .before .before .field-at .ensures) (c .before .before .before .before .if2 .left)
+    (c .before .before .before .match .keys1) (c .before .own-insert .ensures) (c .done2 .ensures)
 
 adc-write-requires : tie.Need-adc-write-requires
 adc-write-requires c κs = search needs
@@ -40,7 +52,12 @@ done-requires-3 : tie.Need-done-requires-3
 done-requires-3 c κs = search needs
 
 returns-4 : tie.Need-returns-4
-returns-4 c = let a = (c .before .before .before .before .before .before .before .before .args) in word-adc (a .own .now) (a .devices) (a .clock) (a .full) (a .word) (a .old) (a .new) (a .part) (c .before .before .before .before .before .before .before .control-at .ensures) (c .before .before .before .before .before .before .if1 .left) (c .before .before .before .before .before .field-at .ensures) (c .before .before .before .before .if2 .left) (c .before .before .before .match .keys2) (c .before .adc-write .ensures) (c .done3 .ensures)
+returns-4 c =
+    let a = (c .before .before .before .before .before .before .before .before .args) in
+    word-adc (a .own .now) (a .devices) (a .clock) (a .full) (a .word) (a .old) (a .new) (a .part)
+    (c .before .before .before .before .before .before .before .control-at .ensures) (c .before .before .before .before .before .before .if1 .left)
+    (c .before .before .before .before .before .field-at .ensures) (c .before .before .before .before .if2 .left)
+    (c .before .before .before .match .keys2) (c .before .adc-write .ensures) (c .done3 .ensures)
 
 own-insert-requires-2 : tie.Need-own-insert-requires-2
 own-insert-requires-2 c κs = search needs
@@ -49,7 +66,12 @@ done-requires-4 : tie.Need-done-requires-4
 done-requires-4 c κs = search needs
 
 returns-5 : tie.Need-returns-5
-returns-5 c = let a = (c .before .before .before .before .before .before .before .before .args) in word-tick (a .own .now) (a .devices) (a .clock) (a .full) (a .word) (a .old) (a .new) (a .part) (c .before .before .before .before .before .before .before .control-at .ensures) (c .before .before .before .before .before .before .if1 .left) (c .before .before .before .before .before .field-at .ensures) (c .before .before .before .before .if2 .left) (c .before .before .before .match .keys3) (c .before .own-insert2 .ensures) (c .done4 .ensures)
+returns-5 c =
+    let a = (c .before .before .before .before .before .before .before .before .args) in
+    word-tick (a .own .now) (a .devices) (a .clock) (a .full) (a .word) (a .old) (a .new) (a .part)
+    (c .before .before .before .before .before .before .before .control-at .ensures) (c .before .before .before .before .before .before .if1 .left)
+    (c .before .before .before .before .before .field-at .ensures) (c .before .before .before .before .if2 .left)
+    (c .before .before .before .match .keys3) (c .before .own-insert2 .ensures) (c .done4 .ensures)
 
 own-insert-requires-3 : tie.Need-own-insert-requires-3
 own-insert-requires-3 c κs = search needs
@@ -61,7 +83,13 @@ done-requires-5 : tie.Need-done-requires-5
 done-requires-5 c κs = search needs
 
 returns-6 : tie.Need-returns-6
-returns-6 c = let a = (c .before .before .before .before .before .before .before .before .before .args) in word-power (a .own .now) (a .devices) (a .clock) (a .full) (a .word) (a .old) (a .new) (a .part) (c .before .before .before .before .before .before .before .before .control-at .ensures) (c .before .before .before .before .before .before .before .if1 .left) (c .before .before .before .before .before .before .field-at .ensures) (c .before .before .before .before .before .if2 .left) (c .before .before .before .before .match .keys4) (c .before .before .own-insert3 .ensures) (c .before .power .ensures) (c .done5 .ensures)
+returns-6 c =
+    let a = (c .before .before .before .before .before .before .before .before .before .args) in
+    word-power (a .own .now) (a .devices) (a .clock) (a .full) (a .word) (a .old) (a .new) (a .part)
+    (c .before .before .before .before .before .before .before .before .control-at .ensures)
+    (c .before .before .before .before .before .before .before .if1 .left) (c .before .before .before .before .before .before .field-at .ensures)
+    (c .before .before .before .before .before .if2 .left) (c .before .before .before .before .match .keys4) (c .before .before .own-insert3 .ensures)
+    (c .before .power .ensures) (c .done5 .ensures)
 
 spi-sent-requires : tie.Need-spi-sent-requires
 spi-sent-requires c κs = search needs
@@ -70,13 +98,24 @@ done-requires-6 : tie.Need-done-requires-6
 done-requires-6 c κs = search needs
 
 returns-7 : tie.Need-returns-7
-returns-7 c = let a = (c .before .before .before .before .before .before .before .before .args) in word-spi (a .own .now) (a .devices) (a .clock) (a .full) (a .word) (a .old) (a .new) (a .part) (c .before .before .before .before .before .before .before .control-at .ensures) (c .before .before .before .before .before .before .if1 .left) (c .before .before .before .before .before .field-at .ensures) (c .before .before .before .before .if2 .left) (c .before .before .before .match .keys5) (c .before .spi-sent .ensures) (c .done6 .ensures)
+returns-7 c =
+    let a = (c .before .before .before .before .before .before .before .before .args) in
+    word-spi (a .own .now) (a .devices) (a .clock) (a .full) (a .word) (a .old) (a .new) (a .part)
+    (c .before .before .before .before .before .before .before .control-at .ensures) (c .before .before .before .before .before .before .if1 .left)
+    (c .before .before .before .before .before .field-at .ensures) (c .before .before .before .before .if2 .left)
+    (c .before .before .before .match .keys5) (c .before .spi-sent .ensures) (c .done6 .ensures)
 
 sound-write-requires : tie.Need-sound-write-requires
 sound-write-requires c κs = search needs
 
 returns-8 : tie.Need-returns-8
-returns-8 c = let a = (c .before .before .before .before .before .before .before .args) in word-sound (a .own .now) (a .devices) (a .clock) (a .full) (a .word) (a .old) (a .new) (a .part) (c .before .before .before .before .before .before .control-at .ensures) (c .before .before .before .before .before .if1 .left) (c .before .before .before .before .field-at .ensures) (c .before .before .before .if2 .left) (c .before .before .match .rest .0 .0 .0 .0 .1) (c .before .before .match .rest .0 .0 .0 .1) (c .before .before .match .rest .0 .0 .1) (c .before .before .match .rest .0 .1) (c .before .before .match .rest .1) (c .sound-write .ensures)
+returns-8 c =
+    let a = (c .before .before .before .before .before .before .before .args) in
+    word-sound (a .own .now) (a .devices) (a .clock) (a .full) (a .word) (a .old) (a .new) (a .part)
+    (c .before .before .before .before .before .before .control-at .ensures) (c .before .before .before .before .before .if1 .left)
+    (c .before .before .before .before .field-at .ensures) (c .before .before .before .if2 .left) (c .before .before .match .rest .0 .0 .0 .0 .1)
+    (c .before .before .match .rest .0 .0 .0 .1) (c .before .before .match .rest .0 .0 .1) (c .before .before .match .rest .0 .1)
+    (c .before .before .match .rest .1) (c .sound-write .ensures)
 
 pub word-write-spec : {M : Type 1} → statement M
 word-write-spec =

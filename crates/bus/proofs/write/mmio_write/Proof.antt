@@ -27,7 +27,14 @@ same-length-2 : tie.Need-same-length-2
 same-length-2 c = search needs
 
 returns : tie.Need-returns
-returns c = let a = (c .before .before .before .before .before .before .before .before .before .before .before .before .before .before .before .before .before .before .before .before .before .before .args) in reg-merged (world (registersOf (a .own .now) (a .addresses .now) (a .values .now)) (a .rtc .now) (a .page .now) (a .ram .now) (a .sram .now) (a .gpio .now) (a .fb .now) (a .devices)) (a .full) (a .addr) (a .size) (a .value) (c .before .before .before .before .before .before .before .before .before .before .before .before .before .before .reg .ensures) (c .before .before .before .before .before .before .before .before .before .before .before .before .before .merged .ensures) (c .before .before .before .before .before .before .before .before .before .before .before .before .written .ensures) (c .before .before .before .before .port-write .ensures)
+returns c =
+    let a = (c .before .before .before .before .before .before .before .before .before .before .before .before .before .before .before .before .before .before .before .before .before .before .args) in
+    let w = world (registersOf (a .own .now) (a .addresses .now) (a .values .now)) (a .rtc .now) (a .page .now) (a .ram .now) (a .sram .now) (a .gpio .now) (a .fb .now) (a .devices) in
+    reg-merged w (a .full) (a .addr) (a .size) (a .value)
+    (c .before .before .before .before .before .before .before .before .before .before .before .before .before .before .reg .ensures)
+    (c .before .before .before .before .before .before .before .before .before .before .before .before .before .merged .ensures)
+    (c .before .before .before .before .before .before .before .before .before .before .before .before .written .ensures)
+    (c .before .before .before .before .port-write .ensures)
 
 pub mmio-write-spec : {M : Type 1} → statement M
 mmio-write-spec =

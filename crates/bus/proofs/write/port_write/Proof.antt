@@ -15,7 +15,11 @@ same-length : tie.Need-same-length
 same-length c = search needs
 
 returns : tie.Need-returns
-returns c = let a = (c .before .before .before .before .before .before .before .before .before .before .before .before .args) in port-select (world (registersOf (a .own .now) (a .addresses .now) (a .values .now)) (a .rtc .now) (a .page .now) (a .ram .now) (a .sram .now) (a .gpio .now) (a .fb .now) (a .devices)) (a .full) (a .word) (a .old) (a .new) (a .part) (c .before .before .before .before .before .before .before .match .keys1) (c .before .before .before .select-write .ensures) (c .done .ensures)
+returns c =
+    let a = (c .before .before .before .before .before .before .before .before .before .before .before .before .args) in
+    let w = world (registersOf (a .own .now) (a .addresses .now) (a .values .now)) (a .rtc .now) (a .page .now) (a .ram .now) (a .sram .now) (a .gpio .now) (a .fb .now) (a .devices) in
+    port-select w (a .full) (a .word) (a .old) (a .new) (a .part) (c .before .before .before .before .before .before .before .match .keys1)
+    (c .before .before .before .select-write .ensures) (c .done .ensures)
 
 send-write-requires : tie.Need-send-write-requires
 send-write-requires c κs = search needs
@@ -27,7 +31,11 @@ same-length-2 : tie.Need-same-length-2
 same-length-2 c = search needs
 
 returns-2 : tie.Need-returns-2
-returns-2 c = let a = (c .before .before .before .before .before .before .before .before .before .before .args) in port-send (world (registersOf (a .own .now) (a .addresses .now) (a .values .now)) (a .rtc .now) (a .page .now) (a .ram .now) (a .sram .now) (a .gpio .now) (a .fb .now) (a .devices)) (a .full) (a .word) (a .old) (a .new) (a .part) (c .before .before .before .before .before .match .keys2) (c .before .send-write .ensures) (c .done2 .ensures)
+returns-2 c =
+    let a = (c .before .before .before .before .before .before .before .before .before .before .args) in
+    let w = world (registersOf (a .own .now) (a .addresses .now) (a .values .now)) (a .rtc .now) (a .page .now) (a .ram .now) (a .sram .now) (a .gpio .now) (a .fb .now) (a .devices) in
+    port-send w (a .full) (a .word) (a .old) (a .new) (a .part) (c .before .before .before .before .before .match .keys2)
+    (c .before .send-write .ensures) (c .done2 .ensures)
 
 lcd-write-ctrl-requires : tie.Need-lcd-write-ctrl-requires
 lcd-write-ctrl-requires c κs = search needs
@@ -42,7 +50,12 @@ same-length-4 : tie.Need-same-length-4
 same-length-4 c = search needs
 
 returns-3 : tie.Need-returns-3
-returns-3 c = let a = (c .before .before .before .before .before .before .before .before .before .before .before .before .before .before .args) in port-panel (world (registersOf (a .own .now) (a .addresses .now) (a .values .now)) (a .rtc .now) (a .page .now) (a .ram .now) (a .sram .now) (a .gpio .now) (a .fb .now) (a .devices)) (a .full) (a .word) (a .old) (a .new) (a .part) (c .before .before .before .before .before .before .before .before .before .match .keys3) (c .before .before .before .lcd-write-ctrl .ensures) (c .done3 .ensures)
+returns-3 c =
+    let a = (c .before .before .before .before .before .before .before .before .before .before .before .before .before .before .args) in
+    let w = world (registersOf (a .own .now) (a .addresses .now) (a .values .now)) (a .rtc .now) (a .page .now) (a .ram .now) (a .sram .now) (a .gpio .now) (a .fb .now) (a .devices) in
+    port-panel w (a .full) (a .word) (a .old) (a .new) (a .part)
+    (c .before .before .before .before .before .before .before .before .before .match .keys3) (c .before .before .before .lcd-write-ctrl .ensures)
+    (c .done3 .ensures)
 
 command-write-requires : tie.Need-command-write-requires
 command-write-requires c κs = search needs
@@ -51,7 +64,11 @@ done-requires-4 : tie.Need-done-requires-4
 done-requires-4 c κs = search needs
 
 returns-4 : tie.Need-returns-4
-returns-4 c = let a = (c .before .before .before .before .before .before .before .before .before .before .before .args) in port-rtc (world (registersOf (a .own .now) (a .addresses .now) (a .values .now)) (a .rtc .now) (a .page .now) (a .ram .now) (a .sram .now) (a .gpio .now) (a .fb .now) (a .devices)) (a .full) (a .word) (a .old) (a .new) (a .part) (c .before .before .before .before .before .before .match .keys4) (c .before .command-write .ensures) (c .done4 .ensures)
+returns-4 c =
+    let a = (c .before .before .before .before .before .before .before .before .before .before .before .args) in
+    let w = world (registersOf (a .own .now) (a .addresses .now) (a .values .now)) (a .rtc .now) (a .page .now) (a .ram .now) (a .sram .now) (a .gpio .now) (a .fb .now) (a .devices) in
+    port-rtc w (a .full) (a .word) (a .old) (a .new) (a .part) (c .before .before .before .before .before .before .match .keys4)
+    (c .before .command-write .ensures) (c .done4 .ensures)
 
 acts-requires : tie.Need-acts-requires
 acts-requires c κs = search needs
@@ -63,13 +80,25 @@ word-write-requires : tie.Need-word-write-requires
 word-write-requires c κs = search needs
 
 returns-5 : tie.Need-returns-5
-returns-5 c = let a = (c .before .before .before .before .before .before .before .before .before .before .args) in port-word (world (registersOf (a .own .now) (a .addresses .now) (a .values .now)) (a .rtc .now) (a .page .now) (a .ram .now) (a .sram .now) (a .gpio .now) (a .fb .now) (a .devices)) (a .full) (a .word) (a .old) (a .new) (a .part) (c .before .before .before .before .before .match .rest .0 .0 .0 .1) (c .before .before .before .before .before .match .rest .0 .0 .1) (c .before .before .before .before .before .match .rest .0 .1) (c .before .before .before .before .before .match .rest .1) (c .before .before .before .before .acts .ensures) (c .before .before .before .if1 .taken) (c .before .before .load .ensures) (c .word-write .ensures)
+returns-5 c =
+    let a = (c .before .before .before .before .before .before .before .before .before .before .args) in
+    let w = world (registersOf (a .own .now) (a .addresses .now) (a .values .now)) (a .rtc .now) (a .page .now) (a .ram .now) (a .sram .now) (a .gpio .now) (a .fb .now) (a .devices) in
+    port-word w (a .full) (a .word) (a .old) (a .new) (a .part) (c .before .before .before .before .before .match .rest .0 .0 .0 .1)
+    (c .before .before .before .before .before .match .rest .0 .0 .1) (c .before .before .before .before .before .match .rest .0 .1)
+    (c .before .before .before .before .before .match .rest .1) (c .before .before .before .before .acts .ensures)
+    (c .before .before .before .if1 .taken) (c .before .before .load .ensures) (c .word-write .ensures)
 
 store-requires : tie.Need-store-requires
 store-requires c κs = search needs
 
 returns-6 : tie.Need-returns-6
-returns-6 c = let a = (c .before .before .before .before .before .before .before .before .before .before .before .args) in port-stored (world (registersOf (a .own .now) (a .addresses .now) (a .values .now)) (a .rtc .now) (a .page .now) (a .ram .now) (a .sram .now) (a .gpio .now) (a .fb .now) (a .devices)) (a .full) (a .word) (a .old) (a .new) (a .part) (c .before .before .before .before .before .before .match .rest .0 .0 .0 .1) (c .before .before .before .before .before .before .match .rest .0 .0 .1) (c .before .before .before .before .before .before .match .rest .0 .1) (c .before .before .before .before .before .before .match .rest .1) (c .before .before .before .before .before .acts .ensures) (c .before .before .before .before .if1 .left) (c .store .ensures)
+returns-6 c =
+    let a = (c .before .before .before .before .before .before .before .before .before .before .before .args) in
+    let w = world (registersOf (a .own .now) (a .addresses .now) (a .values .now)) (a .rtc .now) (a .page .now) (a .ram .now) (a .sram .now) (a .gpio .now) (a .fb .now) (a .devices) in
+    port-stored w (a .full) (a .word) (a .old) (a .new) (a .part) (c .before .before .before .before .before .before .match .rest .0 .0 .0 .1)
+    (c .before .before .before .before .before .before .match .rest .0 .0 .1) (c .before .before .before .before .before .before .match .rest .0 .1)
+    (c .before .before .before .before .before .before .match .rest .1) (c .before .before .before .before .before .acts .ensures)
+    (c .before .before .before .before .if1 .left) (c .store .ensures)
 
 pub port-write-spec : {M : Type 1} → statement M
 port-write-spec =

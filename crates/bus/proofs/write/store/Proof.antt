@@ -20,10 +20,16 @@ refused-requires : tie.Need-refused-requires
 refused-requires c κs = search needs
 
 returns : tie.Need-returns
-returns c = let a = (c .before .before .before .before .before .before .before .args) in store-done (registersOf (a .own .now) (a .addresses .now) (a .values .now)) (a .devices) (a .word) (a .new) (c .before .before .before .insert .ensures) (c .before .enum-told .given .1) (c .done .ensures)
+returns c =
+    let a = (c .before .before .before .before .before .before .before .args) in
+    let r = registersOf (a .own .now) (a .addresses .now) (a .values .now) in
+    store-done r (a .devices) (a .word) (a .new) (c .before .before .before .insert .ensures) (c .before .enum-told .given .1) (c .done .ensures)
 
 returns-2 : tie.Need-returns-2
-returns-2 c = let a = (c .before .before .before .before .before .before .before .args) in store-full (registersOf (a .own .now) (a .addresses .now) (a .values .now)) (a .devices) (a .word) (a .new) (c .before .before .before .insert .ensures) (c .before .enum-told2 .given .1) (c .refused .ensures)
+returns-2 c =
+    let a = (c .before .before .before .before .before .before .before .args) in
+    let r = registersOf (a .own .now) (a .addresses .now) (a .values .now) in
+    store-full r (a .devices) (a .word) (a .new) (c .before .before .before .insert .ensures) (c .before .enum-told2 .given .1) (c .refused .ensures)
 
 pub store-spec : {M : Type 1} → statement M
 store-spec =

@@ -12,7 +12,10 @@ refused-requires : tie.Need-refused-requires
 refused-requires c κs = search needs
 
 returns : tie.Need-returns
-returns c = let a = (c .before .before .before .before .before .before .before .args) in write-size (world (registersOf (a .own .now) (a .addresses .now) (a .values .now)) (a .rtc .now) (a .page .now) (a .ram .now) (a .sram .now) (a .gpio .now) (a .fb .now) (a .devices)) (a .full) (a .addr) (a .size) (a .value) (c .before .before .good-size .ensures) (c .before .if1 .taken) (c .refused .ensures)
+returns c =
+    let a = (c .before .before .before .before .before .before .before .args) in
+    let w = world (registersOf (a .own .now) (a .addresses .now) (a .values .now)) (a .rtc .now) (a .page .now) (a .ram .now) (a .sram .now) (a .gpio .now) (a .fb .now) (a .devices) in
+    write-size w (a .full) (a .addr) (a .size) (a .value) (c .before .before .good-size .ensures) (c .before .if1 .taken) (c .refused .ensures)
 
 locate-requires : tie.Need-locate-requires
 locate-requires c κs = search needs
@@ -30,7 +33,14 @@ same-length : tie.Need-same-length
 same-length c = search needs
 
 returns-2 : tie.Need-returns-2
-returns-2 c = let a = (c .before .before .before .before .before .before .before .before .before .before .before .before .before .before .before .args) in write-ram (world (registersOf (a .own .now) (a .addresses .now) (a .values .now)) (a .rtc .now) (a .page .now) (a .ram .now) (a .sram .now) (a .gpio .now) (a .fb .now) (a .devices)) (a .full) (a .addr) (a .size) (a .value) (c .before .before .before .before .before .before .before .before .before .before .good-size .ensures) (c .before .before .before .before .before .before .before .before .before .if1 .left) (c .before .before .before .before .before .before .before .before .locate .ensures) (c .before .before .before .before .before .before .place .given .1) (c .before .before .before .store .ensures) (c .done .ensures)
+returns-2 c =
+    let a = (c .before .before .before .before .before .before .before .before .before .before .before .before .before .before .before .args) in
+    let w = world (registersOf (a .own .now) (a .addresses .now) (a .values .now)) (a .rtc .now) (a .page .now) (a .ram .now) (a .sram .now) (a .gpio .now) (a .fb .now) (a .devices) in
+    write-ram w (a .full) (a .addr) (a .size) (a .value)
+    (c .before .before .before .before .before .before .before .before .before .before .good-size .ensures)
+    (c .before .before .before .before .before .before .before .before .before .if1 .left)
+    (c .before .before .before .before .before .before .before .before .locate .ensures)
+    (c .before .before .before .before .before .before .place .given .1) (c .before .before .before .store .ensures) (c .done .ensures)
 
 enum-known-place-2 : tie.Need-enum-known-place-2
 enum-known-place-2 c = search needs
@@ -45,7 +55,14 @@ same-length-2 : tie.Need-same-length-2
 same-length-2 c = search needs
 
 returns-3 : tie.Need-returns-3
-returns-3 c = let a = (c .before .before .before .before .before .before .before .before .before .before .before .before .before .before .before .args) in write-sram (world (registersOf (a .own .now) (a .addresses .now) (a .values .now)) (a .rtc .now) (a .page .now) (a .ram .now) (a .sram .now) (a .gpio .now) (a .fb .now) (a .devices)) (a .full) (a .addr) (a .size) (a .value) (c .before .before .before .before .before .before .before .before .before .before .good-size .ensures) (c .before .before .before .before .before .before .before .before .before .if1 .left) (c .before .before .before .before .before .before .before .before .locate .ensures) (c .before .before .before .before .before .before .place2 .given .1) (c .before .before .before .store2 .ensures) (c .done2 .ensures)
+returns-3 c =
+    let a = (c .before .before .before .before .before .before .before .before .before .before .before .before .before .before .before .args) in
+    let w = world (registersOf (a .own .now) (a .addresses .now) (a .values .now)) (a .rtc .now) (a .page .now) (a .ram .now) (a .sram .now) (a .gpio .now) (a .fb .now) (a .devices) in
+    write-sram w (a .full) (a .addr) (a .size) (a .value)
+    (c .before .before .before .before .before .before .before .before .before .before .good-size .ensures)
+    (c .before .before .before .before .before .before .before .before .before .if1 .left)
+    (c .before .before .before .before .before .before .before .before .locate .ensures)
+    (c .before .before .before .before .before .before .place2 .given .1) (c .before .before .before .store2 .ensures) (c .done2 .ensures)
 
 enum-known-place-3 : tie.Need-enum-known-place-3
 enum-known-place-3 c = search needs
@@ -60,7 +77,14 @@ same-length-3 : tie.Need-same-length-3
 same-length-3 c = search needs
 
 returns-4 : tie.Need-returns-4
-returns-4 c = let a = (c .before .before .before .before .before .before .before .before .before .before .before .before .before .before .before .args) in write-gpio (world (registersOf (a .own .now) (a .addresses .now) (a .values .now)) (a .rtc .now) (a .page .now) (a .ram .now) (a .sram .now) (a .gpio .now) (a .fb .now) (a .devices)) (a .full) (a .addr) (a .size) (a .value) (c .before .before .before .before .before .before .before .before .before .before .good-size .ensures) (c .before .before .before .before .before .before .before .before .before .if1 .left) (c .before .before .before .before .before .before .before .before .locate .ensures) (c .before .before .before .before .before .before .place3 .given .1) (c .before .before .before .store3 .ensures) (c .done3 .ensures)
+returns-4 c =
+    let a = (c .before .before .before .before .before .before .before .before .before .before .before .before .before .before .before .args) in
+    let w = world (registersOf (a .own .now) (a .addresses .now) (a .values .now)) (a .rtc .now) (a .page .now) (a .ram .now) (a .sram .now) (a .gpio .now) (a .fb .now) (a .devices) in
+    write-gpio w (a .full) (a .addr) (a .size) (a .value)
+    (c .before .before .before .before .before .before .before .before .before .before .good-size .ensures)
+    (c .before .before .before .before .before .before .before .before .before .if1 .left)
+    (c .before .before .before .before .before .before .before .before .locate .ensures)
+    (c .before .before .before .before .before .before .place3 .given .1) (c .before .before .before .store3 .ensures) (c .done3 .ensures)
 
 enum-told : tie.Need-enum-told
 enum-told c = search needs
@@ -81,7 +105,15 @@ same-length-7 : tie.Need-same-length-7
 same-length-7 c = search needs
 
 returns-5 : tie.Need-returns-5
-returns-5 c = let a = (c .before .before .before .before .before .before .before .before .before .before .before .before .before .before .before .before .before .before .before .before .before .before .before .args) in write-register (world (registersOf (a .own .now) (a .addresses .now) (a .values .now)) (a .rtc .now) (a .page .now) (a .ram .now) (a .sram .now) (a .gpio .now) (a .fb .now) (a .devices)) (a .full) (a .addr) (a .size) (a .value) (c .before .before .before .before .before .before .before .before .before .before .before .before .before .before .before .before .before .before .good-size .ensures) (c .before .before .before .before .before .before .before .before .before .before .before .before .before .before .before .before .before .if1 .left) (c .before .before .before .before .before .before .before .before .before .before .before .before .before .before .before .before .locate .ensures) (c .before .before .before .before .before .before .before .before .before .before .before .before .before .before .enum-told .given .1) (c .before .before .before .before .mmio-write .ensures)
+returns-5 c =
+    let a = (c .before .before .before .before .before .before .before .before .before .before .before .before .before .before .before .before .before .before .before .before .before .before .before .args) in
+    let w = world (registersOf (a .own .now) (a .addresses .now) (a .values .now)) (a .rtc .now) (a .page .now) (a .ram .now) (a .sram .now) (a .gpio .now) (a .fb .now) (a .devices) in
+    write-register w (a .full) (a .addr) (a .size) (a .value)
+    (c .before .before .before .before .before .before .before .before .before .before .before .before .before .before .before .before .before .before .good-size .ensures)
+    (c .before .before .before .before .before .before .before .before .before .before .before .before .before .before .before .before .before .if1 .left)
+    (c .before .before .before .before .before .before .before .before .before .before .before .before .before .before .before .before .locate .ensures)
+    (c .before .before .before .before .before .before .before .before .before .before .before .before .before .before .enum-told .given .1)
+    (c .before .before .before .before .mmio-write .ensures)
 
 enum-told-2 : tie.Need-enum-told-2
 enum-told-2 c = search needs
@@ -90,7 +122,12 @@ refused-requires-2 : tie.Need-refused-requires-2
 refused-requires-2 c κs = search needs
 
 returns-6 : tie.Need-returns-6
-returns-6 c = let a = (c .before .before .before .before .before .before .before .before .before .before .args) in write-stray (world (registersOf (a .own .now) (a .addresses .now) (a .values .now)) (a .rtc .now) (a .page .now) (a .ram .now) (a .sram .now) (a .gpio .now) (a .fb .now) (a .devices)) (a .full) (a .addr) (a .size) (a .value) (c .before .before .before .before .before .good-size .ensures) (c .before .before .before .before .if1 .left) (c .before .before .before .locate .ensures) (c .before .enum-told2 .given .1) (c .refused2 .ensures)
+returns-6 c =
+    let a = (c .before .before .before .before .before .before .before .before .before .before .args) in
+    let w = world (registersOf (a .own .now) (a .addresses .now) (a .values .now)) (a .rtc .now) (a .page .now) (a .ram .now) (a .sram .now) (a .gpio .now) (a .fb .now) (a .devices) in
+    write-stray w (a .full) (a .addr) (a .size) (a .value) (c .before .before .before .before .before .good-size .ensures)
+    (c .before .before .before .before .if1 .left) (c .before .before .before .locate .ensures) (c .before .enum-told2 .given .1)
+    (c .refused2 .ensures)
 
 pub write-spec : {M : Type 1} → statement M
 write-spec =

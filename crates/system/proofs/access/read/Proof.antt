@@ -10,7 +10,9 @@ with-own-requires : tie.Need-with-own-requires
 with-own-requires c κs = search needs
 
 returns : tie.Need-returns
-returns c = let a = (c .before .before .before .before .before .before .before .before .before .before .before .before .before .args) in read-done (a .s) (a .ram .now) (a .sram .now) (a .gpio .now) (a .addr) (a .size) (c .before .read .ensures) (c .with-own .ensures)
+returns c =
+    let a = (c .before .before .before .before .before .before .before .before .before .before .before .before .before .args) in
+    read-done (a .s) (a .ram .now) (a .sram .now) (a .gpio .now) (a .addr) (a .size) (c .before .read .ensures) (c .with-own .ensures)
 
 pub read-spec : {M : Type 1} → statement M
 read-spec = tie.close (tie.spec read-requires with-own-requires returns)

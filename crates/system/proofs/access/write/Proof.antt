@@ -26,7 +26,12 @@ same-length-4 : tie.Need-same-length-4
 same-length-4 c = search needs
 
 returns : tie.Need-returns
-returns c = let a = (c .before .before .before .before .before .before .before .before .before .before .before .before .before .before .before .before .before .before .before .before .before .before .before .before .before .before .before .before .before .before .before .before .before .before .before .before .before .before .before .before .args) in write-done (machine (a .s) (a .ram .now) (a .sram .now) (a .gpio .now) (a .fb .now)) (a .addr) (a .size) (a .value) (c .before .before .before .before .before .before .before .before .before .before .before .before .before .before .before .before .full .ensures) (c .before .before .before .before .before .before .before .before .before .before .before .before .before .before .before .write .ensures) (c .before .before .note .ensures)
+returns c =
+    let a = (c .before .before .before .before .before .before .before .before .before .before .before .before .before .before .before .before .before .before .before .before .before .before .before .before .before .before .before .before .before .before .before .before .before .before .before .before .before .before .before .before .args) in
+    write-done (machine (a .s) (a .ram .now) (a .sram .now) (a .gpio .now) (a .fb .now)) (a .addr) (a .size) (a .value)
+    (c .before .before .before .before .before .before .before .before .before .before .before .before .before .before .before .before .full .ensures)
+    (c .before .before .before .before .before .before .before .before .before .before .before .before .before .before .before .write .ensures)
+    (c .before .before .note .ensures)
 
 pub write-spec : {M : Type 1} → statement M
 write-spec =

@@ -13,7 +13,10 @@ with-keys-requires : tie.Need-with-keys-requires
 with-keys-requires c κs = search needs
 
 returns : tie.Need-returns
-returns c = hold-done ((c .before .before .before .args) .s) ((c .before .before .hold-until .result) .refusal) (c .before .key-number .ensures) ((c .before .before .before .args) .key) ((c .before .before .before .args) .until) (c .before .before .hold-until .ensures) (c .with-keys .ensures)
+returns c =
+    hold-done ((c .before .before .before .args) .s) ((c .before .before .hold-until .result) .refusal) (c .before .key-number .ensures)
+    ((c .before .before .before .args) .key) ((c .before .before .before .args) .until) (c .before .before .hold-until .ensures)
+    (c .with-keys .ensures)
 
 pub hold-until-spec : {M : Type 1} → statement M
 hold-until-spec =

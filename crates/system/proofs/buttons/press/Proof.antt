@@ -13,7 +13,12 @@ key-number-requires : tie.Need-key-number-requires
 key-number-requires c κs = search needs
 
 returns : tie.Need-returns
-returns c = press-done ((c .before .before .before .before .before .before .before .before .before .before .before .before .args) .s) ((c .before .before .press .result) .refusal) (c .key-number .ensures) ((c .before .before .before .before .before .before .before .before .before .before .before .before .args) .key) ((c .before .before .before .before .before .before .before .before .before .before .before .before .args) .at) (c .before .before .press .ensures) (c .before .with-keys .ensures)
+returns c =
+    press-done ((c .before .before .before .before .before .before .before .before .before .before .before .before .args) .s)
+    ((c .before .before .press .result) .refusal) (c .key-number .ensures)
+    ((c .before .before .before .before .before .before .before .before .before .before .before .before .args) .key)
+    ((c .before .before .before .before .before .before .before .before .before .before .before .before .args) .at)
+    (c .before .before .press .ensures) (c .before .with-keys .ensures)
 
 pub press-spec : {M : Type 1} → statement M
 press-spec = tie.close (tie.spec press-requires with-keys-requires key-number-requires returns)

@@ -13,7 +13,9 @@ with-keys-requires : tie.Need-with-keys-requires
 with-keys-requires c κs = search needs
 
 returns : tie.Need-returns
-returns c = live-done ((c .before .before .before .args) .s) ((c .before .before .set-live .result) .refusal) (c .before .key-number .ensures) ((c .before .before .before .args) .key) ((c .before .before .before .args) .down) (c .before .before .set-live .ensures) (c .with-keys .ensures)
+returns c =
+    live-done ((c .before .before .before .args) .s) ((c .before .before .set-live .result) .refusal) (c .before .key-number .ensures)
+    ((c .before .before .before .args) .key) ((c .before .before .before .args) .down) (c .before .before .set-live .ensures) (c .with-keys .ensures)
 
 pub set-live-spec : {M : Type 1} → statement M
 set-live-spec =

@@ -22,7 +22,12 @@ same-length : tie.Need-same-length
 same-length c = search needs
 
 returns : tie.Need-returns
-returns c = let a = (c .before .before .before .before .before .before .before .before .before .before .before .before .before .before .before .before .before .before .before .before .before .args) in advance-done (a .s) (a .sram .now) (a .gpio .now) (a .to) (c .before .before .before .before .before .before .before .before .before .before .load .ensures) (c .before .before .before .before .before .advance .ensures) (c .before .before .with-own .ensures) (c .before .with-clocks .ensures) (c .with-keys .ensures)
+returns c =
+    let a = (c .before .before .before .before .before .before .before .before .before .before .before .before .before .before .before .before .before .before .before .before .before .args) in
+    advance-done (a .s) (a .sram .now) (a .gpio .now) (a .to)
+    (c .before .before .before .before .before .before .before .before .before .before .load .ensures)
+    (c .before .before .before .before .before .advance .ensures) (c .before .before .with-own .ensures) (c .before .with-clocks .ensures)
+    (c .with-keys .ensures)
 
 pub advance-spec : {M : Type 1} → statement M
 advance-spec =

@@ -16,10 +16,15 @@ enum-told : tie.Need-enum-told
 enum-told c = search needs
 
 returns : tie.Need-returns
-returns c = turbo-set ((c .before .before .before .before .before .before .before .args) .s) ((c .before .before .before .before .before .before .before .args) .to) (c .before .before .before .before .set-turbo .ensures) (c .before .before .paced .given .1) (c .with-times .ensures)
+returns c =
+    turbo-set ((c .before .before .before .before .before .before .before .args) .s)
+    ((c .before .before .before .before .before .before .before .args) .to) (c .before .before .before .before .set-turbo .ensures)
+    (c .before .before .paced .given .1) (c .with-times .ensures)
 
 returns-2 : tie.Need-returns-2
-returns-2 c = turbo-bad ((c .before .before .before .before .before .args) .s) ((c .before .before .before .before .before .args) .to) (c .before .before .set-turbo .ensures) (c .enum-told .given .1)
+returns-2 c =
+    turbo-bad ((c .before .before .before .before .before .args) .s) ((c .before .before .before .before .before .args) .to)
+    (c .before .before .set-turbo .ensures) (c .enum-told .given .1)
 
 pub set-turbo-spec : {M : Type 1} → statement M
 set-turbo-spec =

@@ -10,7 +10,9 @@ put-in-requires : tie.Need-put-in-requires
 put-in-requires c κs = search needs
 
 returns : tie.Need-returns
-returns c = note-put _ ((c .before .before .before .before .before .before .before .args) .devices) ((c .before .put-in .result) .refusal) (c .before .before .before .before .before .before .if1 .taken) (c .before .before .sound-now .ensures) (c .before .put-in .ensures)
+returns c =
+    note-put _ ((c .before .before .before .before .before .before .before .args) .devices) ((c .before .put-in .result) .refusal)
+    (c .before .before .before .before .before .before .if1 .taken) (c .before .before .sound-now .ensures) (c .before .put-in .ensures)
 
 returns-2 : tie.Need-returns-2
 returns-2 c = note-none _ ((c .before .args) .devices) (c .if1 .left)

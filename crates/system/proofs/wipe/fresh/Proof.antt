@@ -22,7 +22,11 @@ clear-requires : tie.Need-clear-requires
 clear-requires c κs = search needs
 
 returns : tie.Need-returns
-returns c = system-fresh (c .before .before .before .before .before .before .before .before .before .new .ensures) (c .before .before .before .before .before .before .before .before .fresh .ensures) (c .before .before .before .before .before .before .before .fresh2 .ensures) (c .before .before .before .before .fresh-devices .ensures) (c .before .before .before .empty .ensures) (c .clear .ensures)
+returns c =
+    system-fresh (c .before .before .before .before .before .before .before .before .before .new .ensures)
+    (c .before .before .before .before .before .before .before .before .fresh .ensures)
+    (c .before .before .before .before .before .before .before .fresh2 .ensures) (c .before .before .before .before .fresh-devices .ensures)
+    (c .before .before .before .empty .ensures) (c .clear .ensures)
 
 pub fresh-spec : {M : Type 1} → statement M
 fresh-spec =

@@ -19,7 +19,9 @@ silent-requires : tie.Need-silent-requires
 silent-requires c κs = search needs
 
 returns : tie.Need-returns
-returns c = devices-fresh (c .before .before .before .before .before .before .new .ensures) (c .before .before .before .fresh2 .ensures) (c .before .before .fresh3 .ensures) (c .before .before .before .before .before .fresh .ensures) (c .silent .ensures)
+returns c =
+    devices-fresh (c .before .before .before .before .before .before .new .ensures) (c .before .before .before .fresh2 .ensures)
+    (c .before .before .fresh3 .ensures) (c .before .before .before .before .before .fresh .ensures) (c .silent .ensures)
 
 pub fresh-devices-spec : {M : Type 1} → statement M
 fresh-devices-spec =

@@ -19,7 +19,8 @@ fresh-requires : tie.Need-fresh-requires
 fresh-requires c κs = search needs
 
 same-length : tie.Need-same-length
-same-length c = (c .before .before .before .before .before .before .before .before .before .before .before .before .before .before .before .clear .kept .0)
+same-length c =
+    (c .before .before .before .before .before .before .before .before .before .before .before .before .before .before .before .clear .kept .0)
 
 same-length-2 : tie.Need-same-length-2
 same-length-2 c = search needs
@@ -32,7 +33,9 @@ same-length-4 c = search needs
 
 returns : tie.Need-returns
 unfolding wipedOf
-returns c = rw ((c .before .before .before .before .before .before .before .before .before .before .before .before .before .before .before .clear .ensures), (c .before .before .before .before .before .before .before .before .before .before .before .clear2 .ensures), (c .before .before .before .before .before .before .before .clear3 .ensures), (c .before .before .before .clear4 .ensures), (c .fresh .ensures))
+returns c =
+    rw
+    ((c .before .before .before .before .before .before .before .before .before .before .before .before .before .before .before .clear .ensures), (c .before .before .before .before .before .before .before .before .before .before .before .clear2 .ensures), (c .before .before .before .before .before .before .before .clear3 .ensures), (c .before .before .before .clear4 .ensures), (c .fresh .ensures))
 
 pub wipe-spec : {M : Type 1} → statement M
 wipe-spec =
