@@ -1,12 +1,9 @@
 // Answers a list of steps for the whole bus: see README.md beside src/.
-mod access;
+mod answers;
 mod bytes;
+mod calls;
 mod look;
-mod machine;
-mod moves;
 mod numbers;
-mod presses;
-mod sound;
 mod step;
 mod talk;
 

@@ -6,10 +6,10 @@ use Rattle.replay_bus.proofs.talk.serve.Statement.{statement}
 use Rattle.replay_bus.proofs.talk.serve.Tie as tie
 
 abbrev Inv-loop : tie.InvT-loop
-Inv-loop input output ram₀ sram₀ gpio₀ fb₀ machine₀ turns₀ ram sram gpio fb machine turns = turns ≤ 0xFFFF_FFFF_FFFF_FFFF
+Inv-loop input output ram₀ sram₀ gpio₀ fb₀ s₀ turns₀ ram sram gpio fb s turns = turns ≤ 0xFFFF_FFFF_FFFF_FFFF
 
 abbrev μ-loop : tie.MeasureT-loop
-μ-loop input output ram₀ sram₀ gpio₀ fb₀ machine₀ turns₀ ram sram gpio fb machine turns = turns
+μ-loop input output ram₀ sram₀ gpio₀ fb₀ s₀ turns₀ ram sram gpio fb s turns = turns
 
 fresh-requires : tie.Need-fresh-requires Inv-loop μ-loop
 fresh-requires c κs = search needs
