@@ -16,10 +16,9 @@ use Rattle.memory.specs.Access.{goodSize, cutOf}
 use Rattle.timer.specs.Timers.{controlOf, counterOf}
 use Rattle.clock.specs.Day.{todOf, fieldOf}
 use Rattle.time.specs.declared.Clocks.{Clocks}
-use Rattle.time.specs.Irq.{pendingOf}
+use Rattle.time.specs.Irq.{none, pendingOf}
 use Rattle.bus.specs.declared.Devices.{Devices}
 use Rattle.bus.specs.declared.Got.{Got}
-use Rattle.bus.specs.Sounds.{none}
 use Rattle.bus.specs.Words.{controlAt, fieldAt}
 use Rattle.bus.specs.Write.{wordOf, clockIn}
 

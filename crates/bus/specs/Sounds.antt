@@ -2,10 +2,8 @@
 use Prim.Native.Nat.{ℕ}
 use mathlib.Core.Bool.{Bool, true, cond}
 use mathlib.Core.List.{List}
-use lib.ListN.{getD, set}
+use lib.ListN.{getD}
 use lib.Dec.{eqb}
-use lib.Ieee.{nan}
-use mathlib.Core.Bool.{false}
 use Rattle.registers.specs.Words.{ownAt, ownWith}
 use Rattle.timer.specs.declared.Timer.{Timer}
 use Rattle.timer.specs.declared.Tone.{Tone}
@@ -14,19 +12,13 @@ use Rattle.timer.specs.declared.Sounded.{Sounded}
 use Rattle.timer.specs.declared.Sounded.the-variants.{Same, Change, SoundFull}
 use Rattle.timer.specs.Timers.{writtenOf}
 use Rattle.timer.specs.Sound.{toneOf, soundedOf}
-use Rattle.time.specs.declared.Clocks.{Clocks}
+use Rattle.time.specs.Irq.{none}
+use Rattle.time.specs.Within.{timerWith}
 use Rattle.bus.specs.declared.Devices.{Devices}
 use Rattle.bus.specs.World.{Said, said, answer, well, withClocks, withTone}
 
--- stands for a timer past the sixth, which there is none of
-abbrev pub none : Timer
-none = record { start = nan; seen = 0; pending = false }
-
-abbrev pub timersSet : Clocks → List Timer → Clocks
-timersSet c x = record { times = c .times; timers = x; irq = c .irq; vsync = c .vsync; converting = c .converting }
-
 abbrev pub timerSet : Devices → ℕ → Timer → Devices
-timerSet d n t = withClocks d (timersSet (d .clocks) (set (d .clocks .timers) n t))
+timerSet d n t = withClocks d (timerWith (d .clocks) n t)
 
 -- the buzzer by timer 4's control, reload and compare words, once one of them is v
 unfoldable pub soundOf : List ℕ → Tone → ℕ → Bool → ℕ → ℕ → Sounded

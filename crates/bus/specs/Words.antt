@@ -7,9 +7,9 @@ use lib.Bits.{bitAnd, bitOr, bitXor}
 use Rattle.whole.specs.Words.{lacks}
 use Rattle.registers.specs.Words.{ownAt, ownWith}
 use Rattle.clock.specs.declared.Adc.{Adc}
-use Rattle.clock.specs.declared.RtcIrq.{RtcIrq}
 use Rattle.clock.specs.Adc.{writtenOf}
 use Rattle.clock.specs.Day.{setOf}
+use Rattle.time.specs.Within.{irqWith, convertingWith}
 use Rattle.bus.specs.declared.Devices.{Devices}
 use Rattle.bus.specs.World.{Said, well, withClocks, withOff}
 use Rattle.bus.specs.Sounds.{soundWritten, timerWritten}
@@ -42,9 +42,7 @@ unfoldable pub spiSent : List ℕ → ℕ → List ℕ
 spiSent own new = idle (ownWith (ownWith own 0xC0080008 new) 0xC0080010 0)
 
 abbrev pub adcSet : Devices → Bool → Devices
-adcSet d x =
-    withClocks d
-    (record { times = d .clocks .times; timers = d .clocks .timers; irq = d .clocks .irq; vsync = d .clocks .vsync; converting = x })
+adcSet d x = withClocks d (convertingWith (d .clocks) x)
 
 abbrev pub adcAfter : Adc → List ℕ → Devices → Said
 adcAfter x own d = well (ownWith own 0xC00C0004 (x .control)) (adcSet d (x .converting))
@@ -53,13 +51,8 @@ unfoldable pub adcWritten : List ℕ → Devices → ℕ → ℕ → Said
 adcWritten own d old new =
     adcAfter (writtenOf (record { converting = d .clocks .converting; control = old; result = ownAt own 0xC00C0008 }) new) own d
 
-abbrev pub irqSet : Devices → RtcIrq → Devices
-irqSet d x =
-    withClocks d
-    (record { times = d .clocks .times; timers = d .clocks .timers; irq = x; vsync = d .clocks .vsync; converting = d .clocks .converting })
-
 unfoldable pub daySet : Devices → ℕ → ℕ → Devices
-daySet d field new = irqSet d (setOf (d .clocks .irq) (d .clocks .times .game) field new)
+daySet d field new = withClocks d (irqWith (d .clocks) (setOf (d .clocks .irq) (d .clocks .times .game) field new))
 
 -- old: what the word holds; new: the merged word; part: the bits that were written. The last are timer 4's reload and compare words.
 unfoldable pub wordWritten : List ℕ → Devices → ℕ → Bool → ℕ → ℕ → ℕ → ℕ → Said

@@ -1,21 +1,15 @@
 // Reads on the bus: slow_read and mmio_read.
 ghost use mathlib.Core.Path.{_≡_};
-ghost use mathlib.Core.Bool.{cond};
 ghost use Prim.Native.Nat.{_<_};
 ghost use Rattle.registers.specs.Words.{registersOf};
 ghost use Rattle.bus.specs.Read.{statusOf, counterAt, baseOf, dayRead, timerRead, counterRead, movedValue, valueOf, afterRead, got, given, regRead, readOf};
 use crate::Devices;
 use crate::Got;
+use crate::sounds::keep;
 use crate::words::control_at;
 use crate::words::field_at;
 use memory::Place;
 use time::Clocks;
-
-fn keep(here: bool, a: u32, b: u32) -> u32
-    ensures { λ r. ⌜ r ≡ cond here a b ⌝ }
-{
-    if here { a } else { b }
-}
 
 fn clock_status(own: &[u32; 76]) -> u32
     ensures { λ r. ⌜ r ≡ statusOf (now (own .entry)) ⌝ }

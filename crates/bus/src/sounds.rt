@@ -10,7 +10,7 @@ use timer::Sounded;
 use timer::Timer;
 use timer::Tone;
 
-fn keep(here: bool, a: u32, b: u32) -> u32
+pub(crate) fn keep(here: bool, a: u32, b: u32) -> u32
     ensures { λ r. ⌜ r ≡ cond here a b ⌝ }
 {
     if here { a } else { b }

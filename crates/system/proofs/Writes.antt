@@ -34,12 +34,13 @@ use Rattle.clock.proofs.RtcLimits.{commands-latched}
 use Rattle.time.specs.declared.Clocks.{Clocks}
 use Rattle.time.specs.Within.{ClocksWithin}
 use Rattle.time.proofs.Limits.{timer-within, day-within, adc-within}
+use Rattle.time.specs.Irq.{none}
 use Rattle.bus.specs.declared.Devices.{Devices}
 use Rattle.bus.specs.World.{World, Out, Said, devicesOf, withClocks}
 use Rattle.bus.specs.Chip.{selectWritten, sendWritten}
 use Rattle.bus.specs.Rtc.{commandWritten}
 use Rattle.bus.specs.Screen.{Copied, copied, dmaDone, acted, controlled}
-use Rattle.bus.specs.Sounds.{none, timerSet, soundOf, soundWritten, timerWritten}
+use Rattle.bus.specs.Sounds.{timerSet, soundOf, soundWritten, timerWritten}
 use Rattle.bus.specs.Words.{controlAt, spiSent, adcWritten, daySet, wordWritten}
 use Rattle.bus.specs.Write.{clockIn, storedWord, wordOf, regWritten}
 use Rattle.bus.specs.Write as write
