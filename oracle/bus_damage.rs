@@ -21,7 +21,7 @@ impl Author {
         let command = self.random.pick(&[0x02, 0x02, 0x02, 0x20, 0x52]);
         let good = with_address(command, address, &data);
         let mut bad = good.clone();
-        self.damage_bytes(&mut bad);
+        self.random.damage(&mut bad);
         self.frame(&[0x06]);
         self.frame(&bad);
         self.list.digest(0);
@@ -37,26 +37,13 @@ impl Author {
         let good = self.data(12);
         let mut bad = good.clone();
         for _ in 0..self.random.between(1, 3) {
-            self.damage_bytes(&mut bad);
+            self.random.damage(&mut bad);
         }
         for bytes in [bad, good] {
             self.send_command(0x2C);
             self.send(&bytes);
             self.list.digest(3);
             self.pixel();
-        }
-    }
-
-    fn damage_bytes(&mut self, bytes: &mut Vec<u8>) {
-        let (byte, at) = (self.random.byte(), self.random.below(bytes.len() + 1));
-        match self.random.below(4) {
-            0 => bytes.insert(at, byte),
-            1 => bytes.truncate(at),
-            _ if at == bytes.len() => bytes.push(byte),
-            2 => {
-                bytes.remove(at);
-            }
-            _ => bytes[at] = byte,
         }
     }
 }

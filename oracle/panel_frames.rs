@@ -62,7 +62,7 @@ pub fn damage(author: &mut Author) {
     author.command(PAINT);
     let mut bytes = author.bytes(whole);
     for _ in 0..author.random.between(1, 3) {
-        damage_bytes(author, &mut bytes);
+        author.random.damage(&mut bytes);
     }
     author.data(&bytes);
     author.look();
@@ -70,20 +70,6 @@ pub fn damage(author: &mut Author) {
     author.any_data(whole);
     author.list.look_checksums();
     author.look();
-}
-
-fn damage_bytes(author: &mut Author, bytes: &mut Vec<u8>) {
-    let byte = author.random.byte();
-    let at = author.random.below(bytes.len() + 1);
-    match author.random.below(4) {
-        0 => bytes.insert(at, byte),
-        1 => bytes.truncate(at),
-        _ if at == bytes.len() => bytes.push(byte),
-        2 => {
-            bytes.remove(at);
-        }
-        _ => bytes[at] = byte,
-    }
 }
 
 /// State that no run leaves, put in place: the pen beyond the window or off

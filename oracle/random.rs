@@ -35,4 +35,20 @@ impl Random {
     pub fn pick<T: Copy>(&mut self, from: &[T]) -> T {
         from[self.below(from.len())]
     }
+
+    /// A byte too many, one missing, one altered, or the end cut off. Only the
+    /// generators with a family for damage use it.
+    #[allow(dead_code)]
+    pub fn damage(&mut self, bytes: &mut Vec<u8>) {
+        let (byte, at) = (self.byte(), self.below(bytes.len() + 1));
+        match self.below(4) {
+            0 => bytes.insert(at, byte),
+            1 => bytes.truncate(at),
+            _ if at == bytes.len() => bytes.push(byte),
+            2 => {
+                bytes.remove(at);
+            }
+            _ => bytes[at] = byte,
+        }
+    }
 }
