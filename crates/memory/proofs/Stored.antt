@@ -12,16 +12,13 @@ use lib.ListN.{length, getD, set, length-set}
 use lib.Seq.{sets, length-sets, getD-set-same, getD-set-other}
 use lib.Dec.{leb}
 use borrow.Author.Tests.{le-leb}
+use Rattle.whole.proofs.Words.{either}
 use Rattle.memory.specs.Bytes.{le, loaded, bytesOf, storedAt}
 
 -- ---- a store that passes the end, or not
-by-fit : (P : List ℕ → Type 0) (t : Bool) (m k : List ℕ) → P k → P m → P (cond t k m)
-by-fit P true m k h g = h
-by-fit P false m k h g = g
-
 pub store-length : (m : List ℕ) (o n v : ℕ) → length (storedAt m o n v) ≡ length m
 unfolding storedAt
-store-length m o n v = by-fit (λ (k : List ℕ). length k ≡ length m) (leb (o + n) (length m)) m _ (length-sets m o (bytesOf n v)) refl
+store-length m o n v = either (λ (k : List ℕ). length k ≡ length m) (leb (o + n) (length m)) (sets m o (bytesOf n v)) m (length-sets m o (bytesOf n v)) refl
 
 -- ---- bytes outside what is stored
 
@@ -44,7 +41,7 @@ sets-other (suc n) m o v p h = sets-other n (set m o (v % 256)) (suc o) (v / 256
 
 pub byte-other : (m : List ℕ) (o n v p : ℕ) → Outside o n p → getD (storedAt m o n v) p 0 ≡ getD m p 0
 unfolding storedAt
-byte-other m o n v p h = by-fit (λ (k : List ℕ). getD k p 0 ≡ getD m p 0) (leb (o + n) (length m)) m _ (sets-other n m o v p h) refl
+byte-other m o n v p h = either (λ (k : List ℕ). getD k p 0 ≡ getD m p 0) (leb (o + n) (length m)) (sets m o (bytesOf n v)) m (sets-other n m o v p h) refl
 
 -- the same bytes are the same number
 le-same : (n : ℕ) (k m : List ℕ) (o : ℕ) → ((i : ℕ) → o ≤ i → i < o + n → getD k i 0 ≡ getD m i 0) → le k o n ≡ le m o n

@@ -1,6 +1,6 @@
 -- What operations carry to the flash and to the panel, whichever register words brought it there.
 use Prim.Native.Nat.{ℕ, _+_, _/_, _%_, _^_, _≤_, _<_}
-use mathlib.Core.Bool.{Bool, true, false, cond, _&&_}
+use mathlib.Core.Bool.{Bool, cond, _&&_}
 use mathlib.Core.List.{List, [], _∷_, _++_}
 use lib.ListN.{length, take}
 use lib.Dec.{eqb}
@@ -22,6 +22,7 @@ use Rattle.bus.specs.Block.{blockOf}
 use Rattle.bus.specs.Screen.{withControl}
 use Rattle.bus.specs.Write.{wordOf}
 use Rattle.system.specs.System.{Machine}
+use Rattle.system.specs.Refusals.{isRegister}
 use Rattle.system.specs.Steps.{
   Op,
   read,
@@ -88,16 +89,9 @@ kindOf irqWanted = other
 
 -- ---- a word that is written
 
-abbrev pub atRegister : Place → Bool
-atRegister (Ram o) = false
-atRegister (Sram o) = false
-atRegister (Gpio o) = false
-atRegister Register = true
-atRegister Stray = false
-
 -- a write that is not refused for its size, at a register
 unfoldable pub lands : ℕ → ℕ → Bool
-lands a n = goodSize n && atRegister (placeOf a)
+lands a n = goodSize n && isRegister (placeOf a)
 
 -- what the word becomes
 abbrev pub mergedIn : Machine → ℕ → ℕ → ℕ → ℕ
