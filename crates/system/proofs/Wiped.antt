@@ -32,14 +32,12 @@ pub wipe-same : (m n : Machine) → SameLengths m n → step m wipe ≡ step n w
 unfolding step
 wipe-same m n same = rw (same .ram, same .sram, same .gpio, same .fb)
 
--- what operation o answers and leaves, after a wipe and whatever came later
-pub wipe-forgets : (m n : Machine) (before others later : List Op) (o : Op) → SameLengths m n
-    → step (after m (before ++ (wipe ∷ later))) o ≡ step (after n (others ++ (wipe ∷ later))) o
+-- the machine after a wipe and whatever came later
+pub wipe-after : (m n : Machine) (before others later : List Op) → SameLengths m n → after m (before ++ (wipe ∷ later)) ≡ after n (others ++ (wipe ∷ later))
 unfolding after
-wipe-forgets m n before others later o same =
-    ap (λ (x : Machine). step x o)
-    (after-both m before (wipe ∷ later) ∙ ap (λ (x : Outcome). after (x .machine) later) (wipe-same (after m before) (after n others) lengths)
-    ∙ sym (after-both n others (wipe ∷ later)))
+wipe-after m n before others later same =
+    after-both m before (wipe ∷ later) ∙ ap (λ (x : Outcome). after (x .machine) later) (wipe-same (after m before) (after n others) lengths)
+    ∙ sym (after-both n others (wipe ∷ later))
   where
     lengths : SameLengths (after m before) (after n others)
     lengths =
@@ -51,3 +49,8 @@ wipe-forgets m n before others later o same =
           gpio = p .gpio ∙ same .gpio ∙ sym (q .gpio);
           fb = p .fb ∙ same .fb ∙ sym (q .fb);
         }
+
+-- what operation o then answers and leaves
+pub wipe-forgets : (m n : Machine) (before others later : List Op) (o : Op) → SameLengths m n
+    → step (after m (before ++ (wipe ∷ later))) o ≡ step (after n (others ++ (wipe ∷ later))) o
+wipe-forgets m n before others later o same = ap (λ (x : Machine). step x o) (wipe-after m n before others later same)

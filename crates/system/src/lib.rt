@@ -6,7 +6,7 @@ pub mod access;
 pub mod buttons;
 pub mod look;
 pub mod moment;
-mod parts;
+pub mod parts;
 pub mod wipe;
 
 use bus::Devices;

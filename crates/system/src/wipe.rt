@@ -7,7 +7,8 @@ use crate::Presses;
 use crate::System;
 use bus::Devices;
 
-fn fresh_devices() -> Devices
+// The devices as they are after a wipe.
+pub fn fresh_devices() -> Devices
     ensures { λ r. ⌜ r ≡ freshDevices ⌝ }
 {
     let made = flash::SpiFlash::new();
@@ -53,7 +54,7 @@ pub fn fresh() -> System
     }
 }
 
-fn clear(m: &mut [u8])
+pub fn clear(m: &mut [u8])
     ensures { λ _. ⌜ now (m .exit) ≡ replicate (length (now (m .entry))) 0 ⌝ }
 {
     let n = m.len();

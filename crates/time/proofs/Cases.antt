@@ -83,14 +83,19 @@ module _ (own gpio : List ℕ) (times : List Float) (codes : List ℕ) (c : Cloc
   unfolding movedTo
   moved-to t o g clocks held applied d h l = rw (← d, ← h, ← l)
 
-  module _ (to : Float) (m : Moved) (e : m ≡ movedOf (c .times) to) where
-    pub moves-on : (t : Times) (o : Outcome) → m ≡ To t → o ≡ movedTo own gpio times codes c k clock t → o ≡ advanceOf own gpio times codes c k clock to
-    unfolding advanceOf moved
-    moves-on t o h n = rw (← e, h) n
+  module _ (m : Moved) where
+    pub moves-on : (t : Times) (o : Outcome) → m ≡ To t → o ≡ movedTo own gpio times codes c k clock t → o ≡ moved own gpio times codes c k clock m
+    unfolding moved
+    moves-on t o h n = rw h n
 
-    pub stays : m ≡ BadTime → outcome own gpio 1 c (k .applied) ≡ advanceOf own gpio times codes c k clock to
-    unfolding advanceOf moved
-    stays h = rw (← e, h)
+    pub stays : m ≡ BadTime → outcome own gpio 1 c (k .applied) ≡ moved own gpio times codes c k clock m
+    unfolding moved
+    stays h = rw h
+
+    pub moved-by : (to : Float) (o : Outcome) → m ≡ movedOf (c .times) to → o ≡ moved own gpio times codes c k clock m
+        → o ≡ advanceOf own gpio times codes c k clock to
+    unfolding advanceOf
+    moved-by to o e h = rw (← e) h
 
 -- ---- the next event
 module _ (own : List ℕ) (n : ℕ) (t : Timer) (clock : ℕ) (so : Float) (control : ℕ) (b : Bool) (h : control ≡ controlAt own n) (e : b ≡ runs control) where

@@ -4,7 +4,8 @@
 ghost use mathlib.Core.Path.{_≡_};
 ghost use Prim.Native.Nat.{_<_};
 ghost use Rattle.time.specs.Advance.{timerAfter, timersAfter, synced, syncedOf, converted, convertedIn, ticked, tickedIn};
-ghost use Rattle.time.specs.Advance.{devices, devicesOf, advanced, movedTo, advanceOf};
+ghost use lib.Ieee.{binary64, ofBits};
+ghost use Rattle.time.specs.Advance.{devices, devicesOf, advanced, movedTo, moved, advanceOf};
 use crate::Advanced;
 use crate::Clocks;
 use clock::Adc;
@@ -112,6 +113,30 @@ fn move_to(
     }
 }
 
+// What follows once game time and now have moved, or were refused.
+fn go(
+    own: &mut [u32; 76],
+    gpio: &mut [u8],
+    times: &[f64; 64],
+    codes: &[u8; 64],
+    c: Clocks,
+    k: Keys,
+    clock: u32,
+    to: Moved,
+) -> Advanced
+    ensures { λ r. ⌜ advanced (now (own .exit)) (now (gpio .exit)) r
+        ≡ moved (now (own .entry)) (now (gpio .entry)) (now (times .entry)) (now (codes .entry)) c k clock to ⌝ }
+{
+    match to {
+        Moved::To(t) => move_to(own, gpio, times, codes, c, k, clock, t),
+        Moved::BadTime => Advanced {
+            refusal: 1,
+            clocks: c,
+            applied: k.applied,
+        },
+    }
+}
+
 // Bring the hardware up to emulated time `to`. `times` and `codes` are the presses', `clock` the SRAM word at 0xF80090A4.
 pub fn advance(
     own: &mut [u32; 76],
@@ -127,12 +152,23 @@ pub fn advance(
         ≡ advanceOf (now (own .entry)) (now (gpio .entry)) (now (times .entry)) (now (codes .entry)) c k clock to ⌝ }
 {
     let moved = clock::time::advance(c.times, to);
-    match moved {
-        Moved::To(t) => move_to(own, gpio, times, codes, c, k, clock, t),
-        Moved::BadTime => Advanced {
-            refusal: 1,
-            clocks: c,
-            applied: k.applied,
-        },
-    }
+    go(own, gpio, times, codes, c, k, clock, moved)
+}
+
+// The same from the bits of `to`, which become a float only where they are a good time.
+pub fn advance_bits(
+    own: &mut [u32; 76],
+    gpio: &mut [u8],
+    times: &[f64; 64],
+    codes: &[u8; 64],
+    c: Clocks,
+    k: Keys,
+    clock: u32,
+    bits: u64,
+) -> Advanced
+    ensures { λ r. ⌜ advanced (now (own .exit)) (now (gpio .exit)) r
+        ≡ advanceOf (now (own .entry)) (now (gpio .entry)) (now (times .entry)) (now (codes .entry)) c k clock (ofBits binary64 bits) ⌝ }
+{
+    let moved = clock::time::advance_bits(c.times, bits);
+    go(own, gpio, times, codes, c, k, clock, moved)
 }
