@@ -1,0 +1,8 @@
+-- What each entry does, laws of the loops and of the output, and the theorems.
+pub mod Turns
+pub mod Starts
+pub mod Runs
+pub mod Laid
+pub mod Fold
+pub mod Wiped
+pub mod Unique

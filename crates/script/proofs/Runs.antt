@@ -1,0 +1,130 @@
+-- A script's loops and ends: what the code computes on the way, and the definitions.
+use Prim.Native.Nat.{ℕ, suc, _+_, _-_, _*_, _%_, _^_, _≤_, _<_}
+use mathlib.Core.Path.{_≡_, refl, sym, ap, _∙_}
+use mathlib.Core.Bool.{Bool, true, false, not, _&&_}
+use mathlib.Core.List.{List}
+use native.Mathlib.Nat.{sub-zero}
+use native.Mathlib.Omega.{arith}
+use lib.Dec.{ltb}
+use lib.ListN.{length}
+use borrow.Author.Tests.{eq-eqb, ne-eqb, lt-ltb, le-ltb, ltb-true, ltb-false}
+use Rattle.memory.specs.Bytes.{loaded, storedAt}
+use Rattle.system.specs.declared.System.{System}
+use Rattle.system.specs.System.{Machine, machine, freshSystem}
+use Rattle.script.specs.declared.Entry.{Entry}
+use Rattle.script.specs.Format.{pressesIn, stepsIn, entriesIn, kindIn, kindsFrom, badWith, badScript, entryAt, entriesFrom}
+use Rattle.script.specs.Answers.{laid}
+use Rattle.script.specs.Script.{Turn, turnOf, Ran, ran, ranOf, Ended, ended, endOf, badMemory, outTooShort, runOf, scriptOf}
+
+-- ---- the kinds of n steps
+
+module _ (s : List ℕ) (at n : ℕ) where
+  one-of : 0 < n → kindIn (loaded s at 1) && kindsFrom s (at + 16) (n - 1) ≡ kindsFrom s at n
+  unfolding kindsFrom
+  one-of h = let z : suc (n - 1) ≡ n = omega arith in ap (kindsFrom s at) z
+
+  pub kinds-more : (k : ℕ) → 0 < n → k ≡ loaded s at 1 → kindIn k ≡ true → kindsFrom s (at + 16) (n - 1) ≡ kindsFrom s at n
+  kinds-more k h e t = let f : kindIn (loaded s at 1) ≡ true = rw (← e) t in rw f at (one-of h)
+
+  pub kinds-not : (k : ℕ) → 0 < n → k ≡ loaded s at 1 → kindIn k ≡ false → false ≡ kindsFrom s at n
+  kinds-not k h e t = let f : kindIn (loaded s at 1) ≡ false = rw (← e) t in rw f at (one-of h)
+
+  pub kinds-end : n ≤ 0 → true ≡ kindsFrom s at n
+  unfolding kindsFrom
+  kinds-end h = let z : n ≡ 0 = omega arith in rw z
+
+-- ---- 10 BadScript
+
+module _ (s : List ℕ) (p : ℕ) (e : p ≡ pressesIn s) where
+  bad-with : (n : ℕ) → n ≡ stepsIn s p → badWith s p n ≡ badScript s
+  unfolding badScript
+  bad-with n h = rw (h, e)
+
+  pub bad-presses : 4096 < p → true ≡ badScript s
+  bad-presses h = rw (lt-ltb _ _ h) refl ∙ bad-with (stepsIn s p) refl
+
+  module _ (l : p ≤ 4096) (n : ℕ) (h : n ≡ stepsIn s p) where
+    pub bad-steps : 4096 < n → true ≡ badScript s
+    bad-steps g = rw (le-ltb _ _ l, lt-ltb _ _ g) refl ∙ bad-with n h
+
+    pub bad-length : n ≤ 4096 → (length s ≡ 8 + 9 * p + 16 * n → ⊥) → true ≡ badScript s
+    bad-length g d = rw (le-ltb _ _ l, le-ltb _ _ g, ne-eqb _ _ d) refl ∙ bad-with n h
+
+    pub bad-kinds : n ≤ 4096 → length s ≡ 8 + 9 * p + 16 * n → (k : Bool) → k ≡ kindsFrom s (8 + 9 * p) n → not k ≡ badScript s
+    bad-kinds g d k i = rw (le-ltb _ _ l, le-ltb _ _ g, eq-eqb _ _ d, ← i) refl ∙ bad-with n h
+
+-- of a script that is none of these the counts are at most 4,096
+module _ (s : List ℕ) (b : badScript s ≡ false) where
+  presses-few : pressesIn s ≤ 4096
+  presses-few = by (ltb 4096 (pressesIn s)) refl
+    where
+      by : (t : Bool) → ltb 4096 (pressesIn s) ≡ t → pressesIn s ≤ 4096
+      by true t = let z : true ≡ false = bad-presses s (pressesIn s) refl (ltb-true _ _ t) ∙ b in let y : _≡_ {A = ℕ} 0 1 = cc in omega arith
+      by false t = ltb-false _ _ t
+
+  steps-few : stepsIn s (pressesIn s) ≤ 4096
+  steps-few = by (ltb 4096 (stepsIn s (pressesIn s))) refl
+    where
+      by : (t : Bool) → ltb 4096 (stepsIn s (pressesIn s)) ≡ t → stepsIn s (pressesIn s) ≤ 4096
+      by true t = let z : true ≡ false = bad-steps s (pressesIn s) refl presses-few _ refl (ltb-true _ _ t) ∙ b in let y : _≡_ {A = ℕ} 0 1 = cc in omega arith
+      by false t = ltb-false _ _ t
+
+module _ (s : List ℕ) {b : Bool} (e : b ≡ badScript s) (h : b ≡ false) {p : ℕ} (i : p ≡ pressesIn s) where
+  pub few-presses : p ≤ 4096
+  few-presses = rw i (presses-few s (sym e ∙ h))
+
+  pub few : {k : ℕ} → k ≡ stepsIn s p → (p ≤ 4096) × (k ≤ 4096)
+  few j = (few-presses, rw (j, i) (steps-few s (sym e ∙ h)))
+
+-- so the count fits four bytes
+pub few-entries : (s : List ℕ) → badScript s ≡ false → entriesIn s % 2 ^ 32 ≡ entriesIn s
+few-entries s b =
+    let p : pressesIn s ≤ 4096 = presses-few s b in
+    let n : stepsIn s (pressesIn s) ≤ 4096 = steps-few s b in
+    omega arith
+
+-- ---- the loop over entries
+
+module _ (s : List ℕ) (p n : ℕ) where
+  pub run-start : (t : Ran) → ranOf t 4 (entriesFrom s p (n - 0) 0) ≡ ranOf t 4 (entriesFrom s p n 0)
+  run-start t = rw sub-zero
+
+  pub run-more : (i : ℕ) (m : Machine) (l : List ℕ) {e : Entry} {x : Turn} {l′ : List ℕ} → i < n → e ≡ entryAt s p i → x ≡ turnOf m e → l′ ≡ laid l (4 + 25 * i) (x .answer)
+      → ranOf (ran (x .machine) l′) (4 + 25 * (i + 1)) (entriesFrom s p (n - (i + 1)) (i + 1)) ≡ ranOf (ran m l) (4 + 25 * i) (entriesFrom s p (n - i) i)
+  unfolding ranOf entriesFrom
+  run-more i m l h e f g =
+      let z : n - i ≡ suc (n - (i + 1)) = omega arith in
+      let y : 4 + 25 * (i + 1) ≡ 4 + 25 * i + 25 = omega arith in
+      rw (z, y, g, f, e)
+
+  pub run-end : (i : ℕ) (t u : Ran) → n ≤ i → ranOf t (4 + 25 * i) (entriesFrom s p (n - i) i) ≡ u → t ≡ u
+  unfolding ranOf entriesFrom
+  run-end i t u h e =
+      let z : n - i ≡ 0 = omega arith in
+      let y : ranOf t (4 + 25 * i) (entriesFrom s p 0 i) ≡ u = rw z at e in
+      y
+
+-- ---- the ends of a script
+
+module _ (m r g f s l : List ℕ) where
+  pub run-bad : {b : Bool} → b ≡ badScript s → b ≡ true → ended 10 m r g f l ≡ runOf m r g f s l
+  unfolding runOf
+  run-bad e h = rw (← e, h)
+
+  module _ {b : Bool} (e : b ≡ badScript s) (h : b ≡ false) {p k : ℕ} (i : p ≡ pressesIn s) (j : k ≡ stepsIn s p) where
+    pub run-short : length l < 4 + 25 * (p + k) → ended 11 m r g f l ≡ runOf m r g f s l
+    unfolding runOf outTooShort
+    run-short d = rw (← e, h, ← i, ← j, lt-ltb _ _ d)
+
+    pub run-done : 4 + 25 * (p + k) ≤ length l → {l′ : List ℕ} {x : System} {t : Ran} → l′ ≡ storedAt l 0 4 (p + k) → x ≡ freshSystem
+        → t ≡ ranOf (ran (machine x m r g f) l′) 4 (entriesFrom s p (p + k) 0) → endOf t ≡ runOf m r g f s l
+    unfolding runOf outTooShort
+    run-done d y x t = rw (← e, h, ← i, ← j, le-ltb _ _ d, ← y, ← x, ← t)
+
+  pub script-bad : {b : Bool} → b ≡ badMemory m r g f → b ≡ true → ended 7 m r g f l ≡ scriptOf m r g f s l
+  unfolding scriptOf
+  script-bad e h = rw (← e, h)
+
+  pub script-run : {b : Bool} {x : Ended} → b ≡ badMemory m r g f → b ≡ false → x ≡ runOf m r g f s l → x ≡ scriptOf m r g f s l
+  unfolding scriptOf
+  script-run e h x = rw (← e, h) x

@@ -1,0 +1,128 @@
+-- What is left to run from here is what there was to run at the start.
+use Rattle.script.proofs.Runs.{run-start, run-more, run-end}
+use Rattle.script.specs.Script.{ran, ranOf}
+use Rattle.script.specs.Parts.{stateOf}
+use Rattle.script.specs.Format.{entriesFrom}
+use Rattle.system.specs.System.{machine}
+use lib.ListN.{length}
+use native.Mathlib.Omega.{arith}
+use Prim.Native.Nat.{_+_, _-_, _*_, _≤_}
+use mathlib.Core.Path.{_≡_, refl, _∙_}
+use borrow.Author.Needs.{needs}
+use Rattle.script.proofs.run.run_all.Statement.{statement}
+use Rattle.script.proofs.run.run_all.Tie as tie
+
+abbrev Inv-loop : tie.InvT-loop
+Inv-loop own₀ addresses₀ values₀ rtc₀ page₀ at₀ frequencies₀ duties₀ times₀ codes₀ ram₀ sram₀ gpio₀ fb₀ script p n out₀ parts₀ i₀ own addresses values rtc page at frequencies duties times codes ram sram gpio fb out parts i =
+    (i ≤ n)
+    × (length ram ≡ length ram₀)
+    × (length sram ≡ length sram₀)
+    × (length gpio ≡ length gpio₀)
+    × (length fb ≡ length fb₀)
+    × (length out ≡ length out₀)
+    × (ranOf (ran (machine (stateOf own addresses values rtc page at frequencies duties times codes parts) ram sram gpio fb) out) (4 + 25 * i) (entriesFrom script p (n - i) i) ≡ ranOf (ran (machine (stateOf own₀ addresses₀ values₀ rtc₀ page₀ at₀ frequencies₀ duties₀ times₀ codes₀ parts₀) ram₀ sram₀ gpio₀ fb₀) out₀) 4 (entriesFrom script p n 0))
+
+abbrev μ-loop : tie.MeasureT-loop
+μ-loop own₀ addresses₀ values₀ rtc₀ page₀ at₀ frequencies₀ duties₀ times₀ codes₀ ram₀ sram₀ gpio₀ fb₀ script p n out₀ parts₀ i₀ own addresses values rtc page at frequencies duties times codes ram sram gpio fb out parts i =
+    n - i
+
+loop-holds : tie.Need-loop-holds Inv-loop μ-loop
+loop-holds c = (omega arith, refl, refl, refl, refl, refl, run-start _ _ _ _)
+
+entry-at-requires : tie.Need-entry-at-requires Inv-loop μ-loop
+entry-at-requires c κs =
+    let u = c .before .before .before .before .before .before .before .before .before .before .before .before .before .before in
+    let v = u .before .before .before .before .before .before .before .before in
+    (omega (arith, (v .pre), (u .loop-test .taken)), omega (arith, (v .pre), (u .loop-test .taken)))
+
+turn-requires : tie.Need-turn-requires Inv-loop μ-loop
+turn-requires c κs = search needs
+
+mul-lay : tie.Need-mul-lay Inv-loop μ-loop
+mul-lay c =
+    let u = c .before .before .before .before .before .before .before .before .before .before .before .before .before .before .before .before .before .before .before .before .before .before .before .before .before in
+    let v = u .before .before .before .before .before .before .before .before in
+    omega
+    (arith, (v .pre), (u .loop-test .taken))
+
+add-lay : tie.Need-add-lay Inv-loop μ-loop
+add-lay c =
+    let u = c .before .before .before .before .before .before .before .before .before .before .before .before .before .before .before .before .before .before .before .before .before .before .before .before .before in
+    let v = u .before .before .before .before .before .before .before .before in
+    omega
+    (arith, (v .pre), (u .loop-test .taken))
+
+lay-requires : tie.Need-lay-requires Inv-loop μ-loop
+lay-requires c κs =
+    let u = c .before .before .before .before .before .before .before .before .before .before .before .before .before .before .before .before .before .before .before .before .before .before .before .before .before in
+    let v = u .before .before .before .before .before .before .before .before in
+    omega
+    (arith, (v .pre), (u .loop-test .taken))
+
+add-i : tie.Need-add-i Inv-loop μ-loop
+add-i c =
+    let u = c .before .before .before .before .before .before .before .before .before .before .before .before .before .before .before .before .before .before .before .before .before .before .before .before .before .before .before .before .before in
+    let v = u .before .before .before .before .before .before .before .before in
+    omega
+    (arith, (v .pre), (u .loop-test .taken))
+
+loop-less : tie.Need-loop-less Inv-loop μ-loop
+loop-less c =
+    let u = c .before .before .before .before .before .before .before .before .before .before .before .before .before .before .before .before .before .before .before .before .before .before .before .before .before .before .before .before .before in
+    omega
+    (arith, (u .loop-test .taken))
+
+loop-again : tie.Need-loop-again Inv-loop μ-loop
+loop-again c =
+    let u = c .before .before .before .before .before .before .before .before .before .before .before .before .before in
+    let v = u .before .before .before .before .before .before .before .before .before .before .before .before .before .before .before .before in
+    let i = (v .before .loop .inv) in
+    let k = (u .turn .kept) in (
+      omega (arith, (v .loop-test .taken)),
+      k .1 .1 .1 .1 .1 .1 .1 .1 .1 .1 .0 ∙ i .1,
+      k .1 .1 .1 .1 .1 .1 .1 .1 .1 .1 .1 .0 ∙ i .2,
+      k .1 .1 .1 .1 .1 .1 .1 .1 .1 .1 .1 .1 .0 ∙ i .3,
+      k .1 .1 .1 .1 .1 .1 .1 .1 .1 .1 .1 .1 .1 .0 ∙ i .4,
+      (c .before .before .before .lay .kept .0) ∙ i .5,
+      run-more _ _ _ _ _ _ (v .loop-test .taken) (u .before .entry-at .ensures) (u .turn .ensures) (c .before .before .before .lay .ensures) ∙ i .6,
+    )
+
+same-length : tie.Need-same-length Inv-loop μ-loop
+same-length c = (c .before .loop .inv .1)
+
+same-length-2 : tie.Need-same-length-2 Inv-loop μ-loop
+same-length-2 c = (c .before .loop .inv .2)
+
+same-length-3 : tie.Need-same-length-3 Inv-loop μ-loop
+same-length-3 c = (c .before .loop .inv .3)
+
+same-length-4 : tie.Need-same-length-4 Inv-loop μ-loop
+same-length-4 c = (c .before .loop .inv .4)
+
+same-length-5 : tie.Need-same-length-5 Inv-loop μ-loop
+same-length-5 c = (c .before .loop .inv .5)
+
+returns : tie.Need-returns Inv-loop μ-loop
+returns c = run-end _ _ _ _ _ _ (c .loop-test .left) (c .before .loop .inv .6)
+
+pub run-all-spec : {M : Type 1} → statement M
+run-all-spec =
+    tie.close
+    (tie.spec
+    Inv-loop
+    μ-loop
+    loop-holds
+    entry-at-requires
+    turn-requires
+    mul-lay
+    add-lay
+    lay-requires
+    add-i
+    loop-less
+    loop-again
+    same-length
+    same-length-2
+    same-length-3
+    same-length-4
+    same-length-5
+    returns)

@@ -1,0 +1,39 @@
+-- What an entry answers, and where it stands in the output: a refusal u8 and three u64.
+use Prim.Native.Nat.{ℕ, _+_, _/_, _%_, _^_}
+use mathlib.Core.Bool.{Bool, cond, _||_}
+use mathlib.Core.List.{List, [], _∷_}
+use lib.Dec.{eqb}
+use lib.Ieee.{Float, binary64, toBits, ne}
+use Rattle.memory.specs.Bytes.{storedAt}
+use Rattle.system.specs.Steps.{Outcome}
+use Rattle.script.specs.declared.Answer.{Answer}
+
+-- what is no number has one pattern
+unfoldable pub bitsOf : Float → ℕ
+bitsOf x = cond (ne x x) 0x7FF8000000000000 (toBits binary64 x)
+
+abbrev pub reply : ℕ → ℕ → ℕ → ℕ → Answer
+reply n a b c = record { refusal = n; a = a; b = b; c = c }
+
+-- kind 4 answers a time, kind 9 time, frequency and duty of a sound event: their bits. The others answer whole numbers
+unfoldable pub inBits : ℕ → Bool
+inBits kind = eqb kind 4 || eqb kind 9
+
+unfoldable pub replyOf : Bool → Outcome → Answer
+replyOf bits o =
+    cond bits (reply (o .refusal) (bitsOf (o .x)) (bitsOf (o .y)) (bitsOf (o .z))) (reply (o .refusal) (o .a) (o .b) (o .c))
+
+-- ---- in the output
+
+-- eight bytes, the lowest first
+unfoldable pub storedWide : List ℕ → ℕ → ℕ → List ℕ
+storedWide l at v = storedAt (storedAt l at 4 (v % 2 ^ 32)) (at + 4) 4 (v / 2 ^ 32)
+
+-- 25 bytes from a place on
+unfoldable pub laid : List ℕ → ℕ → Answer → List ℕ
+laid l at x = storedWide (storedWide (storedWide (storedAt l at 1 (x .refusal)) (at + 1) (x .a)) (at + 9) (x .b)) (at + 17) (x .c)
+
+-- one behind the other
+unfoldable pub laidAll : List ℕ → ℕ → List Answer → List ℕ
+laidAll l at [] = l
+laidAll l at (x ∷ xs) = laidAll (laid l at x) (at + 25) xs

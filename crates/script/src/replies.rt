@@ -1,0 +1,47 @@
+// Answers, and their 25 bytes in the output.
+ghost use mathlib.Core.Path.{_≡_};
+ghost use Prim.Native.Nat.{_<_};
+ghost use Rattle.script.specs.Answers.{bitsOf, reply, storedWide, laid};
+use crate::Answer;
+
+pub(crate) fn numbers(refusal: u8, a: u64, b: u64, c: u64) -> Answer
+    ensures { λ r. ⌜ r ≡ reply refusal a b c ⌝ }
+{
+    Answer { refusal, a, b, c }
+}
+
+pub(crate) fn refused(refusal: u8) -> Answer
+    ensures { λ r. ⌜ r ≡ reply refusal 0 0 0 ⌝ }
+{
+    numbers(refusal, 0, 0, 0)
+}
+
+// The bits of a float. All NaNs have one pattern, since none is laid down.
+pub(crate) fn bits_of(x: f64) -> u64
+    ensures { λ r. ⌜ r ≡ bitsOf x ⌝ }
+{
+    if x != x {
+        return 0x7FF8_0000_0000_0000;
+    }
+    f64::to_bits(x)
+}
+
+// Eight bytes, the lowest first.
+fn store_wide(out: &mut [u8], at: usize, value: u64)
+    requires { ⌜ at < 1000000 ⌝ }
+    ensures { λ r. ⌜ now (out .exit) ≡ storedWide (now (out .entry)) at value ⌝ }
+{
+    memory::store(out, at, 4, (value % 0x1_0000_0000) as u32);
+    memory::store(out, at + 4, 4, (value / 0x1_0000_0000) as u32);
+}
+
+// The 25 bytes of an answer, from a place on.
+pub(crate) fn lay(out: &mut [u8], at: usize, answer: Answer)
+    requires { ⌜ at < 500000 ⌝ }
+    ensures { λ r. ⌜ now (out .exit) ≡ laid (now (out .entry)) at answer ⌝ }
+{
+    memory::store(out, at, 1, answer.refusal as u32);
+    store_wide(out, at + 1, answer.a);
+    store_wide(out, at + 9, answer.b);
+    store_wide(out, at + 17, answer.c);
+}
