@@ -1,20 +1,18 @@
 -- Each example of the table holds, over every array that is accepted.
-use mathlib.Core.Path.{_≡_, refl, _∙_}
-use mathlib.Core.List.{List, [], _∷_}
+use mathlib.Core.Path.{_≡_, _∙_, refl}
+use mathlib.Core.List.{List}
 use Prim.Native.Nat.{ℕ}
+use Rattle.whole.specs.Table.{All}
 use Rattle.flash.specs.Xfer.{kindOf}
-use Rattle.flash.specs.Run.{Good}
+use Rattle.flash.specs.Run.{Good, answers}
+use Rattle.flash.specs.Table.{made, steps, identity, maker, table}
 use Rattle.flash.proofs.Whole.{madeW, answersW}
-use Rattle.flash.specs.Table.{Example, steps, table, Holds, All}
 use Rattle.flash.proofs.Runs.{answers-view}
 
-whole : (m : List ℕ) → All (λ (e : Example). answersW (madeW m) (steps e) ≡ e .answered) table
+-- the answers are worked out where the transaction is the whole list of its bytes
+row : (m sent said : List ℕ) → Good m → answersW (madeW m) (steps sent) ≡ said → answers (made m) (steps sent) ≡ said
+row m sent said g h = answers-view (steps sent) (madeW m) g ∙ h
+
+pub judged : (m : List ℕ) → Good m → All (table m)
 unfolding kindOf
-whole m = (refl, (refl, tt))
-
-all-map : {A : Type 0} {P Q : A → Type 0} (xs : List A) → ((x : A) → P x → Q x) → All P xs → All Q xs
-all-map [] f h = tt
-all-map (x ∷ xs) f h = (f x (h .0), all-map xs f (h .1))
-
-pub judged : (m : List ℕ) → Good m → All (Holds m) table
-judged m g = all-map {P = λ (e : Example). answersW (madeW m) (steps e) ≡ e .answered} {Q = Holds m} table (λ e h. answers-view (steps e) (madeW m) g ∙ h) (whole m)
+judged m g = (row m identity _ g refl, (row m maker _ g refl, tt))

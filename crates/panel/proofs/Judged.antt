@@ -6,4 +6,4 @@ use Rattle.panel.specs.Table.{table}
 
 pub judged : All table
 unfolding parted
-judged = (refl, (refl, (refl, tt)))
+judged = (refl, tt)

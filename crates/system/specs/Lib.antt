@@ -3,6 +3,7 @@ pub mod System
 pub mod Calls
 pub mod Steps
 pub mod Table
+pub mod Starred
 pub mod Limits
 pub mod Refusals
 pub mod Lengths

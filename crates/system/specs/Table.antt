@@ -21,8 +21,8 @@ written m a n v = wordAt (step m (write a n v) .machine .system .registers) (wor
 
 abbrev pub table : List Example
 table =
-    record { given = written (holding 0xD050018C 0x2040) 0xD050018C 1 0x40; said = 0 }
-    ∷ record { given = written (holding 0xD050018C 0x2040) 0xD050018C 4 0x40; said = 0x2000 }
-    ∷ record { given = written fresh 0xC0100002 4 0x11223344; said = 0x33440000 }
-    ∷ record { given = written fresh 0xC0100003 2 0xBEEF; said = 0xEF000000 }
+    record { given = written (holding 0xD050018C 0x2040) 0xD050018C 1 0x40 ∷ []; said = 0 ∷ [] }
+    ∷ record { given = written (holding 0xD050018C 0x2040) 0xD050018C 4 0x40 ∷ []; said = 0x2000 ∷ [] }
+    ∷ record { given = written fresh 0xC0100002 4 0x11223344 ∷ []; said = 0x33440000 ∷ [] }
+    ∷ record { given = written fresh 0xC0100003 2 0xBEEF ∷ []; said = 0xEF000000 ∷ [] }
     ∷ []

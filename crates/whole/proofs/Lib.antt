@@ -10,3 +10,4 @@ pub mod Words
 pub mod Unique
 pub mod Numbers
 pub mod Judged
+pub mod Tables

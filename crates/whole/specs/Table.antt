@@ -3,9 +3,10 @@ use mathlib.Core.List.{List, [], _∷_}
 use mathlib.Core.Path.{_≡_}
 use Prim.Native.Nat.{ℕ}
 
+-- numbers in the paper's order: often one, of a chip's answers several
 pub record Example : Type 0 where
-  pub given : ℕ
-  pub said : ℕ
+  pub given : List ℕ
+  pub said : List ℕ
 
 -- the claim, of each example in turn
 abbrev pub Holds : Example → Type 0
