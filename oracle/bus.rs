@@ -11,12 +11,14 @@ mod bus_show;
 mod bus_steps;
 mod device;
 mod limits;
+mod small;
 #[allow(dead_code)]
 mod step;
 
 use std::io;
 
 use device::*;
+use small::*;
 
 fn main() -> io::Result<()> {
     answers::answer_list::<bus_steps::Board>()

@@ -63,7 +63,7 @@ pub fn fixed_list() -> List {
 }
 
 /// What these answer was worked out by hand.
-fn examples(list: &mut List) {
+pub fn examples(list: &mut List) {
     for (timer, reload) in [(0, 0x0000), (1, 0xFFFF), (2, 0xFC18)] {
         list.write(timer_word(timer, RELOAD), reload);
         list.write(timer_word(timer, CONTROL), 0x6000);

@@ -1,9 +1,8 @@
 //! The family for the flash behind its registers.
 
 use crate::bus_families::Author;
-use crate::bus_kinds::MEMORY;
 use crate::bus_list::List;
-use crate::FLASH_BASE;
+use crate::{FLASH_BASE, FLASH_SIZE};
 
 pub const SELECT: u32 = 0xC015_0000;
 pub const STATE: u32 = 0xC015_0004;
@@ -129,9 +128,9 @@ impl Author {
     /// More data bytes than a page holds: they go round and are all ANDed in.
     fn long_program(&mut self) {
         let (address, more) = (self.flash_address(), self.random.between(0, 6));
+        let page = FLASH_BASE + (address % FLASH_SIZE as u32 & !0xFF);
         for at in 0..4 {
-            let here = (address & 0xFF00) + 64 * at;
-            self.list.write(FLASH_BASE + here, u32::MAX);
+            self.list.write(page + 64 * at, u32::MAX);
         }
         let data: Vec<u8> = self.data(254 + more).iter().map(|byte| byte | 0x81).collect();
         frame(&mut self.list, &[0x06]);
@@ -146,14 +145,14 @@ impl Author {
     /// The place is erased by an ordinary write, so that a program shows.
     fn prepare(&mut self, address: u32) {
         for at in 0..self.random.below(3) as u32 {
-            let here = (address + 4 * at) % MEMORY as u32;
+            let here = (address + 4 * at) % FLASH_SIZE as u32;
             self.list.write(FLASH_BASE + here, u32::MAX);
         }
     }
 
     /// A few bytes of the page, through the memory.
     fn see(&mut self, address: u32) {
-        let here = address % MEMORY as u32;
+        let here = address % FLASH_SIZE as u32;
         self.list.read(FLASH_BASE + here);
         self.list.block(FLASH_BASE + (here & !0xFF), 256);
     }
@@ -196,10 +195,10 @@ impl Author {
 
     /// Ordinary writes reach the array.
     fn array_write(&mut self) {
-        let address = FLASH_BASE + self.flash_address() % MEMORY as u32;
+        let address = FLASH_BASE + self.flash_address() % FLASH_SIZE as u32;
         let (size, value) = (self.size(), self.bits());
         self.list.write_sized(size, address, value);
-        let bytes = with_address(0x03, address & 0xFFFF, &[0; 4]);
+        let bytes = with_address(0x03, address % FLASH_SIZE as u32, &[0; 4]);
         self.frame(&bytes);
     }
 

@@ -1,5 +1,5 @@
 //! The kinds of steps for the whole bus, the refusals that only it gives, and
-//! its sizes.
+//! how many of each thing there are.
 
 /// Kinds of reads and writes have the size in their last digit.
 pub const READ: u64 = 0x10;
@@ -32,9 +32,6 @@ pub const BAD_KEY: u8 = 8;
 pub const BAD_SIZE: u8 = 9;
 pub const NO_NEXT_TIME: u8 = 13;
 
-/// RAM and SRAM are shorter than the paper's, so that a port's program can
-/// hold them. All of RAM is the flash array.
-pub const MEMORY: usize = 65_536;
 pub const PIXELS: usize = 16_384;
 pub const PRESSES: usize = 64;
 pub const OTHERS: usize = 256;

@@ -9,7 +9,7 @@ use crate::time_numbers::{fraction, TIME_EDGES, TURBO_EDGES};
 pub const TAME: usize = 17;
 
 /// The families whose actions leave so much that they are rarer.
-const LARGE: [&str; 2] = ["others", "sound"];
+pub const LARGE: [&str; 2] = ["others", "sound"];
 
 pub fn limits(author: &mut Author) {
     match author.random.below(10) {

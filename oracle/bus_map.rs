@@ -1,8 +1,8 @@
 //! Where an address lies, and which register words have storage of their own:
 //! the paper's map.
 
-use crate::bus_kinds::MEMORY;
 use crate::sys::{System, TIMER_BASE};
+use crate::{RAM_SIZE, SRAM_LENGTH};
 
 #[derive(Clone, Copy, PartialEq, Eq, Debug)]
 pub enum Place {
@@ -76,16 +76,15 @@ pub fn merged(system: &System, address: u32, size: u64, value: u32) -> u32 {
 }
 
 fn past_end(address: u32) -> bool {
-    let offset = match place(address) {
-        Place::Ram => address & 0x00FF_FFFF,
-        Place::Sram => address & 0x000F_FFFF,
-        _ => 0,
-    };
-    offset >= MEMORY as u32
+    match place(address) {
+        Place::Ram => (address & 0x00FF_FFFF) as usize >= RAM_SIZE,
+        Place::Sram => (address & 0x000F_FFFF) as usize >= SRAM_LENGTH,
+        _ => false,
+    }
 }
 
-/// Whether a run of bytes, at most 65,536, passes the end of RAM or SRAM, which
-/// are short here. The device would panic if it went byte for byte.
+/// Whether a run of bytes, at most 65,536, passes the end of RAM or SRAM where
+/// they are short. The device would panic if it went byte for byte.
 pub fn passes_end(address: u32, length: u32) -> bool {
     length > 0 && (past_end(address) || past_end(address.wrapping_add(length - 1)))
 }

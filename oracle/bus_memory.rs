@@ -1,10 +1,9 @@
 //! The family for memories: sizes, alignments, ends, and what is stray.
 
 use crate::bus_families::Author;
-use crate::bus_kinds::MEMORY;
 use crate::bus_map::passes_end;
 use crate::sys::{GPIO_BASE, GPIO_SIZE};
-use crate::{FLASH_BASE, SRAM_BASE};
+use crate::{FLASH_BASE, RAM_SIZE, SRAM_BASE, SRAM_LENGTH};
 
 /// Addresses about the edges of what is stray, and amid it.
 #[rustfmt::skip]
@@ -15,7 +14,7 @@ pub const STRAY: [u32; 27] = [
     0xFEFF_FFFD, 0xFEFF_FFFF, 0xFFFF_F000, 0xFFFF_F001, 0xFFFF_FFFD, 0xFFFF_FFFF,
 ];
 
-/// Past the end of the memories that are here, within the paper's.
+/// Past the end of the memories where they are short, within the paper's.
 #[rustfmt::skip]
 const PAST: [u32; 10] = [
     0x2001_0000, 0x2001_0003, 0x2080_0000, 0x20FF_FFFC, 0x20FF_FFFF, 0xF801_0000, 0xF801_0001,
@@ -47,8 +46,11 @@ pub fn memory(author: &mut Author) {
 impl Author {
     /// An address in a memory, often near one of its ends.
     pub fn address(&mut self) -> u32 {
-        let (base, length) =
-            self.random.pick(&[(FLASH_BASE, MEMORY), (SRAM_BASE, MEMORY), (GPIO_BASE, GPIO_SIZE)]);
+        let (base, length) = self.random.pick(&[
+            (FLASH_BASE, RAM_SIZE),
+            (SRAM_BASE, SRAM_LENGTH),
+            (GPIO_BASE, GPIO_SIZE),
+        ]);
         let any = self.bits();
         let near = any % 8;
         let at = match self.random.below(4) {
@@ -136,7 +138,8 @@ impl Author {
             1 => self.random.pick(&SEAMS) + self.random.below(16) as u32,
             _ => self.any_word() + self.random.below(4) as u32,
         };
-        let left = MEMORY as u64 - u64::from(address) % MEMORY as u64;
+        // Where they are short, both are equally so.
+        let left = RAM_SIZE as u64 - u64::from(address) % RAM_SIZE as u64;
         let length = if passes_end(address, some as u32) { left.min(some) } else { some };
         (address, rounds + length)
     }

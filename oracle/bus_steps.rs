@@ -9,6 +9,7 @@ use crate::device::fresh;
 use crate::limits::*;
 use crate::step::*;
 use crate::sys::{Key, System, KEY_HOLD};
+use crate::{LAST_KIND, SRAM_LENGTH};
 
 pub struct Board {
     pub system: System,
@@ -16,9 +17,8 @@ pub struct Board {
 
 /// The fresh state, and all memories zero.
 fn wiped() -> System {
-    let mut system = fresh();
-    system.ram.fill(0);
-    system.sram.truncate(MEMORY);
+    let mut system = fresh(&[]);
+    system.sram.truncate(SRAM_LENGTH);
     // The device says which stray pages it maps, but not beyond so many.
     system.unmapped = vec![(0, 0); 64];
     system
@@ -39,6 +39,10 @@ impl Device for Board {
     /// Any kind that is not here.
     fn ends(step: Step) -> bool {
         !(READ..=LAST_WRITE).contains(&step.kind) && !Board::KINDS.contains(&step.kind)
+    }
+
+    fn has(step: Step) -> bool {
+        step.kind <= LAST_KIND
     }
 
     fn answer(&mut self, step: Step) -> Answer {

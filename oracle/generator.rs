@@ -104,7 +104,7 @@ fn wished_list<A: Authorship>(
     Some(random_list(family, seed.parse().ok()?, steps.parse().ok()?))
 }
 
-fn write_list<D: Device>(list: StepList<D>) -> io::Result<()> {
+pub fn write_list<D: Device>(list: StepList<D>) -> io::Result<()> {
     list.report(&mut io::stderr())?;
     io::stdout().write_all(&list.into_text())
 }

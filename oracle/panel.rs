@@ -8,12 +8,14 @@ mod device;
 mod panel_counts;
 #[allow(dead_code)]
 mod panel_steps;
+mod small;
 #[allow(dead_code)]
 mod step;
 
 use std::io;
 
 use device::*;
+use small::*;
 
 fn main() -> io::Result<()> {
     answers::answer_list::<panel_steps::Panel>()

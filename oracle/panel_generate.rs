@@ -12,12 +12,14 @@ mod panel_list;
 mod panel_steps;
 mod panel_windows;
 mod random;
+mod small;
 mod step;
 mod step_list;
 
 use std::process::ExitCode;
 
 use device::*;
+use small::*;
 
 fn main() -> ExitCode {
     generator::run::<panel_families::Author>()

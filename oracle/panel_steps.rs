@@ -59,7 +59,7 @@ impl Device for Panel {
         &[COMMAND, DATA, DMA, PIXEL_RGB, RGB, LENT_DATA, LENT_RGB, LOOK, PUT];
 
     fn start() -> Panel {
-        Panel { system: fresh(), screen: vec![0; SCREEN], counts: Counts::default() }
+        Panel { system: fresh(&[]), screen: vec![0; SCREEN], counts: Counts::default() }
     }
 
     fn answer(&mut self, step: Step) -> Answer {

@@ -45,6 +45,13 @@ pub trait Device {
         false
     }
 
+    /// A step that a list may hold. One that it may not is neither written nor
+    /// worked. A program that answers lists does not ask.
+    #[allow(dead_code)]
+    fn has(_step: Step) -> bool {
+        true
+    }
+
     fn answer(&mut self, step: Step) -> Answer;
 
     /// Counts of what it has done, by their names, for the report of a list.

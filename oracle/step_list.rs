@@ -9,9 +9,8 @@ use crate::step::*;
 
 pub struct StepList<D> {
     pub device: D,
-    text: Vec<u8>,
+    steps: Vec<Step>,
     part: &'static str,
-    steps: usize,
     kinds: BTreeMap<u64, u64>,
     parts: BTreeMap<&'static str, u64>,
     refusals: BTreeMap<u8, u64>,
@@ -21,9 +20,8 @@ impl<D: Device> StepList<D> {
     pub fn new() -> StepList<D> {
         StepList {
             device: D::start(),
-            text: Vec::new(),
+            steps: Vec::new(),
             part: "",
-            steps: 0,
             kinds: BTreeMap::new(),
             parts: BTreeMap::new(),
             refusals: BTreeMap::new(),
@@ -31,7 +29,7 @@ impl<D: Device> StepList<D> {
     }
 
     pub fn steps(&self) -> usize {
-        self.steps
+        self.steps.len()
     }
 
     /// Names what the next steps belong to, for the counts.
@@ -41,9 +39,11 @@ impl<D: Device> StepList<D> {
 
     pub fn step(&mut self, kind: u64, address: u64, value: u64) -> Answer {
         let step = Step { kind, address, value };
-        self.text.extend(format!("{step}\n").bytes());
+        if !D::has(step) {
+            return DONE;
+        }
         let answer = self.device.answer(step);
-        self.steps += 1;
+        self.steps.push(step);
         *self.kinds.entry(kind).or_default() += 1;
         *self.parts.entry(self.part).or_default() += 1;
         *self.refusals.entry(answer.refusal).or_default() += 1;
@@ -58,13 +58,19 @@ impl<D: Device> StepList<D> {
         self.step(PUT, at, value)
     }
 
+    /// Only the authors of scripts ask for them.
+    #[allow(dead_code)]
+    pub fn into_steps(self) -> Vec<Step> {
+        self.steps
+    }
+
     pub fn into_text(self) -> Vec<u8> {
-        self.text
+        self.steps.iter().flat_map(|step| format!("{step}\n").into_bytes()).collect()
     }
 
     /// One count a line, the number last.
     pub fn report(&self, out: &mut impl Write) -> io::Result<()> {
-        writeln!(out, "steps: {}", self.steps)?;
+        writeln!(out, "steps: {}", self.steps())?;
         for (name, count) in self.device.counts() {
             writeln!(out, "{name}: {count}")?;
         }
@@ -73,7 +79,7 @@ impl<D: Device> StepList<D> {
             writeln!(out, "kind {kind:x}: {}", of_kind(kind))?;
         }
         let known: u64 = D::KINDS.iter().copied().map(of_kind).sum();
-        writeln!(out, "other kinds: {}", self.steps as u64 - known)?;
+        writeln!(out, "other kinds: {}", self.steps() as u64 - known)?;
         for (part, count) in &self.parts {
             writeln!(out, "family {part}: {count}")?;
         }

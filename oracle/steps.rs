@@ -3,11 +3,13 @@
 //! deselects, two lowercase hex digits transfer a byte.
 
 mod device;
+mod small;
 
 use std::io::{self, BufRead, BufWriter, Write};
 
 use cpu::Bus;
 use device::*;
+use small::*;
 use sys::System;
 
 const SELECT: u32 = 0xC015_0000;
@@ -59,7 +61,7 @@ fn end(system: &System, out: &mut impl Write) -> io::Result<()> {
 fn main() -> io::Result<()> {
     let mut input = io::stdin().lock();
     let mut out = BufWriter::new(io::stdout().lock());
-    let mut system = fresh();
+    let mut system = fresh(&[0xFF; FLASH_SIZE]);
     let mut line = Vec::new();
     for number in 1u64.. {
         line.clear();

@@ -5,6 +5,7 @@ mod answers;
 mod device;
 mod limits;
 // The generator uses all of these, this program only some.
+mod small;
 #[allow(dead_code)]
 mod step;
 #[allow(dead_code)]
@@ -13,6 +14,7 @@ mod time_steps;
 use std::io;
 
 use device::*;
+use small::*;
 
 fn main() -> io::Result<()> {
     answers::answer_list::<sys::System>()

@@ -6,6 +6,7 @@ mod device;
 mod generator;
 mod limits;
 mod random;
+mod small;
 mod step;
 mod step_list;
 mod time_clocks;
@@ -20,6 +21,7 @@ mod time_timers;
 use std::process::ExitCode;
 
 use device::*;
+use small::*;
 
 fn main() -> ExitCode {
     generator::run::<time_families::Author>()

@@ -21,7 +21,7 @@ impl Device for System {
     const KINDS: &'static [u64] = &[READ, WRITE, ADVANCE, TURBO, TAKE, CLOCK, LOOK, PUT];
 
     fn start() -> System {
-        fresh()
+        fresh(&[])
     }
 
     fn answer(&mut self, step: Step) -> Answer {

@@ -9,6 +9,7 @@ use lib.Seq.{take-all, take-suc-set}
 use Rattle.io.specs.Digits.{glyph, digits}
 use Rattle.lines.specs.declared.Answer.{Answer}
 use Rattle.lines.specs.Line.{digitOf, numberAt, lineOf}
+use Rattle.lines.specs.Bytes.{digestTo}
 
 -- ---- a number
 
@@ -20,6 +21,16 @@ pub number-more : (line : List ℕ) (from i : ℕ) {n r : ℕ} → n ≡ numberA
     → r ≡ (n * 16 + digitOf (getD line (from + i) 0)) % 2 ^ 64 → r ≡ numberAt line from (i + 1)
 unfolding numberAt
 number-more line from i h e = rw add-one (rw h at e)
+
+-- ---- a digest
+
+pub digest-none : (bytes : List ℕ) → 0 ≡ digestTo bytes 0
+unfolding digestTo
+digest-none bytes = refl
+
+pub digest-more : (bytes : List ℕ) (i : ℕ) {d r : ℕ} → d ≡ digestTo bytes i → r ≡ (d * 31 + getD bytes i 0) % 2 ^ 64 → r ≡ digestTo bytes (i + 1)
+unfolding digestTo
+digest-more bytes i h e = rw add-one (rw h at e)
 
 -- ---- bytes and digits at the end of what is written
 

@@ -1,7 +1,11 @@
 // Lists of steps: each step a line of 29 bytes, each answer a line of 54. See README.md beside src/.
+mod bytes;
 mod parse;
 mod text;
 
+pub use bytes::digest;
+pub use bytes::least;
+pub use bytes::lent;
 pub use text::spell;
 ghost use mathlib.Core.Path.{_≡_};
 ghost use Rattle.lines.specs.Line.{answer, Read};

@@ -1,11 +1,11 @@
 // Looks that change nothing, and bytes laid into plain memory.
 use crate::answers::told;
-use crate::bytes::digest;
-use crate::bytes::lent;
 use crate::numbers::bits_of;
 use crate::numbers::flag;
 use lines::Answer;
 use lines::answered;
+use lines::digest;
+use lines::lent;
 use system::System;
 
 pub(crate) fn next_event(s: System, sram: &[u8; 65536]) -> Answer {

@@ -1,6 +1,5 @@
 // Answers a list of steps for the whole bus: see README.md beside src/.
 mod answers;
-mod bytes;
 mod calls;
 mod look;
 mod numbers;

@@ -1,24 +1,10 @@
 // The framebuffer and the screen as a whole.
-ghost use Prim.Native.Nat.{_≤_};
-ghost use Rattle.io.specs.Counts.{Counts};
 use crate::step::told;
 use lines::Answer;
+use lines::lent;
 
 // 2^55 - 55.
 const MODULUS: u64 = 36028797018963913;
-
-pub(crate) fn least(n: u64, most: u64) -> u64
-    ensures { λ r. ⌜ r ≤ most ⌝ }
-{
-    if n < most { n } else { most }
-}
-
-// How many bytes are lent where n are asked for.
-pub(crate) fn lent(n: u64, bytes: &[u8]) -> usize
-    ensures { λ r. ⌜ Counts r (now (bytes .entry)) ⌝ }
-{
-    least(n, bytes.len() as u64) as usize
-}
 
 // The checksum with one byte more.
 fn mixed(sum: u64, byte: u8) -> u64 {

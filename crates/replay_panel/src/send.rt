@@ -1,8 +1,8 @@
 // Data bytes.
-use crate::memory::least;
-use crate::memory::lent;
 use crate::step::Stepped;
 use crate::step::told;
+use lines::least;
+use lines::lent;
 use panel::Panel;
 
 // The byte, with only so many bytes of the framebuffer lent.

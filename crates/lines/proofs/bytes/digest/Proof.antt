@@ -1,18 +1,22 @@
--- `bytes::digest` is safe and ends: each turn takes one byte.
+-- `bytes::digest` meets its contract: after i turns it is the digest of the first i bytes.
+use mathlib.Core.Path.{_≡_}
 use Prim.Native.Nat.{_≤_, _-_}
+use native.Mathlib.Omega.{arith}
 use lib.ListN.{length}
 use borrow.Author.Needs.{needs}
-use Rattle.replay_bus.proofs.bytes.digest.Statement.{statement}
-use Rattle.replay_bus.proofs.bytes.digest.Tie as tie
+use Rattle.lines.specs.Bytes.{digestTo}
+use Rattle.lines.proofs.Laws.{digest-none, digest-more}
+use Rattle.lines.proofs.bytes.digest.Statement.{statement}
+use Rattle.lines.proofs.bytes.digest.Tie as tie
 
 abbrev Inv-loop : tie.InvT-loop
-Inv-loop bytes digest₀ i₀ digest i = i ≤ length bytes
+Inv-loop bytes digest₀ i₀ digest i = (i ≤ length bytes) × (digest ≡ digestTo bytes i)
 
 abbrev μ-loop : tie.MeasureT-loop
 μ-loop bytes digest₀ i₀ digest i = length bytes - i
 
 loop-holds : tie.Need-loop-holds Inv-loop μ-loop
-loop-holds c = search needs
+loop-holds c = (omega arith, digest-none _)
 
 shared-slice-read-mixed : tie.Need-shared-slice-read-mixed Inv-loop μ-loop
 shared-slice-read-mixed c = search needs
@@ -27,10 +31,10 @@ loop-less : tie.Need-loop-less Inv-loop μ-loop
 loop-less c = search needs
 
 loop-again : tie.Need-loop-again Inv-loop μ-loop
-loop-again c = search needs
+loop-again c = (omega arith, digest-more _ _ (c .before .before .before .loop .inv .1) (c .mixed .ensures))
 
 returns : tie.Need-returns Inv-loop μ-loop
-returns c = search needs
+returns c = let e : (c .before .loop .i) ≡ length ((c .before .before .before .args .bytes .now)) = omega arith in rw e at (c .before .loop .inv .1)
 
 pub digest-spec : {M : Type 1} → statement M
 digest-spec =

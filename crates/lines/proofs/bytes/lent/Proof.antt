@@ -2,14 +2,16 @@
 use mathlib.Core.Path.{sym}
 use lib.Seq.{length-take-le}
 use borrow.Author.Needs.{needs}
-use Rattle.replay_bus.proofs.bytes.lent.Statement.{statement}
-use Rattle.replay_bus.proofs.bytes.lent.Tie as tie
+use Rattle.lines.proofs.bytes.lent.Statement.{statement}
+use Rattle.lines.proofs.bytes.lent.Tie as tie
 
 least-requires : tie.Need-least-requires
 least-requires c κs = search needs
 
 returns : tie.Need-returns
-returns c = (c .least .ensures, sym (length-take-le (c .least .result) (c .before .before .args .bytes .now) (c .least .ensures)))
+returns c =
+    let l = (c .least .ensures .1) in
+    ((l, sym (length-take-le (c .least .result) (c .before .before .args .bytes .now) l)), (c .least .ensures .0))
 
 pub lent-spec : {M : Type 1} → statement M
 lent-spec = tie.close (tie.spec least-requires returns)

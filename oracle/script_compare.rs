@@ -1,0 +1,111 @@
+//! Runs scripts through the Rust device and through the port's library, which
+//! is linked in, and compares all that they leave.
+
+include!("bus_modules.rs");
+mod full;
+mod memories;
+mod script;
+mod script_cases;
+mod script_counts;
+mod script_faults;
+mod script_make;
+mod script_port;
+mod script_run;
+mod script_stage;
+mod script_starts;
+mod script_steps;
+
+use std::process::ExitCode;
+use std::{env, fs};
+
+use device::*;
+use full::*;
+use script_cases::{makings, Case};
+use script_counts::Counts;
+use script_stage::{Outcome, Stage};
+
+/// The script is kept where it can be run again.
+fn judge(stage: &mut Stage, case: &Case, seed: u64, kept: &str) -> Result<Outcome, String> {
+    stage.run(case, seed).map_err(|difference| {
+        let kept = match fs::write(kept, &case.script) {
+            Ok(()) => format!("script: {kept}"),
+            Err(error) => format!("{kept}: {error}"),
+        };
+        format!("{difference}\n{kept}")
+    })
+}
+
+/// Scripts from the first number on: `count` of them, in all or of one family.
+fn compare(
+    seed: u64,
+    first: u64,
+    count: u64,
+    family: &str,
+    kept: &str,
+) -> Result<(Counts, u64), String> {
+    let makings = makings();
+    let (mut counts, mut stage) = (Counts::default(), Stage::new());
+    let turns =
+        (first..).map(|number| (number, &makings[(number % makings.len() as u64) as usize]));
+    let wished = turns.filter(|(_, making)| family.is_empty() || making.name == family);
+    for (number, making) in wished.take(count as usize) {
+        let case = making.make(seed, number);
+        let name = format!("family {}, seed {seed}, script {number}", making.name);
+        // Should the port break off, this is what remains.
+        eprintln!("running {name}");
+        let outcome = judge(&mut stage, &case, seed.wrapping_add(number), kept)
+            .map_err(|said| format!("{name}: {said}"))?;
+        counts.add(&case, &outcome);
+    }
+    Ok((counts, stage.bytes))
+}
+
+/// One script from memories that are zero, with all its answers.
+fn run_file(path: &str, kept: &str) -> Result<(), String> {
+    let script = fs::read(path).map_err(|error| format!("{path}: {error}"))?;
+    let case = Case::of_script(script);
+    let outcome = judge(&mut Stage::new(), &case, 0, kept)?;
+    println!("returned {}", outcome.returned);
+    if outcome.returned == 0 {
+        let count = u32::from_le_bytes(outcome.out[..4].try_into().unwrap()) as usize;
+        for answer in (0..count).filter_map(|at| script::read_answer(&outcome.out, at)) {
+            println!("{answer}");
+        }
+    }
+    Ok(())
+}
+
+fn run(words: &[&str]) -> Option<Result<(), String>> {
+    Some(match *words {
+        ["families"] => {
+            makings().iter().for_each(|making| println!("{}", making.name));
+            Ok(())
+        }
+        ["file", path, kept] => run_file(path, kept),
+        ["seed", seed, first, count, family, kept] => {
+            let (seed, first, count) =
+                (seed.parse().ok()?, first.parse().ok()?, count.parse().ok()?);
+            compare(seed, first, count, family, kept).map(|(counts, bytes)| {
+                counts.report();
+                println!("bytes compared {bytes}, differences 0");
+            })
+        }
+        _ => return None,
+    })
+}
+
+fn main() -> ExitCode {
+    let arguments: Vec<String> = env::args().skip(1).collect();
+    let words: Vec<&str> = arguments.iter().map(String::as_str).collect();
+    match run(&words) {
+        Some(Ok(())) => ExitCode::SUCCESS,
+        Some(Err(said)) => {
+            println!("DIFFERENCE: {said}");
+            ExitCode::FAILURE
+        }
+        None => {
+            println!("usage: families | file SCRIPT KEPT | seed SEED FIRST COUNT FAMILY KEPT");
+            ExitCode::from(2)
+        }
+    }
+}
