@@ -1,6 +1,7 @@
 //! The families of scripts that are refused as a whole, and of those that are
 //! nearly so.
 
+use crate::memories::LENGTHS;
 use crate::random::Random;
 use crate::script::*;
 use crate::script_cases::Case;
@@ -75,7 +76,7 @@ fn malformed(case: &mut Case, random: &mut Random) {
 fn lengths(case: &mut Case, random: &mut Random) {
     for _ in 0..random.pick(&[1, 1, 2]) {
         let memory = random.below(4);
-        let right = case.lengths[memory];
+        let right = LENGTHS[memory];
         case.lengths[memory] = random.pick(&[0, 1, right - 1, right + 1, right / 2, right]);
     }
 }
