@@ -5,4 +5,5 @@ pub mod Runs
 pub mod Laid
 pub mod Fold
 pub mod Wiped
+pub mod Within
 pub mod Unique

@@ -1,0 +1,45 @@
+-- A script's machine is within the limits all along, so each of its refusals is the one that the paper's table and order give.
+use mathlib.Core.Path.{_≡_, refl, _∙_}
+use mathlib.Core.Bool.{Bool, true, false}
+use mathlib.Core.List.{List}
+use Prim.Native.Nat.{ℕ}
+use Rattle.system.specs.Calls.{wipedOf}
+use Rattle.system.specs.Steps.{Outcome, step, after}
+use Rattle.system.specs.Limits.{WithinLimits}
+use Rattle.system.specs.Refusals.{refusalOf}
+use Rattle.system.proofs.Kept.{fresh-limits}
+use Rattle.system.proofs.Limits.{after-limits}
+use Rattle.system.proofs.Refusals.{refused-in-order}
+use Rattle.script.specs.declared.Entry.{Entry}
+use Rattle.script.specs.Answers.{inBits, replyOf}
+use Rattle.script.specs.Script.{opOf, turnOf}
+use Rattle.script.specs.Fold.{start, opsOf}
+
+-- the limits are of the state alone, so whatever memories are lent
+start-limits : (m r g f : List ℕ) → WithinLimits (start m r g f)
+unfolding wipedOf
+start-limits m r g f =
+    let w = fresh-limits 0 0 0 0 in record {
+      registers = w .registers;
+      clocks = w .clocks;
+      rtc = w .rtc;
+      tone = w .tone;
+      queue = w .queue;
+      keys = w .keys;
+    }
+
+pub script-limits : (m r g f : List ℕ) (es : List Entry) → WithinLimits (after (start m r g f) (opsOf es))
+script-limits m r g f es = after-limits (start m r g f) (opsOf es) (start-limits m r g f)
+
+reply-refusal : (b : Bool) (o : Outcome) → replyOf b o .refusal ≡ o .refusal
+unfolding replyOf
+reply-refusal true o = refl
+reply-refusal false o = refl
+
+-- the number that an entry is answered, behind those before it
+pub entry-in-order : (m r g f : List ℕ) (before : List Entry) (e : Entry)
+    → turnOf (after (start m r g f) (opsOf before)) e .answer .refusal ≡ refusalOf (after (start m r g f) (opsOf before)) (opOf e)
+unfolding turnOf
+entry-in-order m r g f before e =
+    let now = after (start m r g f) (opsOf before) in
+    reply-refusal (inBits (e .kind)) (step now (opOf e)) ∙ refused-in-order now (opOf e) (script-limits m r g f before)
