@@ -2,8 +2,8 @@
 //! what only scripts have. Every answer of every script is shown.
 
 use crate::bus_cases::{memories, merged_words};
-use crate::bus_clock_cases::*;
-use crate::bus_device_cases::*;
+use crate::bus_clock_cases::{adc_controls, ports_and_power};
+use crate::bus_device_cases::{answers_of_flash, programs};
 use crate::bus_families::{Author, FAMILIES};
 use crate::bus_fixed::examples;
 use crate::bus_limit_cases::{next_events, wiping};
@@ -16,6 +16,7 @@ use crate::random::Random;
 use crate::script::*;
 use crate::script_cases::look_a_little;
 use crate::script_desk::*;
+use crate::script_device_cases::devices;
 use crate::script_starts::fill;
 use crate::script_steps::OWN;
 use crate::step::Answer;
@@ -27,13 +28,13 @@ const CASES: [(fn(&mut List), u64); 15] = [
     (memories, 5),
     (merged_words, 2),
     (room, 0),
-    (masks, 0),
+    (masks, 0xFFFF_FFFF),
     (timer_controls, 0),
     (tones, 77),
     (full_store, 1),
     (programs, 0),
     (answers_of_flash, 9),
-    (pictures, 0xFFFF_FFFF),
+    (devices, 0),
     (adc_controls, 0),
     (ports_and_power, 0),
     (next_events, 0),

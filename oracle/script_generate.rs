@@ -7,6 +7,7 @@ mod script;
 #[allow(dead_code)]
 mod script_cases;
 mod script_desk;
+mod script_device_cases;
 mod script_faults;
 mod script_fixed;
 mod script_make;

@@ -1,6 +1,8 @@
 //! The Rust device under the name of the port's function, as a library: to try
 //! the comparison itself, with the device as it is and with altered copies.
 
+#![crate_type = "staticlib"]
+
 // The comparison uses all of these, this library only some.
 #[allow(dead_code)]
 mod bus_kinds;

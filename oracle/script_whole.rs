@@ -54,10 +54,13 @@ fn presses() -> Script {
 
 /// Numbers at the limits, as time, turbo, hold and press; keys and sizes too.
 fn limits() -> Script {
-    let presses = TIME_EDGES.iter().step_by(2).map(|&time| (2, time)).collect();
+    // A bad key comes before a bad time.
+    let both = f64::NAN.to_bits();
+    let presses = TIME_EDGES.iter().step_by(2).map(|&time| (2, time)).chain([(3, both)]).collect();
     let turbos = TURBO_EDGES.iter().map(|turbo| step(6, 0, 0, turbo.to_bits()));
     let holds = TIME_EDGES.iter().skip(1).step_by(2).map(|&time| step(8, 0, 1, time));
-    let keys = [3, 256, u32::MAX].into_iter().map(|key| step(7, 0, key, 1));
+    let keys =
+        [3, 256, u32::MAX].into_iter().flat_map(|key| [step(7, 0, key, 1), step(8, 0, key, both)]);
     let sizes = [0, 3, 5, 16, 20, 255].map(|size| step(1 + size % 2, size, 0, 1));
     let fastest = [step(6, 0, 0, FASTEST.to_bits())];
     let last = [LAST_TIME.next_up(), LAST_TIME, LAST_TIME.next_down()];
