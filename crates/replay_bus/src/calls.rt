@@ -3,13 +3,13 @@ use crate::answers::Stepped;
 use crate::answers::changed;
 use crate::answers::said;
 use crate::answers::told;
-use crate::numbers::bits_of;
 use lines::Answer;
 use lines::refused;
 use system::System;
 use system::buttons;
 use system::moment;
 use whole::Checked;
+use whole::forms::bits_of;
 
 pub(crate) fn read(
     s: System,

@@ -1,12 +1,12 @@
 // Looks that change nothing, and bytes laid into plain memory.
 use crate::answers::told;
-use crate::numbers::bits_of;
-use crate::numbers::flag;
 use lines::Answer;
 use lines::answered;
 use lines::digest;
 use lines::lent;
 use system::System;
+use whole::forms::bits_of;
+use whole::forms::flag;
 
 pub(crate) fn next_event(s: System, sram: &[u8; 65536]) -> Answer {
     let next = system::moment::next_event(s, sram);

@@ -2,7 +2,6 @@
 mod answers;
 mod calls;
 mod look;
-mod numbers;
 mod step;
 mod talk;
 

@@ -5,12 +5,12 @@ use crate::answers::done;
 use crate::answers::said;
 use crate::calls;
 use crate::look;
-use crate::numbers::flag;
-use crate::numbers::low;
 use lines::Answer;
 use lines::Step;
 use lines::answered;
 use system::System;
+use whole::forms::flag;
+use whole::forms::low;
 
 // Any other kind ends the list.
 pub(crate) fn known(kind: u64) -> bool {

@@ -2,13 +2,13 @@
 use crate::machine::Machine;
 use crate::machine::timer_of;
 use crate::machine::word_of;
-use crate::numbers::bits_of;
-use crate::numbers::flag;
 use clock::Alarm;
 use clock::Rtc;
 use lines::Answer;
 use lines::answered;
 use timer::Timer;
+use whole::forms::bits_of;
+use whole::forms::flag;
 
 fn timer_look(t: Timer) -> Answer {
     answered(bits_of(t.start), t.seen, flag(t.pending))

@@ -2,7 +2,6 @@
 use crate::machine::Machine;
 use crate::machine::timer_of;
 use crate::machine::with_timer;
-use crate::numbers::low;
 use crate::numbers::number_of;
 use clock::Latch;
 use clock::Rtc;
@@ -10,6 +9,7 @@ use clock::RtcIrq;
 use clock::Times;
 use timer::Timer;
 use timer::Tone;
+use whole::forms::low;
 
 fn number(here: bool, bits: u64, old: f64) -> f64 {
     if here { number_of(bits, old) } else { old }

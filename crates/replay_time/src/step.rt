@@ -6,14 +6,14 @@ use crate::machine::Machine;
 use crate::machine::Stepped;
 use crate::machine::done;
 use crate::machine::refused;
-use crate::numbers::bits_of;
-use crate::numbers::low;
 use crate::put::put;
 use crate::read::read;
 use crate::write::write;
 use lines::Answer;
 use lines::answered;
 use timer::Refusal;
+use whole::forms::bits_of;
+use whole::forms::low;
 
 fn said(machine: Machine, answer: Answer) -> Stepped {
     Stepped { machine, answer }

@@ -7,6 +7,7 @@ use mathlib.Core.List.{List, [], _∷_, _++_}
 use native.Mathlib.Omega.{arith}
 use lib.ListN.{length, getD}
 use borrow.Author.Tests.{ltb-false}
+use Rattle.whole.specs.Forms.{bitsOf}
 use Rattle.memory.specs.Bytes.{loaded}
 use Rattle.memory.proofs.Stored.{store-length, byte-other, load-store}
 use Rattle.system.specs.System.{Machine, machine}
@@ -14,7 +15,7 @@ use Rattle.system.specs.Steps.{Outcome, step, after, plainly}
 use Rattle.system.proofs.Unchanged.{refused-unchanged}
 use Rattle.script.specs.declared.Entry.{Entry}
 use Rattle.script.specs.Format.{pressesIn, entriesIn, badScript, entriesFrom, entriesOf}
-use Rattle.script.specs.Answers.{reply, bitsOf, inBits, replyOf, laid, laidAll}
+use Rattle.script.specs.Answers.{reply, inBits, replyOf, laid, laidAll}
 use Rattle.script.specs.Script.{turn, opOf, turnOf, Ran, ran, ranOf, Ended, ended, endOf, badMemory, outTooShort, startOf, runOf, scriptOf}
 use Rattle.script.specs.Fold.{Accepted, start, opsOf, repliesOf, answered, counted, answerAt, fitted}
 use Rattle.script.proofs.Turns.{no-bits}

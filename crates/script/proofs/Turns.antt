@@ -7,6 +7,7 @@ use lib.Dec.{eqb}
 use lib.Ieee.{Float, binary64, ofBits, toBits, ne}
 use lib.ListN.{length}
 use borrow.Author.Tests.{ne-eqb}
+use Rattle.whole.specs.Forms.{bitsOf}
 use Rattle.registers.specs.declared.Registers.{Registers}
 use Rattle.clock.specs.declared.Paced.{Paced}
 use Rattle.clock.specs.declared.Paced.the-variants.{By, BadTurbo}
@@ -43,7 +44,7 @@ use Rattle.script.specs.declared.Entry.{Entry}
 use Rattle.script.specs.declared.Answer.{Answer}
 use Rattle.script.specs.declared.Parts.{Parts}
 use Rattle.script.specs.declared.Turned.{Turned}
-use Rattle.script.specs.Answers.{reply, bitsOf, inBits, replyOf}
+use Rattle.script.specs.Answers.{reply, inBits, replyOf}
 use Rattle.script.specs.Parts as lent
 use Rattle.script.specs.Parts.{parts, turned, stateOf, Taken, taken, takenOf, keysTurned, pressTurned, timeTurned, turboTurned, countersTurned, colourTurned}
 use Rattle.script.specs.Script.{Turn, turn, turnOf, leftTurn, opOf}

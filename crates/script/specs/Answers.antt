@@ -3,14 +3,10 @@ use Prim.Native.Nat.{ℕ, _+_, _/_, _%_, _^_}
 use mathlib.Core.Bool.{Bool, cond, _||_}
 use mathlib.Core.List.{List, [], _∷_}
 use lib.Dec.{eqb}
-use lib.Ieee.{Float, binary64, toBits, ne}
+use Rattle.whole.specs.Forms.{bitsOf}
 use Rattle.memory.specs.Bytes.{storedAt}
 use Rattle.system.specs.Steps.{Outcome}
 use Rattle.script.specs.declared.Answer.{Answer}
-
--- what is no number has one pattern
-unfoldable pub bitsOf : Float → ℕ
-bitsOf x = cond (ne x x) 0x7FF8000000000000 (toBits binary64 x)
 
 abbrev pub reply : ℕ → ℕ → ℕ → ℕ → Answer
 reply n a b c = record { refusal = n; a = a; b = b; c = c }

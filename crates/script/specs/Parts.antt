@@ -3,6 +3,7 @@ use Prim.Native.Nat.{ℕ, _+_, _*_}
 use mathlib.Core.Path.{_≡_}
 use mathlib.Core.List.{List}
 use lib.Ieee.{Float}
+use Rattle.whole.specs.Forms.{bitsOf, bit}
 use Rattle.registers.specs.declared.Registers.{Registers}
 use Rattle.registers.specs.Words.{registersOf}
 use Rattle.clock.specs.declared.Paced.{Paced}
@@ -24,13 +25,12 @@ use Rattle.bus.specs.World.{withClocks}
 use Rattle.system.specs.declared.System.{System}
 use Rattle.system.specs.declared.Presses.{Presses}
 use Rattle.system.specs.System.{Machine, machine, systemOf, presses}
-use Rattle.system.specs.Steps.{bit}
 use Rattle.system.specs.Calls.{writeOf}
 use Rattle.script.specs.declared.Entry.{Entry}
 use Rattle.script.specs.declared.Parts.{Parts}
 use Rattle.script.specs.declared.Answer.{Answer}
 use Rattle.script.specs.declared.Turned.{Turned}
-use Rattle.script.specs.Answers.{bitsOf, reply}
+use Rattle.script.specs.Answers.{reply}
 use Rattle.script.specs.Script.{turn, turnOf, leftTurn}
 
 abbrev pub parts : Devices → Ring → Keys → Parts

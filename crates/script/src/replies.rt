@@ -1,7 +1,7 @@
 // Answers, and their 25 bytes in the output.
 ghost use mathlib.Core.Path.{_≡_};
 ghost use Prim.Native.Nat.{_<_};
-ghost use Rattle.script.specs.Answers.{bitsOf, reply, storedWide, laid};
+ghost use Rattle.script.specs.Answers.{reply, storedWide, laid};
 use crate::Answer;
 
 pub(crate) fn numbers(refusal: u8, a: u64, b: u64, c: u64) -> Answer
@@ -14,16 +14,6 @@ pub(crate) fn refused(refusal: u8) -> Answer
     ensures { λ r. ⌜ r ≡ reply refusal 0 0 0 ⌝ }
 {
     numbers(refusal, 0, 0, 0)
-}
-
-// The bits of a float. All NaNs have one pattern, since none is laid down.
-pub(crate) fn bits_of(x: f64) -> u64
-    ensures { λ r. ⌜ r ≡ bitsOf x ⌝ }
-{
-    if x != x {
-        return 0x7FF8_0000_0000_0000;
-    }
-    f64::to_bits(x)
 }
 
 // Eight bytes, the lowest first.

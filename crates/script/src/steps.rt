@@ -1,18 +1,18 @@
 // Entries that touch no memory but GPIO, and no word but those with storage of their own.
 ghost use mathlib.Core.Path.{_≡_};
-ghost use Rattle.system.specs.Steps.{bit};
 ghost use Rattle.script.specs.Parts.{turned, keysTurned, pressTurned, clocksIn, timeTurned, turboTurned, countersTurned, colourTurned};
 ghost use Rattle.script.specs.Parts.{narrow, Steps};
 use crate::Answer;
 use crate::Entry;
 use crate::Parts;
 use crate::Turned;
-use crate::replies::bits_of;
 use crate::replies::numbers;
 use crate::replies::refused;
 use clock::Paced;
 use panel::Colours;
 use system::parts::key_number;
+use whole::forms::bits_of;
+use whole::forms::flag;
 
 pub(crate) fn said(parts: Parts, answer: Answer) -> Turned
     ensures { λ r. ⌜ r ≡ turned parts answer ⌝ }
@@ -76,12 +76,6 @@ fn with_turbo(parts: Parts, paced: Paced) -> Turned
     }
 }
 
-fn flag(on: bool) -> u64
-    ensures { λ r. ⌜ r ≡ bit on ⌝ }
-{
-    if on { 1 } else { 0 }
-}
-
 fn counters(parts: Parts) -> Turned
     ensures { λ r. ⌜ r ≡ countersTurned parts ⌝ }
 {
@@ -103,6 +97,7 @@ fn colour(parts: Parts, c: Colours) -> Turned
     said(parts, numbers(0, word, 0, 0))
 }
 
+// An entry of any other kind than read, write, sound event and wipe.
 pub(crate) fn step(
     own: &mut [u32; 76],
     times: &mut [f64; 64],

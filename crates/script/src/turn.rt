@@ -8,12 +8,12 @@ ghost use Rattle.script.specs.Script.{turn, turnOf};
 use crate::Entry;
 use crate::Parts;
 use crate::Turned;
-use crate::replies::bits_of;
 use crate::replies::numbers;
 use crate::replies::refused;
 use crate::steps::said;
 use system::parts::event_number;
 use system::parts::note;
+use whole::forms::bits_of;
 
 // A write, and the event that it makes, if any.
 fn write(

@@ -1,9 +1,10 @@
 -- Every operation in one definition: what it is given, what it answers, what it leaves. Demand 2's definition of the whole.
 use Prim.Native.Nat.{ℕ, _+_, _*_}
-use mathlib.Core.Bool.{Bool, true, false}
+use mathlib.Core.Bool.{Bool}
 use mathlib.Core.List.{List, [], _∷_}
 use lib.Ieee.{Float, binary64, ofBits}
 use lib.ListN.{length}
+use Rattle.whole.specs.Forms.{bit}
 use Rattle.panel.specs.declared.Colours.{Colours}
 use Rattle.panel.specs.Colour.{pixelAt}
 use Rattle.keys.specs.declared.Held.{Held}
@@ -83,10 +84,6 @@ byNext m x = floats m (x .refusal) (x .time) nought nought
 
 abbrev pub byTaken : Machine → Taken → Outcome
 byTaken m x = floats (withSystem m (x .system)) (x .refusal) (x .event .time) (x .event .frequency) (x .event .duty)
-
-abbrev pub bit : Bool → ℕ
-bit true = 1
-bit false = 0
 
 abbrev pub byCounters : Machine → Counters → Outcome
 byCounters m x = words m 0 (x .frames) (x .writes) (bit (x .off))

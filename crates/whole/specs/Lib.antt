@@ -5,3 +5,4 @@ pub mod Bounds
 pub mod Words
 pub mod Table
 pub mod Edges
+pub mod Forms

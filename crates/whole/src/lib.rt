@@ -3,6 +3,7 @@ ghost use mathlib.Core.Path.{_≡_};
 ghost use lib.Ieee.{toSigned};
 ghost use Rattle.whole.specs.Cut.{Cut, twos};
 
+pub mod forms;
 pub mod limits;
 
 // A float from its bits, or a refusal: 1 of a time, 2 of a turbo.

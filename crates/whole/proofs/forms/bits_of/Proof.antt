@@ -1,7 +1,7 @@
-use Rattle.script.specs.Answers.{bitsOf}
+use Rattle.whole.specs.Forms.{bitsOf}
 use Rattle.whole.proofs.Bits.{no-nan}
-use Rattle.script.proofs.replies.bits_of.Statement.{statement}
-use Rattle.script.proofs.replies.bits_of.Tie as tie
+use Rattle.whole.proofs.forms.bits_of.Statement.{statement}
+use Rattle.whole.proofs.forms.bits_of.Tie as tie
 
 returns : tie.Need-returns
 unfolding bitsOf
