@@ -9,12 +9,12 @@ use time::Clocks;
 use timer::Tone;
 
 pub mod block;
-mod chip;
+pub mod chip;
 pub mod read;
 mod rtc;
-mod screen;
+pub mod screen;
 mod sounds;
-mod words;
+pub mod words;
 pub mod write;
 
 // What the devices hold beside arrays.

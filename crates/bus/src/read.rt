@@ -25,7 +25,7 @@ fn tod_read(clocks: Clocks, field: u32) -> u32
 }
 
 // The timer whose counter it is, or 6.
-fn counter_at(word: u32) -> usize
+pub fn counter_at(word: u32) -> usize
     ensures { λ r. ⌜ r ≡ counterAt word ⌝ }
 {
     if word < 0xC002_0010 {

@@ -10,7 +10,7 @@ use crate::sounds::timer_write_ctrl;
 use clock::Adc;
 
 // The timer whose control word it is, or 6.
-pub(crate) fn control_at(word: u32) -> usize
+pub fn control_at(word: u32) -> usize
     ensures { λ r. ⌜ r ≡ controlAt word ⌝ }
 {
     if word < 0xC002_0000 {
@@ -27,7 +27,7 @@ pub(crate) fn control_at(word: u32) -> usize
 }
 
 // Which time-of-day word it is: 0 seconds, 1 minutes, 2 hours, or 3 for none.
-pub(crate) fn field_at(word: u32) -> u32
+pub fn field_at(word: u32) -> u32
     ensures { λ r. ⌜ r ≡ fieldAt word ⌝ }
 {
     match word {
@@ -39,7 +39,7 @@ pub(crate) fn field_at(word: u32) -> u32
 }
 
 // Whether a word does more than to be stored. The others go no deeper, so that the devices are not copied for them.
-pub(crate) fn acts(word: u32) -> bool
+pub fn acts(word: u32) -> bool
     ensures { λ r. ⌜ r ≡ actsOf word ⌝ }
 {
     (control_at(word) < 6)

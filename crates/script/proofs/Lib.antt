@@ -1,6 +1,7 @@
 -- What each entry does, laws of the loops and of the output, and the theorems.
 pub mod Turns
 pub mod Starts
+pub mod Direct
 pub mod Runs
 pub mod Laid
 pub mod Fold

@@ -3,4 +3,5 @@ pub mod Format
 pub mod Answers
 pub mod Script
 pub mod Parts
+pub mod Plain
 pub mod Fold

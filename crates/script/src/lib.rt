@@ -2,6 +2,7 @@
 //
 // A host calls tg18_run_script. A Rattle caller whose memories have other lengths calls run::run, which is the same but for refusal 7.
 mod format;
+mod plain;
 mod replies;
 pub mod run;
 mod start;

@@ -51,6 +51,22 @@ fn run_all(
     let mut parts = start;
     let mut i: usize = 0;
     while i < n {
+        i = crate::plain::run(
+            own,
+            addresses,
+            values,
+            ram,
+            sram,
+            gpio,
+            script,
+            p,
+            i,
+            n,
+            out,
+        );
+        if i >= n {
+            return parts;
+        }
         let turned = turn(
             own,
             addresses,

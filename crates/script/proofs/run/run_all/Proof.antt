@@ -29,81 +29,82 @@ abbrev μ-loop : tie.MeasureT-loop
 loop-holds : tie.Need-loop-holds Inv-loop μ-loop
 loop-holds c = (omega arith, refl, refl, refl, refl, refl, run-start _ _ _ _)
 
+run-requires : tie.Need-run-requires Inv-loop μ-loop
+run-requires c κs = (omega (arith, (c .before .before .before .before .before .before .before .before .before .before .before .before .before .before .before .pre)), omega (arith, (c .before .before .before .before .before .before .before .before .before .before .before .before .before .before .before .pre)), omega (arith, (c .before .before .before .before .before .before .before .loop-test .taken)))
+
+same-length : tie.Need-same-length Inv-loop μ-loop
+same-length c = (c .before .before .before .before .before .before .before .before .before .run .kept .1 .1 .1 .0) ∙ (c .before .before .before .before .before .before .before .before .before .before .before .before .before .before .before .before .before .before .loop .inv .1)
+
+same-length-2 : tie.Need-same-length-2 Inv-loop μ-loop
+same-length-2 c = (c .before .before .before .before .before .before .before .before .before .run .kept .1 .1 .1 .1 .0) ∙ (c .before .before .before .before .before .before .before .before .before .before .before .before .before .before .before .before .before .before .loop .inv .2)
+
+same-length-3 : tie.Need-same-length-3 Inv-loop μ-loop
+same-length-3 c = (c .before .before .before .before .before .before .before .before .before .run .kept .1 .1 .1 .1 .1 .0) ∙ (c .before .before .before .before .before .before .before .before .before .before .before .before .before .before .before .before .before .before .loop .inv .3)
+
+same-length-4 : tie.Need-same-length-4 Inv-loop μ-loop
+same-length-4 c = (c .before .before .before .before .before .before .before .before .before .before .before .before .before .before .before .before .before .before .loop .inv .4)
+
+same-length-5 : tie.Need-same-length-5 Inv-loop μ-loop
+same-length-5 c = (c .before .before .before .before .before .before .before .before .before .run .kept .1 .1 .1 .1 .1 .1 .1 .1 .1 .1 .0) ∙ (c .before .before .before .before .before .before .before .before .before .before .before .before .before .before .before .before .before .before .loop .inv .5)
+
+returns : tie.Need-returns Inv-loop μ-loop
+returns c = run-end _ _ _ _ _ _ (c .if1 .taken) ((c .before .before .before .before .before .before .before .before .before .run .ensures .2) (record { rtc = _; page = _; at = _; frequencies = _; duties = _; times = _; codes = _; fb = _; parts = _ }) ∙ (c .before .before .before .before .before .before .before .before .before .before .before .before .before .before .before .before .before .before .loop .inv .6))
+
 entry-at-requires : tie.Need-entry-at-requires Inv-loop μ-loop
-entry-at-requires c κs =
-    let u = c .before .before .before .before .before .before .before .before .before .before .before .before .before .before in
-    let v = u .before .before .before .before .before .before .before .before in
-    (omega (arith, (v .pre), (u .loop-test .taken)), omega (arith, (v .pre), (u .loop-test .taken)))
+entry-at-requires c κs = (omega (arith, (c .before .before .before .before .before .before .before .before .before .before .before .before .before .before .before .before .before .before .before .before .before .before .before .before .before .before .before .before .before .before .before .before .before .before .before .before .before .before .before .pre)), omega (arith, (c .before .before .before .before .before .before .before .before .before .before .before .before .before .before .before .before .before .before .before .before .before .before .before .before .before .before .before .before .before .before .before .before .before .before .before .before .before .before .before .pre), (c .before .before .before .before .before .before .before .before .before .before .before .before .before .before .if1 .left)))
 
 turn-requires : tie.Need-turn-requires Inv-loop μ-loop
 turn-requires c κs = search needs
 
 mul-lay : tie.Need-mul-lay Inv-loop μ-loop
-mul-lay c =
-    let u = c .before .before .before .before .before .before .before .before .before .before .before .before .before .before .before .before .before .before .before .before .before .before .before .before .before in
-    let v = u .before .before .before .before .before .before .before .before in
-    omega
-    (arith, (v .pre), (u .loop-test .taken))
+mul-lay c = omega (arith, (c .before .before .before .before .before .before .before .before .before .before .before .before .before .before .before .before .before .before .before .before .before .before .before .before .before .before .before .before .before .before .before .before .before .before .before .before .before .before .before .before .before .before .before .before .before .before .before .before .before .before .pre), (c .before .before .before .before .before .before .before .before .before .before .before .before .before .before .before .before .before .before .before .before .before .before .before .before .before .if1 .left))
 
 add-lay : tie.Need-add-lay Inv-loop μ-loop
-add-lay c =
-    let u = c .before .before .before .before .before .before .before .before .before .before .before .before .before .before .before .before .before .before .before .before .before .before .before .before .before in
-    let v = u .before .before .before .before .before .before .before .before in
-    omega
-    (arith, (v .pre), (u .loop-test .taken))
+add-lay c = omega (arith, (c .before .before .before .before .before .before .before .before .before .before .before .before .before .before .before .before .before .before .before .before .before .before .before .before .before .before .before .before .before .before .before .before .before .before .before .before .before .before .before .before .before .before .before .before .before .before .before .before .before .before .pre), (c .before .before .before .before .before .before .before .before .before .before .before .before .before .before .before .before .before .before .before .before .before .before .before .before .before .if1 .left))
 
 lay-requires : tie.Need-lay-requires Inv-loop μ-loop
-lay-requires c κs =
-    let u = c .before .before .before .before .before .before .before .before .before .before .before .before .before .before .before .before .before .before .before .before .before .before .before .before .before in
-    let v = u .before .before .before .before .before .before .before .before in
-    omega
-    (arith, (v .pre), (u .loop-test .taken))
+lay-requires c κs = omega (arith, (c .before .before .before .before .before .before .before .before .before .before .before .before .before .before .before .before .before .before .before .before .before .before .before .before .before .before .before .before .before .before .before .before .before .before .before .before .before .before .before .before .before .before .before .before .before .before .before .before .before .before .pre), (c .before .before .before .before .before .before .before .before .before .before .before .before .before .before .before .before .before .before .before .before .before .before .before .before .before .if1 .left))
 
 add-i : tie.Need-add-i Inv-loop μ-loop
-add-i c =
-    let u = c .before .before .before .before .before .before .before .before .before .before .before .before .before .before .before .before .before .before .before .before .before .before .before .before .before .before .before .before .before in
-    let v = u .before .before .before .before .before .before .before .before in
-    omega
-    (arith, (v .pre), (u .loop-test .taken))
+add-i c = omega (arith, (c .before .before .before .before .before .before .before .before .before .before .before .before .before .before .before .before .before .before .before .before .before .before .before .before .before .before .before .before .before .before .before .before .before .before .before .before .before .before .before .before .before .before .before .before .before .before .before .before .before .before .before .before .before .before .pre), (c .before .before .before .before .before .before .before .before .before .before .before .before .before .before .before .before .before .before .before .before .before .before .before .before .before .before .before .before .before .if1 .left))
 
 loop-less : tie.Need-loop-less Inv-loop μ-loop
-loop-less c =
-    let u = c .before .before .before .before .before .before .before .before .before .before .before .before .before .before .before .before .before .before .before .before .before .before .before .before .before .before .before .before .before in
-    omega
-    (arith, (u .loop-test .taken))
+loop-less c = omega (arith, (c .before .before .before .before .before .before .before .before .before .before .before .before .before .before .before .before .before .before .before .before .before .before .before .before .before .before .before .before .before .before .before .before .before .before .before .before .before .before .run .ensures .0), (c .before .before .before .before .before .before .before .before .before .before .before .before .before .before .before .before .before .before .before .before .before .before .before .before .before .before .before .before .before .if1 .left))
 
 loop-again : tie.Need-loop-again Inv-loop μ-loop
 loop-again c =
-    let u = c .before .before .before .before .before .before .before .before .before .before .before .before .before in
-    let v = u .before .before .before .before .before .before .before .before .before .before .before .before .before .before .before .before in
-    let i = (v .before .loop .inv) in
-    let k = (u .turn .kept) in (
-      omega (arith, (v .loop-test .taken)),
-      k .1 .1 .1 .1 .1 .1 .1 .1 .1 .1 .0 ∙ i .1,
-      k .1 .1 .1 .1 .1 .1 .1 .1 .1 .1 .1 .0 ∙ i .2,
-      k .1 .1 .1 .1 .1 .1 .1 .1 .1 .1 .1 .1 .0 ∙ i .3,
+    let i = (c .before .before .before .before .before .before .before .before .before .before .before .before .before .before .before .before .before .before .before .before .before .before .before .before .before .before .before .before .before .before .before .before .before .before .before .before .before .before .before .before .before .before .before .before .before .before .before .loop .inv) in
+    let j = (c .before .before .before .before .before .before .before .before .before .before .before .before .before .before .before .before .before .before .before .before .before .before .before .before .before .before .before .before .before .before .before .before .before .before .before .before .before .before .run .kept) in
+    let k = (c .before .before .before .before .before .before .before .before .before .before .before .before .before .turn .kept) in
+    (
+      omega (arith, (c .before .before .before .before .before .before .before .before .before .before .before .before .before .before .before .before .before .before .before .before .before .before .before .before .before .before .before .before .before .if1 .left)),
+      k .1 .1 .1 .1 .1 .1 .1 .1 .1 .1 .0 ∙ j .1 .1 .1 .0 ∙ i .1,
+      k .1 .1 .1 .1 .1 .1 .1 .1 .1 .1 .1 .0 ∙ j .1 .1 .1 .1 .0 ∙ i .2,
+      k .1 .1 .1 .1 .1 .1 .1 .1 .1 .1 .1 .1 .0 ∙ j .1 .1 .1 .1 .1 .0 ∙ i .3,
       k .1 .1 .1 .1 .1 .1 .1 .1 .1 .1 .1 .1 .1 .0 ∙ i .4,
-      (c .before .before .before .lay .kept .0) ∙ i .5,
-      run-more _ _ _ _ _ _ (v .loop-test .taken) (u .before .entry-at .ensures) (u .turn .ensures) (c .before .before .before .lay .ensures) ∙ i .6,
+      (c .before .before .before .lay .kept .0) ∙ j .1 .1 .1 .1 .1 .1 .1 .1 .1 .1 .0 ∙ i .5,
+      run-more _ _ _ _ _ _ (c .before .before .before .before .before .before .before .before .before .before .before .before .before .before .before .before .before .before .before .before .before .before .before .before .before .before .before .before .before .if1 .left) (c .before .before .before .before .before .before .before .before .before .before .before .before .before .before .entry-at .ensures) (c .before .before .before .before .before .before .before .before .before .before .before .before .before .turn .ensures) (c .before .before .before .lay .ensures)
+      ∙ (c .before .before .before .before .before .before .before .before .before .before .before .before .before .before .before .before .before .before .before .before .before .before .before .before .before .before .before .before .before .before .before .before .before .before .before .before .before .before .run .ensures .2) (record { rtc = _; page = _; at = _; frequencies = _; duties = _; times = _; codes = _; fb = _; parts = _ })
+      ∙ i .6,
     )
 
-same-length : tie.Need-same-length Inv-loop μ-loop
-same-length c = (c .before .loop .inv .1)
+same-length-6 : tie.Need-same-length-6 Inv-loop μ-loop
+same-length-6 c = (c .before .loop .inv .1)
 
-same-length-2 : tie.Need-same-length-2 Inv-loop μ-loop
-same-length-2 c = (c .before .loop .inv .2)
+same-length-7 : tie.Need-same-length-7 Inv-loop μ-loop
+same-length-7 c = (c .before .loop .inv .2)
 
-same-length-3 : tie.Need-same-length-3 Inv-loop μ-loop
-same-length-3 c = (c .before .loop .inv .3)
+same-length-8 : tie.Need-same-length-8 Inv-loop μ-loop
+same-length-8 c = (c .before .loop .inv .3)
 
-same-length-4 : tie.Need-same-length-4 Inv-loop μ-loop
-same-length-4 c = (c .before .loop .inv .4)
+same-length-9 : tie.Need-same-length-9 Inv-loop μ-loop
+same-length-9 c = (c .before .loop .inv .4)
 
-same-length-5 : tie.Need-same-length-5 Inv-loop μ-loop
-same-length-5 c = (c .before .loop .inv .5)
+same-length-10 : tie.Need-same-length-10 Inv-loop μ-loop
+same-length-10 c = (c .before .loop .inv .5)
 
-returns : tie.Need-returns Inv-loop μ-loop
-returns c = run-end _ _ _ _ _ _ (c .loop-test .left) (c .before .loop .inv .6)
+returns-2 : tie.Need-returns-2 Inv-loop μ-loop
+returns-2 c = run-end _ _ _ _ _ _ (c .loop-test .left) (c .before .loop .inv .6)
 
 pub run-all-spec : {M : Type 1} → statement M
 run-all-spec =
@@ -112,6 +113,13 @@ run-all-spec =
     Inv-loop
     μ-loop
     loop-holds
+    run-requires
+    same-length
+    same-length-2
+    same-length-3
+    same-length-4
+    same-length-5
+    returns
     entry-at-requires
     turn-requires
     mul-lay
@@ -120,9 +128,9 @@ run-all-spec =
     add-i
     loop-less
     loop-again
-    same-length
-    same-length-2
-    same-length-3
-    same-length-4
-    same-length-5
-    returns)
+    same-length-6
+    same-length-7
+    same-length-8
+    same-length-9
+    same-length-10
+    returns-2)
