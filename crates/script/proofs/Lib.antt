@@ -3,6 +3,7 @@ pub mod Turns
 pub mod Starts
 pub mod Runs
 pub mod Laid
+pub mod Inside
 pub mod Fold
 pub mod Wiped
 pub mod Within

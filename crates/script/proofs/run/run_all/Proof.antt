@@ -33,7 +33,7 @@ entry-at-requires : tie.Need-entry-at-requires Inv-loop μ-loop
 entry-at-requires c κs =
     let u = c .before .before .before .before .before .before .before .before .before .before .before .before .before .before in
     let v = u .before .before .before .before .before .before .before .before in
-    (omega (arith, (v .pre), (u .loop-test .taken)), omega (arith, (v .pre), (u .loop-test .taken)))
+    omega (arith, (v .pre), (u .loop-test .taken))
 
 turn-requires : tie.Need-turn-requires Inv-loop μ-loop
 turn-requires c κs = search needs
@@ -57,7 +57,7 @@ lay-requires c κs =
     let u = c .before .before .before .before .before .before .before .before .before .before .before .before .before .before .before .before .before .before .before .before .before .before .before .before .before in
     let v = u .before .before .before .before .before .before .before .before in
     omega
-    (arith, (v .pre), (u .loop-test .taken))
+    (arith, (v .pre), (u .before .loop .inv .5), (u .loop-test .taken))
 
 add-i : tie.Need-add-i Inv-loop μ-loop
 add-i c =
