@@ -5,11 +5,13 @@ use mathlib.Core.Bool.{Bool, true, false, _&&_}
 use mathlib.Core.List.{List}
 use mathlib.Core.Logic.{_≢_}
 use native.Mathlib.Nat.{add-zero, sub-zero, sub-self, mod-eq-of-lt, div-le-self}
+use native.Mathlib.Numerals.{add-one}
 use native.Mathlib.Omega.{arith}
-use lib.ListN.{length, getD, set}
+use lib.ListN.{length, getD, set, length-set}
 use lib.Seq.{sets}
 use lib.Dec.{leb}
 use borrow.Author.Tests.{le-leb, lt-leb, leb-true, eq-eqb, ne-eqb}
+use Rattle.whole.proofs.Words.{either}
 use Rattle.memory.specs.declared.Place.the-variants.{Ram, Sram, Gpio, Register, Stray}
 use Rattle.memory.specs.Places.{within, isRegister, placeOf}
 use Rattle.memory.specs.Bytes.{le, loaded, bytesOf, storedAt}
@@ -60,6 +62,18 @@ module _ (m : List ℕ) (o n : ℕ) where
       let z : i ≡ 0 = omega arith in
       rw (le-leb _ _ h) (rw (z, add-zero, sub-zero) at e)
 
+  pub load-none : 0 ≡ loaded m o 0
+  unfolding loaded le
+  load-none = either (λ (k : ℕ). 0 ≡ k) (leb (o + 0) (length m)) 0 0 refl refl
+
+  -- a byte more in front
+  pub load-front : (v r : ℕ) → o + suc n ≤ length m → v ≡ loaded m (o + 1) n → r ≡ (getD m o 0 + 256 * v) % 2 ^ 32 → r ≡ loaded m o (suc n)
+  unfolding loaded le
+  load-front v r h e f =
+      let h′ : o + 1 + n ≤ length m = omega arith in
+      let y : v ≡ le m (o + 1) n = rw (le-leb _ _ h′) at e in
+      rw (le-leb _ _ h, ← y) f
+
   pub le-none : 0 ≡ le m (o + n) (n - n)
   unfolding le
   le-none = rw sub-self
@@ -75,6 +89,18 @@ module _ (m : List ℕ) (o n : ℕ) where
   pub store-out : (v : ℕ) → length m < o + n → m ≡ storedAt m o n v
   unfolding storedAt
   store-out v h = rw (lt-leb _ _ h)
+
+  pub store-none : (v : ℕ) → m ≡ storedAt m o 0 v
+  unfolding storedAt bytesOf
+  store-none v = either (λ (k : List ℕ). m ≡ k) (leb (o + 0) (length m)) m m refl refl
+
+  -- a byte more in front
+  pub store-front : (k : List ℕ) (v b : ℕ) → o + suc n ≤ length m → b ≡ v % 256 → k ≡ storedAt (set m o b) (o + 1) n (v / 256) → k ≡ storedAt m o (suc n) v
+  unfolding storedAt bytesOf
+  store-front k v b h e f =
+      let h′ : o + 1 + n ≤ length (set m o b) = rw length-set (omega arith) in
+      let y : k ≡ sets (set m o b) (o + 1) (bytesOf n (v / 256)) = rw (le-leb _ _ h′) at f in
+      rw (le-leb _ _ h, ← e, ← add-one o) y
 
   pub store-start : (v : ℕ) → sets m (o + 0) (bytesOf (n - 0) v) ≡ sets m o (bytesOf n v)
   store-start v = rw (add-zero, sub-zero)

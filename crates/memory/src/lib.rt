@@ -3,8 +3,8 @@
 //
 // Every size is taken; what refuses a size asks `good_size` first.
 ghost use mathlib.Core.Path.{_≡_};
-ghost use Prim.Native.Nat.{_+_, _*_, _%_, _^_};
-ghost use lib.ListN.{getD};
+ghost use Prim.Native.Nat.{_+_, _*_, _%_, _^_, _≤_};
+ghost use lib.ListN.{length, getD};
 ghost use Rattle.memory.specs.Places.{within, isRegister, placeOf};
 ghost use Rattle.memory.specs.Bytes.{loaded, storedAt};
 ghost use Rattle.memory.specs.Access.{goodSize, shifted, maskOf, cutOf, writtenOf, mergedOf};
@@ -69,6 +69,49 @@ fn grown(v: u32, b: u8) -> u32
     v % 0x100_0000 * 256 + b as u32
 }
 
+// The value of 1 to 4 bytes that are there, the lowest first, with no loop.
+fn one(m: &[u8], at: usize) -> u32
+    requires { ⌜ at + 1 ≤ length (now m) ⌝ }
+    ensures { λ r. ⌜ r ≡ loaded (now (m .entry)) at 1 ⌝ }
+{
+    grown(0, m[at])
+}
+
+fn two(m: &[u8], at: usize) -> u32
+    requires { ⌜ at + 2 ≤ length (now m) ⌝ }
+    ensures { λ r. ⌜ r ≡ loaded (now (m .entry)) at 2 ⌝ }
+{
+    grown(one(m, at + 1), m[at])
+}
+
+fn three(m: &[u8], at: usize) -> u32
+    requires { ⌜ at + 3 ≤ length (now m) ⌝ }
+    ensures { λ r. ⌜ r ≡ loaded (now (m .entry)) at 3 ⌝ }
+{
+    grown(two(m, at + 1), m[at])
+}
+
+fn four(m: &[u8], at: usize) -> u32
+    requires { ⌜ at + 4 ≤ length (now m) ⌝ }
+    ensures { λ r. ⌜ r ≡ loaded (now (m .entry)) at 4 ⌝ }
+{
+    grown(three(m, at + 1), m[at])
+}
+
+// Any count of bytes that are there.
+fn load_any(m: &[u8], at: usize, size: usize) -> u32
+    requires { ⌜ at + size ≤ length (now m) ⌝ }
+    ensures { λ r. ⌜ r ≡ loaded (now (m .entry)) at size ⌝ }
+{
+    let mut v: u32 = 0;
+    let mut i = size;
+    while 0 < i {
+        i -= 1;
+        v = grown(v, m[at + i]);
+    }
+    v
+}
+
 // The value of `size` bytes, the lowest first; 0 where they pass the end.
 pub fn load(m: &[u8], at: usize, size: usize) -> u32
     ensures { λ r. ⌜ r ≡ loaded (now (m .entry)) at size ⌝ }
@@ -79,13 +122,62 @@ pub fn load(m: &[u8], at: usize, size: usize) -> u32
     if m.len() - size < at {
         return 0;
     }
-    let mut v: u32 = 0;
-    let mut i = size;
-    while 0 < i {
-        i -= 1;
-        v = grown(v, m[at + i]);
+    if size == 4 {
+        return four(m, at);
     }
-    v
+    if size == 2 {
+        return two(m, at);
+    }
+    if size == 1 {
+        return one(m, at);
+    }
+    load_any(m, at, size)
+}
+
+// The lowest 1 to 4 bytes of a value, to places that are there, with no loop.
+fn put_one(m: &mut [u8], at: usize, value: u32)
+    requires { ⌜ at + 1 ≤ length (now m) ⌝ }
+    ensures { λ r. ⌜ now (m .exit) ≡ storedAt (now (m .entry)) at 1 value ⌝ }
+{
+    m[at] = low(value);
+}
+
+fn put_two(m: &mut [u8], at: usize, value: u32)
+    requires { ⌜ at + 2 ≤ length (now m) ⌝ }
+    ensures { λ r. ⌜ now (m .exit) ≡ storedAt (now (m .entry)) at 2 value ⌝ }
+{
+    m[at] = low(value);
+    put_one(m, at + 1, value / 256);
+}
+
+fn put_three(m: &mut [u8], at: usize, value: u32)
+    requires { ⌜ at + 3 ≤ length (now m) ⌝ }
+    ensures { λ r. ⌜ now (m .exit) ≡ storedAt (now (m .entry)) at 3 value ⌝ }
+{
+    m[at] = low(value);
+    put_two(m, at + 1, value / 256);
+}
+
+fn put_four(m: &mut [u8], at: usize, value: u32)
+    requires { ⌜ at + 4 ≤ length (now m) ⌝ }
+    ensures { λ r. ⌜ now (m .exit) ≡ storedAt (now (m .entry)) at 4 value ⌝ }
+{
+    m[at] = low(value);
+    put_three(m, at + 1, value / 256);
+}
+
+// Any count of bytes, to places that are there.
+fn store_any(m: &mut [u8], at: usize, size: usize, value: u32)
+    requires { ⌜ at + size ≤ length (now m) ⌝ }
+    ensures { λ r. ⌜ now (m .exit) ≡ storedAt (now (m .entry)) at size value ⌝ }
+{
+    let mut v = value;
+    let mut i: usize = 0;
+    while i < size {
+        m[at + i] = low(v);
+        v = v / 256;
+        i += 1;
+    }
 }
 
 // The lowest `size` bytes of a value; nothing where they pass the end.
@@ -98,13 +190,19 @@ pub fn store(m: &mut [u8], at: usize, size: usize, value: u32)
     if m.len() - size < at {
         return;
     }
-    let mut v = value;
-    let mut i: usize = 0;
-    while i < size {
-        m[at + i] = low(v);
-        v = v / 256;
-        i += 1;
+    if size == 4 {
+        put_four(m, at, value);
+        return;
     }
+    if size == 2 {
+        put_two(m, at, value);
+        return;
+    }
+    if size == 1 {
+        put_one(m, at, value);
+        return;
+    }
+    store_any(m, at, size, value);
 }
 
 pub fn low(word: u32) -> u8

@@ -15,7 +15,7 @@ use Rattle.script.specs.Fold.{answerAt, fitted}
 -- ---- eight bytes
 
 module _ (l : List ℕ) (o v : ℕ) where
-  wide-length : length (storedWide l o v) ≡ length l
+  pub wide-length : length (storedWide l o v) ≡ length l
   unfolding storedWide
   wide-length = store-length (storedAt l o 4 (v % 2 ^ 32)) (o + 4) 4 (v / 2 ^ 32) ∙ store-length l o 4 (v % 2 ^ 32)
 

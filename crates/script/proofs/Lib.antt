@@ -4,6 +4,7 @@ pub mod Starts
 pub mod Direct
 pub mod Runs
 pub mod Laid
+pub mod Inside
 pub mod Fold
 pub mod Wiped
 pub mod Within

@@ -5,9 +5,9 @@ use mathlib.Core.Bool.{Bool, true, false, not, _&&_}
 use mathlib.Core.List.{List}
 use native.Mathlib.Nat.{sub-zero}
 use native.Mathlib.Omega.{arith}
-use lib.Dec.{ltb}
+use lib.Dec.{eqb, ltb}
 use lib.ListN.{length}
-use borrow.Author.Tests.{eq-eqb, ne-eqb, lt-ltb, le-ltb, ltb-true, ltb-false}
+use borrow.Author.Tests.{eq-eqb, ne-eqb, lt-ltb, le-ltb, ltb-true, ltb-false, eqb-true, eqb-false}
 use Rattle.memory.specs.Bytes.{loaded, storedAt}
 use Rattle.system.specs.declared.System.{System}
 use Rattle.system.specs.System.{Machine, machine, freshSystem}
@@ -69,12 +69,23 @@ module _ (s : List ℕ) (b : badScript s ≡ false) where
       by true t = let z : true ≡ false = bad-steps s (pressesIn s) refl presses-few _ refl (ltb-true _ _ t) ∙ b in let y : _≡_ {A = ℕ} 0 1 = cc in omega arith
       by false t = ltb-false _ _ t
 
+  -- and the length is what they say
+  steps-fit : length s ≡ 8 + 9 * pressesIn s + 16 * stepsIn s (pressesIn s)
+  steps-fit = by (eqb (length s) (8 + 9 * pressesIn s + 16 * stepsIn s (pressesIn s))) refl
+    where
+      by : (t : Bool) → eqb (length s) (8 + 9 * pressesIn s + 16 * stepsIn s (pressesIn s)) ≡ t → length s ≡ 8 + 9 * pressesIn s + 16 * stepsIn s (pressesIn s)
+      by true t = eqb-true _ _ t
+      by false t = let z : true ≡ false = bad-length s (pressesIn s) refl presses-few _ refl steps-few (eqb-false _ _ t) ∙ b in let y : _≡_ {A = ℕ} 0 1 = cc in absurd (omega arith)
+
 module _ (s : List ℕ) {b : Bool} (e : b ≡ badScript s) (h : b ≡ false) {p : ℕ} (i : p ≡ pressesIn s) where
   pub few-presses : p ≤ 4096
   few-presses = rw i (presses-few s (sym e ∙ h))
 
   pub few : {k : ℕ} → k ≡ stepsIn s p → (p ≤ 4096) × (k ≤ 4096)
   few j = (few-presses, rw (j, i) (steps-few s (sym e ∙ h)))
+
+  pub long : {k : ℕ} → k ≡ stepsIn s p → length s ≡ 8 + 9 * p + 16 * k
+  long j = rw (j, i) (steps-fit s (sym e ∙ h))
 
 -- so the count fits four bytes
 pub few-entries : (s : List ℕ) → badScript s ≡ false → entriesIn s % 2 ^ 32 ≡ entriesIn s

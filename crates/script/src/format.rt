@@ -1,7 +1,9 @@
 // What a script holds: u32 count of presses, the presses, u32 count of steps, the steps.
 ghost use mathlib.Core.Path.{_≡_};
-ghost use Prim.Native.Nat.{_+_, _≤_, _<_};
-ghost use Rattle.script.specs.Format.{wide, pressesIn, stepsIn, kindIn, kindsFrom, badScript, pressAt, stepAt, entryAt};
+ghost use Prim.Native.Nat.{_+_, _-_, _*_, _≤_, _<_};
+ghost use lib.ListN.{length};
+ghost use Rattle.memory.specs.Bytes.{loaded};
+ghost use Rattle.script.specs.Format.{wide, pressesIn, stepsIn, kindIn, kindsFrom, badScript, entry, pressAt, stepFrom, stepAt, entryAt};
 use crate::Entry;
 
 // Eight bytes.
@@ -33,15 +35,24 @@ fn known(kind: u32) -> bool
     (kind > 0) & (kind <= 12)
 }
 
+// The kind of the step at a place. Here and below a part of known length is taken of the script, so that no load tests for the end.
+fn kind_at(script: &[u8], at: usize) -> u32
+    requires { ⌜ at + 1 ≤ length (now script) ⌝ }
+    ensures { λ r. ⌜ r ≡ loaded (now (script .entry)) at 1 ⌝ }
+{
+    let end = at + 1;
+    memory::load(&script[at..end], 0, 1)
+}
+
 // Whether the n steps from a place on have kinds from 1 to 12.
 fn kinds(script: &[u8], from: usize, n: usize) -> bool
-    requires { ⌜ (from < 1000000) × (n ≤ 4096) ⌝ }
+    requires { ⌜ from + 16 * n ≤ length (now script) ⌝ }
     ensures { λ r. ⌜ r ≡ kindsFrom (now (script .entry)) from n ⌝ }
 {
     let mut at = from;
     let mut left = n;
     while left > 0 {
-        let kind = memory::load(script, at, 1);
+        let kind = kind_at(script, at);
         if !known(kind) {
             return false;
         }
@@ -68,34 +79,51 @@ pub(crate) fn bad_script(script: &[u8]) -> bool
     true
 }
 
-fn press_at(script: &[u8], i: usize) -> Entry
-    requires { ⌜ i < 4096 ⌝ }
-    ensures { λ r. ⌜ r ≡ pressAt (now (script .entry)) i ⌝ }
+// A press, its nine bytes given.
+fn press_in(bytes: &[u8]) -> Entry
+    ensures { λ r. ⌜ r ≡ entry 0 0 (loaded (now (bytes .entry)) 0 1) (wide (now (bytes .entry)) 1) ⌝ }
 {
     Entry {
         kind: 0,
         size: 0,
-        address: memory::load(script, 4 + 9 * i, 1),
-        value: load_wide(script, 5 + 9 * i),
+        address: memory::load(bytes, 0, 1),
+        value: load_wide(bytes, 1),
     }
+}
+
+// A step, its sixteen bytes given.
+fn step_in(bytes: &[u8]) -> Entry
+    ensures { λ r. ⌜ r ≡ stepFrom (now (bytes .entry)) 0 ⌝ }
+{
+    Entry {
+        kind: memory::load(bytes, 0, 1),
+        size: memory::load(bytes, 1, 1),
+        address: memory::load(bytes, 4, 4),
+        value: load_wide(bytes, 8),
+    }
+}
+
+fn press_at(script: &[u8], i: usize) -> Entry
+    requires { ⌜ 4 + 9 * i + 9 ≤ length (now script) ⌝ }
+    ensures { λ r. ⌜ r ≡ pressAt (now (script .entry)) i ⌝ }
+{
+    let at = 4 + 9 * i;
+    let end = at + 9;
+    press_in(&script[at..end])
 }
 
 fn step_at(script: &[u8], p: usize, i: usize) -> Entry
-    requires { ⌜ (p ≤ 4096) × (i < 4096) ⌝ }
+    requires { ⌜ 8 + 9 * p + 16 * i + 16 ≤ length (now script) ⌝ }
     ensures { λ r. ⌜ r ≡ stepAt (now (script .entry)) p i ⌝ }
 {
     let at = 8 + 9 * p + 16 * i;
-    Entry {
-        kind: memory::load(script, at, 1),
-        size: memory::load(script, at + 1, 1),
-        address: memory::load(script, at + 4, 4),
-        value: load_wide(script, at + 8),
-    }
+    let end = at + 16;
+    step_in(&script[at..end])
 }
 
-// Entry i, presses first.
+// Entry i, presses first; it lies in the script.
 pub(crate) fn entry_at(script: &[u8], p: usize, i: usize) -> Entry
-    requires { ⌜ (p ≤ 4096) × (i < p + 4096) ⌝ }
+    requires { ⌜ 8 + 9 * p + 16 * (i + 1 - p) ≤ length (now script) ⌝ }
     ensures { λ r. ⌜ r ≡ entryAt (now (script .entry)) p i ⌝ }
 {
     if i < p {

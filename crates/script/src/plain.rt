@@ -1,7 +1,8 @@
 // Entries that need no device: memories, and words that are read or written as they are stored. They are worked in a loop of their
 // own, so that the devices are not moved for them.
 ghost use mathlib.Core.Path.{_≡_};
-ghost use Prim.Native.Nat.{_+_, _≤_};
+ghost use Prim.Native.Nat.{_+_, _-_, _*_, _≤_};
+ghost use lib.ListN.{length};
 ghost use Rattle.script.specs.Plain.{isPlain, plainEntry, narrow, PlainTurn, PlainRun};
 use crate::Answer;
 use crate::Entry;
@@ -80,7 +81,7 @@ pub(crate) fn run(
     n: usize,
     out: &mut [u8],
 ) -> usize
-    requires { ⌜ (p ≤ 4096) × (n ≤ p + 4096) × (from ≤ n) ⌝ }
+    requires { ⌜ (p ≤ 4096) × (n ≤ p + 4096) × (8 + 9 * p + 16 * (n - p) ≤ length (now script)) × (4 + 25 * n ≤ length (now out)) × (from ≤ n) ⌝ }
     ensures { λ r. ⌜ (from ≤ r) × (r ≤ n) × PlainRun (narrow (now (own .entry)) (now (addresses .entry)) (now (values .entry)) (now (ram .entry)) (now (sram .entry)) (now (gpio .entry))) (now (out .entry)) from (now (script .entry)) p n
         (narrow (now (own .exit)) (now (addresses .exit)) (now (values .exit)) (now (ram .exit)) (now (sram .exit)) (now (gpio .exit))) (now (out .exit)) r ⌝ }
 {

@@ -1,6 +1,7 @@
 // Answers, and their 25 bytes in the output.
 ghost use mathlib.Core.Path.{_≡_};
-ghost use Prim.Native.Nat.{_<_};
+ghost use Prim.Native.Nat.{_+_, _≤_, _<_};
+ghost use lib.ListN.{length};
 ghost use Rattle.script.specs.Answers.{reply, storedWide, laid};
 use crate::Answer;
 
@@ -25,13 +26,21 @@ fn store_wide(out: &mut [u8], at: usize, value: u64)
     memory::store(out, at + 4, 4, (value / 0x1_0000_0000) as u32);
 }
 
-// The 25 bytes of an answer, from a place on.
+// An answer, into the 25 bytes given.
+fn lay_in(bytes: &mut [u8], answer: Answer)
+    ensures { λ r. ⌜ now (bytes .exit) ≡ laid (now (bytes .entry)) 0 answer ⌝ }
+{
+    memory::store(bytes, 0, 1, answer.refusal as u32);
+    store_wide(bytes, 1, answer.a);
+    store_wide(bytes, 9, answer.b);
+    store_wide(bytes, 17, answer.c);
+}
+
+// The 25 bytes of an answer, from a place on: a part of known length, so that no store tests for the end.
 pub(crate) fn lay(out: &mut [u8], at: usize, answer: Answer)
-    requires { ⌜ at < 500000 ⌝ }
+    requires { ⌜ at + 25 ≤ length (now out) ⌝ }
     ensures { λ r. ⌜ now (out .exit) ≡ laid (now (out .entry)) at answer ⌝ }
 {
-    memory::store(out, at, 1, answer.refusal as u32);
-    store_wide(out, at + 1, answer.a);
-    store_wide(out, at + 9, answer.b);
-    store_wide(out, at + 17, answer.c);
+    let end = at + 25;
+    lay_in(&mut out[at..end], answer);
 }

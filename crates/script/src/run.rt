@@ -1,6 +1,7 @@
 // The runner.
 ghost use mathlib.Core.Path.{_≡_};
-ghost use Prim.Native.Nat.{_+_, _≤_};
+ghost use Prim.Native.Nat.{_+_, _-_, _*_, _≤_};
+ghost use lib.ListN.{length};
 ghost use Rattle.system.specs.System.{machine};
 ghost use Rattle.script.specs.Format.{entriesFrom};
 ghost use Rattle.script.specs.Parts.{stateOf};
@@ -44,7 +45,7 @@ fn run_all(
     n: usize,
     out: &mut [u8],
 ) -> Parts
-    requires { ⌜ (p ≤ 4096) × (n ≤ p + 4096) ⌝ }
+    requires { ⌜ (p ≤ 4096) × (n ≤ p + 4096) × (8 + 9 * p + 16 * (n - p) ≤ length (now script)) × (4 + 25 * n ≤ length (now out)) ⌝ }
     ensures { λ r. ⌜ ran (machine (stateOf (now (own .exit)) (now (addresses .exit)) (now (values .exit)) (now (rtc .exit)) (now (page .exit)) (now (at .exit)) (now (frequencies .exit)) (now (duties .exit)) (now (times .exit)) (now (codes .exit)) r) (now (ram .exit)) (now (sram .exit)) (now (gpio .exit)) (now (fb .exit))) (now (out .exit))
         ≡ ranOf (ran (machine (stateOf (now (own .entry)) (now (addresses .entry)) (now (values .entry)) (now (rtc .entry)) (now (page .entry)) (now (at .entry)) (now (frequencies .entry)) (now (duties .entry)) (now (times .entry)) (now (codes .entry)) start) (now (ram .entry)) (now (sram .entry)) (now (gpio .entry)) (now (fb .entry))) (now (out .entry))) 4 (entriesFrom (now (script .entry)) p n 0) ⌝ }
 {

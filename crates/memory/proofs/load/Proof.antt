@@ -1,65 +1,54 @@
-use Prim.Native.Nat.{_+_, _-_, _≤_}
-use mathlib.Core.Path.{_≡_}
 use native.Mathlib.Omega.{arith}
-use Rattle.memory.specs.Bytes.{le}
-use Rattle.memory.proofs.Cases.{load-out, load-in, le-none, le-more}
+use Rattle.memory.proofs.Cases.{load-out}
 use borrow.Author.Needs.{needs}
 use Rattle.memory.proofs.load.Statement.{statement}
 use Rattle.memory.proofs.load.Tie as tie
 
-abbrev Inv-loop : tie.InvT-loop
-Inv-loop m at size v₀ i₀ v i = (i ≤ size) × (v ≡ le m (at + i) (size - i))
-
-abbrev μ-loop : tie.MeasureT-loop
-μ-loop m at size v₀ i₀ v i = i
-
-returns : tie.Need-returns Inv-loop μ-loop
+returns : tie.Need-returns
 returns c = load-out _ _ _ (omega arith)
 
-sub-if2 : tie.Need-sub-if2 Inv-loop μ-loop
+sub-if2 : tie.Need-sub-if2
 sub-if2 c = search needs
 
-returns-2 : tie.Need-returns-2 Inv-loop μ-loop
+returns-2 : tie.Need-returns-2
 returns-2 c = load-out _ _ _ (omega arith)
 
-loop-holds : tie.Need-loop-holds Inv-loop μ-loop
-loop-holds c = (search needs, le-none _ _ _)
+four-requires : tie.Need-four-requires
+four-requires c κs = search needs
 
-sub-i : tie.Need-sub-i Inv-loop μ-loop
-sub-i c = search needs
+returns-3 : tie.Need-returns-3
+returns-3 c = rw (c .before .if3 .taken) (c .four .ensures)
 
-add-grown : tie.Need-add-grown Inv-loop μ-loop
-add-grown c = search needs
+two-requires : tie.Need-two-requires
+two-requires c κs = search needs
 
-shared-slice-read-grown : tie.Need-shared-slice-read-grown Inv-loop μ-loop
-shared-slice-read-grown c = search needs
+returns-4 : tie.Need-returns-4
+returns-4 c = rw (c .before .if4 .taken) (c .two .ensures)
 
-grown-requires : tie.Need-grown-requires Inv-loop μ-loop
-grown-requires c κs = search needs
+one-requires : tie.Need-one-requires
+one-requires c κs = search needs
 
-loop-less : tie.Need-loop-less Inv-loop μ-loop
-loop-less c = search needs
+returns-5 : tie.Need-returns-5
+returns-5 c = rw (c .before .if5 .taken) (c .one .ensures)
 
-loop-again : tie.Need-loop-again Inv-loop μ-loop
-loop-again c = (omega arith, le-more _ _ _ _ _ _ (c .before .before .loop-test .taken) (c .before .before .before .loop .inv .0) (c .before .before .before .loop .inv .1) (c .grown .ensures))
+load-any-requires : tie.Need-load-any-requires
+load-any-requires c κs = search needs
 
-returns-3 : tie.Need-returns-3 Inv-loop μ-loop
-returns-3 c = load-in _ _ _ _ _ (omega arith) (omega arith) (c .before .loop .inv .1)
+returns-6 : tie.Need-returns-6
+returns-6 c = (c .load-any .ensures)
 
 pub load-spec : {M : Type 1} → statement M
 load-spec =
     tie.close
     (tie.spec
-    Inv-loop
-    μ-loop
     returns
     sub-if2
     returns-2
-    loop-holds
-    sub-i
-    add-grown
-    shared-slice-read-grown
-    grown-requires
-    loop-less
-    loop-again
-    returns-3)
+    four-requires
+    returns-3
+    two-requires
+    returns-4
+    one-requires
+    returns-5
+    load-any-requires
+    returns-6)

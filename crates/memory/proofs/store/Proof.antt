@@ -1,71 +1,70 @@
-use Prim.Native.Nat.{_+_, _-_, _≤_}
-use mathlib.Core.Path.{_≡_, _∙_}
 use native.Mathlib.Omega.{arith}
-use lib.ListN.{length, length-set}
-use lib.Seq.{sets}
-use Rattle.memory.specs.Bytes.{bytesOf}
-use Rattle.memory.proofs.Cases.{store-out, store-start, store-more, store-end}
+use Rattle.memory.proofs.Cases.{store-out}
 use borrow.Author.Needs.{needs}
 use Rattle.memory.proofs.store.Statement.{statement}
 use Rattle.memory.proofs.store.Tie as tie
 
-abbrev Inv-loop : tie.InvT-loop
-Inv-loop m₀ at size value v₀ i₀ m v i = (i ≤ size) × (length m ≡ length m₀) × (sets m (at + i) (bytesOf (size - i) v) ≡ sets m₀ at (bytesOf size value))
-
-abbrev μ-loop : tie.MeasureT-loop
-μ-loop m₀ at size value v₀ i₀ m v i = size - i
-
-returns : tie.Need-returns Inv-loop μ-loop
+returns : tie.Need-returns
 returns c = store-out _ _ _ _ (omega arith)
 
-sub-if2 : tie.Need-sub-if2 Inv-loop μ-loop
+sub-if2 : tie.Need-sub-if2
 sub-if2 c = search needs
 
-returns-2 : tie.Need-returns-2 Inv-loop μ-loop
+returns-2 : tie.Need-returns-2
 returns-2 c = store-out _ _ _ _ (omega arith)
 
-loop-holds : tie.Need-loop-holds Inv-loop μ-loop
-loop-holds c = (search needs, search needs, store-start _ _ _ _)
+put-four-requires : tie.Need-put-four-requires
+put-four-requires c κs = search needs
 
-low-requires : tie.Need-low-requires Inv-loop μ-loop
-low-requires c κs = search needs
+same-length : tie.Need-same-length
+same-length c = search needs
 
-add-m : tie.Need-add-m Inv-loop μ-loop
-add-m c = search needs
+returns-3 : tie.Need-returns-3
+returns-3 c = rw (c .before .before .before .before .if3 .taken) (c .before .before .put-four .ensures)
 
-slice-write-m : tie.Need-slice-write-m Inv-loop μ-loop
-slice-write-m c = search needs
+put-two-requires : tie.Need-put-two-requires
+put-two-requires c κs = search needs
 
-add-i : tie.Need-add-i Inv-loop μ-loop
-add-i c = search needs
+same-length-2 : tie.Need-same-length-2
+same-length-2 c = search needs
 
-loop-less : tie.Need-loop-less Inv-loop μ-loop
-loop-less c = search needs
+returns-4 : tie.Need-returns-4
+returns-4 c = rw (c .before .before .before .before .if4 .taken) (c .before .before .put-two .ensures)
 
-loop-again : tie.Need-loop-again Inv-loop μ-loop
-loop-again c = (search needs, simp length-set (c .before .before .loop .inv .1), store-more _ _ _ _ _ _ (c .before .loop-test .taken) (c .low .ensures) ∙ (c .before .before .loop .inv .2))
+put-one-requires : tie.Need-put-one-requires
+put-one-requires c κs = search needs
 
-same-length : tie.Need-same-length Inv-loop μ-loop
-same-length c = (c .before .loop .inv .1)
+same-length-3 : tie.Need-same-length-3
+same-length-3 c = search needs
 
-returns-3 : tie.Need-returns-3 Inv-loop μ-loop
-returns-3 c = store-end _ _ _ _ _ _ _ (omega arith) (c .loop-test .left) (c .before .loop .inv .2)
+returns-5 : tie.Need-returns-5
+returns-5 c = rw (c .before .before .before .before .if5 .taken) (c .before .before .put-one .ensures)
+
+store-any-requires : tie.Need-store-any-requires
+store-any-requires c κs = search needs
+
+same-length-4 : tie.Need-same-length-4
+same-length-4 c = search needs
+
+returns-6 : tie.Need-returns-6
+returns-6 c = (c .before .before .store-any .ensures)
 
 pub store-spec : {M : Type 1} → statement M
 store-spec =
     tie.close
     (tie.spec
-    Inv-loop
-    μ-loop
     returns
     sub-if2
     returns-2
-    loop-holds
-    low-requires
-    add-m
-    slice-write-m
-    add-i
-    loop-less
-    loop-again
+    put-four-requires
     same-length
-    returns-3)
+    returns-3
+    put-two-requires
+    same-length-2
+    returns-4
+    put-one-requires
+    same-length-3
+    returns-5
+    store-any-requires
+    same-length-4
+    returns-6)

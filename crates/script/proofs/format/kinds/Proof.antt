@@ -18,15 +18,15 @@ abbrev μ-loop : tie.MeasureT-loop
 loop-holds : tie.Need-loop-holds Inv-loop μ-loop
 loop-holds c = (refl, omega arith, refl)
 
-load-requires : tie.Need-load-requires Inv-loop μ-loop
-load-requires c κs = search needs
+kind-at-requires : tie.Need-kind-at-requires Inv-loop μ-loop
+kind-at-requires c κs = omega (arith, (c .before .loop .inv .2), (c .before .before .before .pre))
 
 known-requires : tie.Need-known-requires Inv-loop μ-loop
 known-requires c κs = search needs
 
 returns : tie.Need-returns Inv-loop μ-loop
 returns c =
-    kinds-not _ _ _ _ (c .before .before .before .loop-test .taken) (c .before .before .load .ensures)
+    kinds-not _ _ _ _ (c .before .before .before .loop-test .taken) (c .before .before .kind-at .ensures)
     (sym (c .before .known .ensures) ∙ not-true _ (c .if1 .taken)) ∙ (c .before .before .before .before .loop .inv .0)
 
 add-at : tie.Need-add-at Inv-loop μ-loop
@@ -40,7 +40,7 @@ loop-less c = search needs
 
 loop-again : tie.Need-loop-again Inv-loop μ-loop
 loop-again c =
-    (kinds-more _ _ _ _ (c .before .before .before .loop-test .taken) (c .before .before .load .ensures) (sym (c .before .known .ensures) ∙ not-false _ (c .if1 .left)) ∙ (c .before .before .before .before .loop .inv .0), omega arith, omega arith)
+    (kinds-more _ _ _ _ (c .before .before .before .loop-test .taken) (c .before .before .kind-at .ensures) (sym (c .before .known .ensures) ∙ not-false _ (c .if1 .left)) ∙ (c .before .before .before .before .loop .inv .0), omega arith, omega arith)
 
 returns-2 : tie.Need-returns-2 Inv-loop μ-loop
 returns-2 c = kinds-end _ _ _ (c .loop-test .left) ∙ (c .before .loop .inv .0)
@@ -52,7 +52,7 @@ kinds-spec =
     Inv-loop
     μ-loop
     loop-holds
-    load-requires
+    kind-at-requires
     known-requires
     returns
     add-at

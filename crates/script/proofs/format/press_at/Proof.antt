@@ -1,38 +1,43 @@
-use Rattle.script.specs.Format.{pressAt}
+use mathlib.Core.Path.{_∙_}
+use native.Mathlib.Omega.{arith}
+use Rattle.script.proofs.Inside.{press-part}
 use borrow.Author.Needs.{needs}
 use Rattle.script.proofs.format.press_at.Statement.{statement}
 use Rattle.script.proofs.format.press_at.Tie as tie
 
-mul-load : tie.Need-mul-load
-mul-load c = search needs
+mul-at : tie.Need-mul-at
+mul-at c = search needs
 
-add-load : tie.Need-add-load
-add-load c = search needs
+add-at : tie.Need-add-at
+add-at c = search needs
 
-load-requires : tie.Need-load-requires
-load-requires c κs = search needs
+add-end : tie.Need-add-end
+add-end c = search needs
 
-mul-load-wide : tie.Need-mul-load-wide
-mul-load-wide c = search needs
+sub-press-in : tie.Need-sub-press-in
+sub-press-in c = search needs
 
-add-load-wide : tie.Need-add-load-wide
-add-load-wide c = search needs
+part-press-in-start : tie.Need-part-press-in-start
+part-press-in-start c = search needs
 
-load-wide-requires : tie.Need-load-wide-requires
-load-wide-requires c κs = search needs
+part-press-in-end : tie.Need-part-press-in-end
+part-press-in-end c = search needs
+
+press-in-requires : tie.Need-press-in-requires
+press-in-requires c κs = search needs
 
 returns : tie.Need-returns
-unfolding pressAt
-returns c = rw (← (c .before .load .ensures), ← (c .load-wide .ensures))
+returns c = (c .press-in .ensures) ∙ press-part _ _ (omega arith)
 
 pub press-at-spec : {M : Type 1} → statement M
 press-at-spec =
     tie.close
     (tie.spec
-    mul-load
-    add-load
-    load-requires
-    mul-load-wide
-    add-load-wide
-    load-wide-requires
+    mul-at
+    add-at
+    add-end
+    sub-press-in
+    part-press-in-start
+    part-press-in-end
+    press-in-requires
     returns)

@@ -1,4 +1,6 @@
-use Rattle.script.specs.Format.{stepFrom}
+use mathlib.Core.Path.{_∙_}
+use native.Mathlib.Omega.{arith}
+use Rattle.script.proofs.Inside.{step-part}
 use borrow.Author.Needs.{needs}
 use Rattle.script.proofs.format.step_at.Statement.{statement}
 use Rattle.script.proofs.format.step_at.Tie as tie
@@ -15,31 +17,23 @@ mul-at-2 c = search needs
 add-at-2 : tie.Need-add-at-2
 add-at-2 c = search needs
 
-load-requires : tie.Need-load-requires
-load-requires c κs = search needs
+add-end : tie.Need-add-end
+add-end c = search needs
 
-add-load : tie.Need-add-load
-add-load c = search needs
+sub-step-in : tie.Need-sub-step-in
+sub-step-in c = search needs
 
-load-requires-2 : tie.Need-load-requires-2
-load-requires-2 c κs = search needs
+part-step-in-start : tie.Need-part-step-in-start
+part-step-in-start c = search needs
 
-add-load-2 : tie.Need-add-load-2
-add-load-2 c = search needs
+part-step-in-end : tie.Need-part-step-in-end
+part-step-in-end c = search needs
 
-load-requires-3 : tie.Need-load-requires-3
-load-requires-3 c κs = search needs
-
-add-load-wide : tie.Need-add-load-wide
-add-load-wide c = search needs
-
-load-wide-requires : tie.Need-load-wide-requires
-load-wide-requires c κs = search needs
+step-in-requires : tie.Need-step-in-requires
+step-in-requires c κs = search needs
 
 returns : tie.Need-returns
-unfolding stepFrom
-returns c =
-    rw (← (c .before .before .before .load .ensures), ← (c .before .before .load2 .ensures), ← (c .before .load3 .ensures), ← (c .load-wide .ensures))
+returns c = (c .step-in .ensures) ∙ step-part _ _ (omega arith)
 
 pub step-at-spec : {M : Type 1} → statement M
 step-at-spec =
@@ -49,11 +43,9 @@ step-at-spec =
     add-at
     mul-at-2
     add-at-2
-    load-requires
-    add-load
-    load-requires-2
-    add-load-2
-    load-requires-3
-    add-load-wide
-    load-wide-requires
+    add-end
+    sub-step-in
+    part-step-in-start
+    part-step-in-end
+    step-in-requires
     returns)

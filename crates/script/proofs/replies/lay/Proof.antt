@@ -1,55 +1,40 @@
-use Rattle.script.specs.Answers.{laid}
+use native.Mathlib.Omega.{arith}
+use Rattle.script.proofs.Inside.{laid-part}
 use borrow.Author.Needs.{needs}
 use Rattle.script.proofs.replies.lay.Statement.{statement}
 use Rattle.script.proofs.replies.lay.Tie as tie
 
-cast-store : tie.Need-cast-store
-cast-store c = search needs
+add-end : tie.Need-add-end
+add-end c = search needs
 
-store-requires : tie.Need-store-requires
-store-requires c κs = search needs
+sub-lay-in : tie.Need-sub-lay-in
+sub-lay-in c = search needs
 
-add-store-wide : tie.Need-add-store-wide
-add-store-wide c = search needs
+part-lay-in-start : tie.Need-part-lay-in-start
+part-lay-in-start c = search needs
 
-store-wide-requires : tie.Need-store-wide-requires
-store-wide-requires c κs = search needs
+part-lay-in-end : tie.Need-part-lay-in-end
+part-lay-in-end c = search needs
 
-add-store-wide-2 : tie.Need-add-store-wide-2
-add-store-wide-2 c = search needs
-
-store-wide-requires-2 : tie.Need-store-wide-requires-2
-store-wide-requires-2 c κs = search needs
-
-add-store-wide-3 : tie.Need-add-store-wide-3
-add-store-wide-3 c = search needs
-
-store-wide-requires-3 : tie.Need-store-wide-requires-3
-store-wide-requires-3 c κs = search needs
+lay-in-requires : tie.Need-lay-in-requires
+lay-in-requires c κs = search needs
 
 same-length : tie.Need-same-length
 same-length c = search needs
 
 returns : tie.Need-returns
-unfolding laid
 returns c =
-    let u = c .before .before .before .before .before .before in
-    let v = u .before .before .before .before in
-    let w = v .before .before .before .before in
-    rw
-    ((c .before .before .store-wide3 .ensures), (u .store-wide2 .ensures), (v .store-wide .ensures), (w .store .ensures))
+    let a = c .before .before .before .before .before .args in
+    laid-part (a .out .now) _ (a .at) (a .answer) (omega arith) (c .before .before .lay-in .ensures)
 
 pub lay-spec : {M : Type 1} → statement M
 lay-spec =
     tie.close
     (tie.spec
-    cast-store
-    store-requires
-    add-store-wide
-    store-wide-requires
-    add-store-wide-2
-    store-wide-requires-2
-    add-store-wide-3
-    store-wide-requires-3
+    add-end
+    sub-lay-in
+    part-lay-in-start
+    part-lay-in-end
+    lay-in-requires
     same-length
     returns)

@@ -1,4 +1,4 @@
-use Rattle.script.proofs.Runs.{few-presses, few, run-bad, run-short, run-done}
+use Rattle.script.proofs.Runs.{few-presses, few, long, run-bad, run-short, run-done}
 use native.Mathlib.Omega.{arith}
 use mathlib.Core.Path.{_∙_}
 use borrow.Author.Needs.{needs}
@@ -51,9 +51,11 @@ reset-requires c κs = search needs
 
 run-all-requires : tie.Need-run-all-requires
 run-all-requires c κs =
-    let u = c .before .before .before .before .before .before .before .before .before .before .before .before .before .before .before .before .before .before .before .before .before .before .before .before .before .before .before .before .before .before .before in
+    let w = c .before .before .before .before .before .before .before .before .before .before .before .before .before .before .before .before .before .before .before .before .before .before .before .before .before .before .before .before in
+    let u = w .before .before .before in
     let f = few _ (u .before .before .before .bad-script .ensures) (u .before .before .if1 .left) (u .before .presses .ensures) (u .steps .ensures) in
-    (f .0, omega (arith, f .1))
+    let l = long _ (u .before .before .before .bad-script .ensures) (u .before .before .if1 .left) (u .before .presses .ensures) (u .steps .ensures) in
+    (f .0, omega (arith, f .1), omega (arith, l), omega (arith, (w .before .before .if2 .left), (w .store .kept .0)))
 
 same-length : tie.Need-same-length
 same-length c = search needs
