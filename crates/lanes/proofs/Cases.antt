@@ -9,9 +9,8 @@ use Rattle.registers.specs.declared.Registers.{Registers}
 use Rattle.registers.specs.declared.Refusal.{Refusal}
 use Rattle.registers.specs.Words.{Outcome, numberOf, outcome, ownAt, wordAt, putWord}
 use Rattle.memory.specs.declared.Place.{Place}
-use Rattle.memory.specs.declared.Place.the-variants.{Ram, Sram, Gpio, Register, Stray}
+use Rattle.memory.specs.declared.Place.the-variants.{Register}
 use Rattle.memory.specs.Places.{placeOf}
-use Rattle.memory.specs.Bytes.{loaded, storedAt}
 use Rattle.memory.specs.Access.{goodSize, cutOf, mergedOf}
 use Rattle.flash.specs.declared.Chip.{Chip}
 use Rattle.panel.specs.Entries.{Screen}
@@ -21,7 +20,7 @@ use Rattle.bus.specs.Screen.{Copied, controlled}
 use Rattle.bus.specs.Write.{wordOf}
 use Rattle.lanes.specs.declared.Lane.{Lane}
 use Rattle.lanes.specs.declared.Lane.the-variants.{Plain, Flash, Panel, Other}
-use Rattle.lanes.specs.Lanes.{movesOf, plainAt, plainRead, wordLane, laneAt, laneOf}
+use Rattle.lanes.specs.Lanes.{plainAt, plainRead, wordLane, laneAt, laneOf}
 use Rattle.lanes.specs.Ways.{gotAt, gotOf, held, Kept, kept, storing, putAt, putOf, flashOf, panelOf}
 
 -- ---- which lane

@@ -19,9 +19,9 @@ use Rattle.bus.specs.declared.Devices.{Devices}
 use Rattle.bus.specs.World.{World, world, Out, out}
 use Rattle.bus.specs.Chip.{selectWritten, sendWritten}
 use Rattle.bus.specs.Screen.{controlled}
-use Rattle.bus.specs.Words.{controlAt, fieldAt, actsOf}
-use Rattle.bus.specs.Read.{counterAt, movedValue, valueOf, afterRead, Given, given, regRead, got, reads, readAt, readOf}
-use Rattle.bus.specs.Write.{byFlash, byPanel, byStore, clockIn, wordOf, storedWord, portWritten, regWritten, writeAt, writeOf}
+use Rattle.bus.specs.Words.{controlAt, fieldAt}
+use Rattle.bus.specs.Read.{movedValue, valueOf, afterRead, given, regRead, got, reads, readAt, readOf}
+use Rattle.bus.specs.Write.{byFlash, byPanel, byStore, clockIn, wordOf, storedWord, portWritten, regWritten, writeOf}
 use Rattle.bus.proofs.Branches.{by-write, by-port}
 use Rattle.lanes.proofs.Cases.{lane-select, lane-send, lane-panel, lane-rtc, lane-acts, lane-stored}
 use Rattle.lanes.specs.declared.Lane.{Lane}

@@ -6,10 +6,9 @@ use mathlib.Core.List.{List}
 use mathlib.Core.Logic.{_≢_}
 use native.Mathlib.Omega.{arith}
 use lib.Dec.{eqb}
-use borrow.Author.Tests.{eqb-true, eq-eqb, ne-eqb}
+use borrow.Author.Tests.{eqb-true, ne-eqb}
 use Rattle.registers.specs.declared.Registers.{Registers}
-use Rattle.bus.specs.World.{Out, out, world}
-use Rattle.bus.specs.Write as write
+use Rattle.bus.specs.World.{Out}
 use Rattle.timer.specs.Events as events
 use Rattle.lanes.specs.declared.Lane.{Lane}
 use Rattle.lanes.specs.declared.Lane.the-variants.{Plain, Flash, Panel, Other}
@@ -23,7 +22,7 @@ use Rattle.script.specs.declared.Answer.{Answer}
 use Rattle.script.specs.Answers.{reply}
 use Rattle.script.specs.Parts.{parts, turned}
 use Rattle.script.specs.Plain.{isPlain, plainEntry}
-use Rattle.script.specs.Script.{Turn, turn, turnOf, leftTurn}
+use Rattle.script.specs.Script.{turn, turnOf, leftTurn}
 use Rattle.script.proofs.Turns.{turn-read, turn-write}
 
 module _ (e : Entry) where

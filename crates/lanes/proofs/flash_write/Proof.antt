@@ -20,8 +20,13 @@ same-length c = search needs
 
 returns : tie.Need-returns
 returns c =
-    flash-select ((c .before .before .before .before .before .before .before .before .before .before .before .args .own .now)) ((c .before .before .before .before .before .before .before .before .before .before .before .args .chip)) ((c .before .before .before .before .before .before .before .before .before .before .before .args .page .now)) ((c .before .before .before .before .before .before .before .before .before .before .before .args .ram .now)) ((c .before .before .before .before .before .before .before .before .before .before .before .args .addr)) ((c .before .before .before .before .before .before .before .before .before .before .before .args .size)) ((c .before .before .before .before .before .before .before .before .before .before .before .args .value)) ((c .before .before .before .before .before .before .before .before .before .if1 .taken))
-    ((c .before .before .before .before .before .before .before .own-reg .ensures)) ((c .before .before .before .before .before .before .merged .ensures)) ((c .before .before .select-write .ensures))
+    let u = c .before .before .before .before .before .before in
+    let v = u .before in
+    let w = v .before .before in
+    let x = w .before .before in
+    let a = (x .args) in
+    flash-select (a .own .now) (a .chip) (a .page .now) (a .ram .now) (a .addr) (a .size) (a .value) (w .if1 .taken) (v .own-reg .ensures)
+    (u .merged .ensures) (c .before .before .select-write .ensures)
 
 own-reg-requires-2 : tie.Need-own-reg-requires-2
 own-reg-requires-2 c κs = search needs
@@ -37,8 +42,13 @@ same-length-2 c = search needs
 
 returns-2 : tie.Need-returns-2
 returns-2 c =
-    flash-send ((c .before .before .before .before .before .before .before .before .before .args .own .now)) ((c .before .before .before .before .before .before .before .before .before .args .chip)) ((c .before .before .before .before .before .before .before .before .before .args .page .now)) ((c .before .before .before .before .before .before .before .before .before .args .ram .now)) ((c .before .before .before .before .before .before .before .before .before .args .addr)) ((c .before .before .before .before .before .before .before .before .before .args .size)) ((c .before .before .before .before .before .before .before .before .before .args .value)) ((c .before .before .before .before .before .before .before .if1 .left))
-    ((c .before .before .before .before .before .own-reg2 .ensures)) ((c .before .before .before .before .merged2 .ensures)) ((c .send-write .ensures))
+    let u = c .before .before .before .before in
+    let v = u .before in
+    let w = v .before .before in
+    let x = w .before .before in
+    let a = (x .args) in
+    flash-send (a .own .now) (a .chip) (a .page .now) (a .ram .now) (a .addr) (a .size) (a .value) (w .if1 .left) (v .own-reg2 .ensures)
+    (u .merged2 .ensures) (c .send-write .ensures)
 
 pub flash-write-spec : {M : Type 1} → statement M
 flash-write-spec =

@@ -42,21 +42,46 @@ enum-told-2 : tie.Need-enum-told-2
 enum-told-2 c = search needs
 
 returns : tie.Need-returns
-returns c = got-at (registersOf ((c .before .before .before .before .before .before .before .before .args .own .now)) ((c .before .before .before .before .before .before .before .before .args .addresses .now)) ((c .before .before .before .before .before .before .before .before .args .values .now))) ((c .before .before .before .before .before .before .before .before .args .ram .now)) ((c .before .before .before .before .before .before .before .before .args .sram .now)) ((c .before .before .before .before .before .before .before .before .args .gpio .now)) ((c .before .before .before .before .before .before .before .before .args .addr)) ((c .before .before .before .before .before .before .before .before .args .size)) ((c .before .before .before .before .locate .ensures)) ((c .before .before .place .given .1)) ((c .load .ensures))
+returns c =
+    let u = c .before .before .before .before in
+    let v = u .before .before .before .before in
+    let a = (v .args) in
+    let r = registersOf (a .own .now) (a .addresses .now) (a .values .now) in
+    got-at r (a .ram .now) (a .sram .now) (a .gpio .now) (a .addr) (a .size) (u .locate .ensures) (c .before .before .place .given .1)
+    (c .load .ensures)
 
 returns-2 : tie.Need-returns-2
-returns-2 c = got-at (registersOf ((c .before .before .before .before .before .before .before .before .args .own .now)) ((c .before .before .before .before .before .before .before .before .args .addresses .now)) ((c .before .before .before .before .before .before .before .before .args .values .now))) ((c .before .before .before .before .before .before .before .before .args .ram .now)) ((c .before .before .before .before .before .before .before .before .args .sram .now)) ((c .before .before .before .before .before .before .before .before .args .gpio .now)) ((c .before .before .before .before .before .before .before .before .args .addr)) ((c .before .before .before .before .before .before .before .before .args .size)) ((c .before .before .before .before .locate .ensures)) ((c .before .before .place2 .given .1)) ((c .load2 .ensures))
+returns-2 c =
+    let u = c .before .before .before .before in
+    let v = u .before .before .before .before in
+    let a = (v .args) in
+    let r = registersOf (a .own .now) (a .addresses .now) (a .values .now) in
+    got-at r (a .ram .now) (a .sram .now) (a .gpio .now) (a .addr) (a .size) (u .locate .ensures) (c .before .before .place2 .given .1)
+    (c .load2 .ensures)
 
 returns-3 : tie.Need-returns-3
-returns-3 c = got-at (registersOf ((c .before .before .before .before .before .before .before .before .args .own .now)) ((c .before .before .before .before .before .before .before .before .args .addresses .now)) ((c .before .before .before .before .before .before .before .before .args .values .now))) ((c .before .before .before .before .before .before .before .before .args .ram .now)) ((c .before .before .before .before .before .before .before .before .args .sram .now)) ((c .before .before .before .before .before .before .before .before .args .gpio .now)) ((c .before .before .before .before .before .before .before .before .args .addr)) ((c .before .before .before .before .before .before .before .before .args .size)) ((c .before .before .before .before .locate .ensures)) ((c .before .before .place3 .given .1)) ((c .load3 .ensures))
+returns-3 c =
+    let u = c .before .before .before .before in
+    let v = u .before .before .before .before in
+    let a = (v .args) in
+    let r = registersOf (a .own .now) (a .addresses .now) (a .values .now) in
+    got-at r (a .ram .now) (a .sram .now) (a .gpio .now) (a .addr) (a .size) (u .locate .ensures) (c .before .before .place3 .given .1)
+    (c .load3 .ensures)
 
 returns-4 : tie.Need-returns-4
 returns-4 c =
-    got-at (registersOf ((c .before .before .before .before .before .before .before .before .args .own .now)) ((c .before .before .before .before .before .before .before .before .args .addresses .now)) ((c .before .before .before .before .before .before .before .before .args .values .now))) ((c .before .before .before .before .before .before .before .before .args .ram .now)) ((c .before .before .before .before .before .before .before .before .args .sram .now)) ((c .before .before .before .before .before .before .before .before .args .gpio .now)) ((c .before .before .before .before .before .before .before .before .args .addr)) ((c .before .before .before .before .before .before .before .before .args .size)) ((c .before .before .before .before .locate .ensures)) ((c .before .before .enum-told .given .1))
-    (word-got (registersOf ((c .before .before .before .before .before .before .before .before .args .own .now)) ((c .before .before .before .before .before .before .before .before .args .addresses .now)) ((c .before .before .before .before .before .before .before .before .args .values .now))) _ _ ((c .before .reg .ensures)) ((c .cut .ensures)))
+    let u = c .before .before .before .before in
+    let v = u .before .before .before .before in
+    let a = (v .args) in
+    let r = registersOf (a .own .now) (a .addresses .now) (a .values .now) in
+    got-at r (a .ram .now) (a .sram .now) (a .gpio .now) (a .addr) (a .size) (u .locate .ensures) (c .before .before .enum-told .given .1)
+    (word-got r _ _ (c .before .reg .ensures) (c .cut .ensures))
 
 returns-5 : tie.Need-returns-5
-returns-5 c = got-at (registersOf ((c .before .before .before .before .before .before .args .own .now)) ((c .before .before .before .before .before .before .args .addresses .now)) ((c .before .before .before .before .before .before .args .values .now))) ((c .before .before .before .before .before .before .args .ram .now)) ((c .before .before .before .before .before .before .args .sram .now)) ((c .before .before .before .before .before .before .args .gpio .now)) ((c .before .before .before .before .before .before .args .addr)) ((c .before .before .before .before .before .before .args .size)) ((c .before .before .locate .ensures)) ((c .enum-told2 .given .1)) refl
+returns-5 c =
+    let a = (c .before .before .before .before .before .before .args) in
+    let r = registersOf (a .own .now) (a .addresses .now) (a .values .now) in
+    got-at r (a .ram .now) (a .sram .now) (a .gpio .now) (a .addr) (a .size) (c .before .before .locate .ensures) (c .enum-told2 .given .1) refl
 
 pub get-spec : {M : Type 1} → statement M
 get-spec =

@@ -19,8 +19,12 @@ same-length c = search needs
 
 returns : tie.Need-returns
 returns c =
-    panel-written (registersOf ((c .before .before .before .before .before .before .before .before .before .before .before .before .args .own .now)) ((c .before .before .before .before .before .before .before .before .before .before .before .before .args .addresses .now)) ((c .before .before .before .before .before .before .before .before .before .before .before .before .args .values .now))) ((c .before .before .before .before .before .before .before .before .before .before .before .before .args .ram .now)) ((c .before .before .before .before .before .before .before .before .before .before .before .before .args .sram .now)) ((c .before .before .before .before .before .before .before .before .before .before .before .before .args .gpio .now))
-    (screen ((c .before .before .before .before .before .before .before .before .before .before .before .before .args .panel)) ((c .before .before .before .before .before .before .before .before .before .before .before .before .args .fb .now))) _ _ _ ((c .before .before .before .before .before .before .own-reg .ensures)) ((c .before .before .before .before .before .merged .ensures)) ((c .before .before .lcd-write-ctrl .ensures))
+    let u = c .before .before .before .before .before in
+    let v = u .before in
+    let w = v .before .before .before .before .before .before in
+    let a = (w .args) in
+    panel-written (registersOf (a .own .now) (a .addresses .now) (a .values .now)) (a .ram .now) (a .sram .now) (a .gpio .now)
+    (screen (a .panel) (a .fb .now)) _ _ _ (v .own-reg .ensures) (u .merged .ensures) (c .before .before .lcd-write-ctrl .ensures)
 
 pub panel-write-spec : {M : Type 1} → statement M
 panel-write-spec =

@@ -7,7 +7,6 @@ use Rattle.lanes.proofs.Cases.{put-at, put-word}
 use borrow.Author.Needs.{needs}
 use Rattle.lanes.proofs.put.Statement.{statement}
 use Rattle.lanes.proofs.put.Tie as tie
-use Rattle.memory.proofs.store.Reads as store-reads′
 
 locate-requires : tie.Need-locate-requires
 locate-requires c κs = search needs
@@ -44,30 +43,57 @@ same-length c = search needs
 
 returns : tie.Need-returns
 returns c =
-    put-at (registersOf ((c .before .before .before .before .before .before .before .before .before .before .before .args .own .now)) ((c .before .before .before .before .before .before .before .before .before .before .before .args .addresses .now)) ((c .before .before .before .before .before .before .before .before .before .before .before .args .values .now))) ((c .before .before .before .before .before .before .before .before .before .before .before .args .ram .now)) ((c .before .before .before .before .before .before .before .before .before .before .before .args .sram .now)) ((c .before .before .before .before .before .before .before .before .before .before .before .args .gpio .now)) ((c .before .before .before .before .before .before .before .before .before .before .before .args .addr)) ((c .before .before .before .before .before .before .before .before .before .before .before .args .size)) ((c .before .before .before .before .before .before .before .before .before .before .before .args .value)) ((c .before .before .before .before .before .before .before .locate .ensures)) ((c .before .before .before .before .before .place .given .1))
-    (ap (λ (z : List ℕ). kept 0 (registersOf ((c .before .before .before .before .before .before .before .before .before .before .before .args .own .now)) ((c .before .before .before .before .before .before .before .before .before .before .before .args .addresses .now)) ((c .before .before .before .before .before .before .before .before .before .before .before .args .values .now))) z ((c .before .before .before .before .before .before .before .before .before .before .before .args .sram .now)) ((c .before .before .before .before .before .before .before .before .before .before .before .args .gpio .now))) ((c .before .before .store .ensures)))
+    let u = c .before .before .before .before .before in
+    let v = u .before .before in
+    let w = v .before .before .before .before in
+    let a = (w .args) in
+    let r = registersOf (a .own .now) (a .addresses .now) (a .values .now) in
+    put-at r (a .ram .now) (a .sram .now) (a .gpio .now) (a .addr) (a .size) (a .value) (v .locate .ensures) (u .place .given .1)
+    (ap (λ (z : List ℕ). kept 0 r z (a .sram .now) (a .gpio .now)) (c .before .before .store .ensures))
 
 same-length-2 : tie.Need-same-length-2
 same-length-2 c = search needs
 
 returns-2 : tie.Need-returns-2
 returns-2 c =
-    put-at (registersOf ((c .before .before .before .before .before .before .before .before .before .before .before .args .own .now)) ((c .before .before .before .before .before .before .before .before .before .before .before .args .addresses .now)) ((c .before .before .before .before .before .before .before .before .before .before .before .args .values .now))) ((c .before .before .before .before .before .before .before .before .before .before .before .args .ram .now)) ((c .before .before .before .before .before .before .before .before .before .before .before .args .sram .now)) ((c .before .before .before .before .before .before .before .before .before .before .before .args .gpio .now)) ((c .before .before .before .before .before .before .before .before .before .before .before .args .addr)) ((c .before .before .before .before .before .before .before .before .before .before .before .args .size)) ((c .before .before .before .before .before .before .before .before .before .before .before .args .value)) ((c .before .before .before .before .before .before .before .locate .ensures)) ((c .before .before .before .before .before .place2 .given .1))
-    (ap (λ (z : List ℕ). kept 0 (registersOf ((c .before .before .before .before .before .before .before .before .before .before .before .args .own .now)) ((c .before .before .before .before .before .before .before .before .before .before .before .args .addresses .now)) ((c .before .before .before .before .before .before .before .before .before .before .before .args .values .now))) ((c .before .before .before .before .before .before .before .before .before .before .before .args .ram .now)) z ((c .before .before .before .before .before .before .before .before .before .before .before .args .gpio .now))) ((c .before .before .store2 .ensures)))
+    let u = c .before .before .before .before .before in
+    let v = u .before .before in
+    let w = v .before .before .before .before in
+    let a = (w .args) in
+    let r = registersOf (a .own .now) (a .addresses .now) (a .values .now) in
+    put-at r (a .ram .now) (a .sram .now) (a .gpio .now) (a .addr) (a .size) (a .value) (v .locate .ensures) (u .place2 .given .1)
+    (ap (λ (z : List ℕ). kept 0 r (a .ram .now) z (a .gpio .now)) (c .before .before .store2 .ensures))
 
 same-length-3 : tie.Need-same-length-3
 same-length-3 c = search needs
 
 returns-3 : tie.Need-returns-3
 returns-3 c =
-    put-at (registersOf ((c .before .before .before .before .before .before .before .before .before .before .before .args .own .now)) ((c .before .before .before .before .before .before .before .before .before .before .before .args .addresses .now)) ((c .before .before .before .before .before .before .before .before .before .before .before .args .values .now))) ((c .before .before .before .before .before .before .before .before .before .before .before .args .ram .now)) ((c .before .before .before .before .before .before .before .before .before .before .before .args .sram .now)) ((c .before .before .before .before .before .before .before .before .before .before .before .args .gpio .now)) ((c .before .before .before .before .before .before .before .before .before .before .before .args .addr)) ((c .before .before .before .before .before .before .before .before .before .before .before .args .size)) ((c .before .before .before .before .before .before .before .before .before .before .before .args .value)) ((c .before .before .before .before .before .before .before .locate .ensures)) ((c .before .before .before .before .before .place3 .given .1))
-    (ap (λ (z : List ℕ). kept 0 (registersOf ((c .before .before .before .before .before .before .before .before .before .before .before .args .own .now)) ((c .before .before .before .before .before .before .before .before .before .before .before .args .addresses .now)) ((c .before .before .before .before .before .before .before .before .before .before .before .args .values .now))) ((c .before .before .before .before .before .before .before .before .before .before .before .args .ram .now)) ((c .before .before .before .before .before .before .before .before .before .before .before .args .sram .now)) z) ((c .before .before .store3 .ensures)))
+    let u = c .before .before .before .before .before in
+    let v = u .before .before in
+    let w = v .before .before .before .before in
+    let a = (w .args) in
+    let r = registersOf (a .own .now) (a .addresses .now) (a .values .now) in
+    put-at r (a .ram .now) (a .sram .now) (a .gpio .now) (a .addr) (a .size) (a .value) (v .locate .ensures) (u .place3 .given .1)
+    (ap (λ (z : List ℕ). kept 0 r (a .ram .now) (a .sram .now) z) (c .before .before .store3 .ensures))
 
 returns-4 : tie.Need-returns-4
-returns-4 c = put-word (registersOf ((c .before .before .before .before .before .before .before .before .before .before .args .own .now)) ((c .before .before .before .before .before .before .before .before .before .before .args .addresses .now)) ((c .before .before .before .before .before .before .before .before .before .before .args .values .now))) ((c .before .before .before .before .before .before .before .before .before .before .args .ram .now)) ((c .before .before .before .before .before .before .before .before .before .before .args .sram .now)) ((c .before .before .before .before .before .before .before .before .before .before .args .gpio .now)) ((c .before .before .before .before .before .before .before .before .before .before .args .addr)) ((c .before .before .before .before .before .before .before .before .before .before .args .size)) ((c .before .before .before .before .before .before .before .before .before .before .args .value)) ((c .before .before .before .before .before .before .locate .ensures)) ((c .before .before .before .before .enum-told .given .1)) ((c .store4 .ensures))
+returns-4 c =
+    let u = c .before .before .before .before in
+    let v = u .before .before in
+    let w = v .before .before .before .before in
+    let a = (w .args) in
+    let r = registersOf (a .own .now) (a .addresses .now) (a .values .now) in
+    put-word r (a .ram .now) (a .sram .now) (a .gpio .now) (a .addr) (a .size) (a .value) (v .locate .ensures) (u .enum-told .given .1)
+    (c .store4 .ensures)
 
 returns-5 : tie.Need-returns-5
-returns-5 c = put-at (registersOf ((c .before .before .before .before .before .before .args .own .now)) ((c .before .before .before .before .before .before .args .addresses .now)) ((c .before .before .before .before .before .before .args .values .now))) ((c .before .before .before .before .before .before .args .ram .now)) ((c .before .before .before .before .before .before .args .sram .now)) ((c .before .before .before .before .before .before .args .gpio .now)) ((c .before .before .before .before .before .before .args .addr)) ((c .before .before .before .before .before .before .args .size)) ((c .before .before .before .before .before .before .args .value)) ((c .before .before .locate .ensures)) ((c .enum-told2 .given .1)) refl
+returns-5 c =
+    let u = c .before .before .before .before .before .before in
+    let a = (u .args) in
+    let r = registersOf (a .own .now) (a .addresses .now) (a .values .now) in
+    put-at r (a .ram .now) (a .sram .now) (a .gpio .now) (a .addr) (a .size) (a .value) (c .before .before .locate .ensures) (c .enum-told2 .given .1)
+    refl
 
 pub put-spec : {M : Type 1} → statement M
 put-spec =

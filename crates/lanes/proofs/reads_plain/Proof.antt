@@ -9,7 +9,7 @@ good-size-requires : tie.Need-good-size-requires
 good-size-requires c κs = search needs
 
 returns : tie.Need-returns
-returns c = no-read _ _ ((c .before .good-size .ensures)) ((c .if1 .taken))
+returns c = no-read _ _ (c .before .good-size .ensures) (c .if1 .taken)
 
 locate-requires : tie.Need-locate-requires
 locate-requires c κs = search needs
@@ -36,19 +36,31 @@ enum-told-5 : tie.Need-enum-told-5
 enum-told-5 c = search needs
 
 returns-2 : tie.Need-returns-2
-returns-2 c = read-at _ _ ((c .before .before .before .before .good-size .ensures)) ((c .before .before .before .if1 .left)) ((c .before .before .locate .ensures)) ((c .enum-told .given .1)) refl
+returns-2 c =
+    let u = c .before .before .before .before in
+    read-at _ _ (u .good-size .ensures) (c .before .before .before .if1 .left) (c .before .before .locate .ensures) (c .enum-told .given .1) refl
 
 returns-3 : tie.Need-returns-3
-returns-3 c = read-at _ _ ((c .before .before .before .before .good-size .ensures)) ((c .before .before .before .if1 .left)) ((c .before .before .locate .ensures)) ((c .enum-told2 .given .1)) refl
+returns-3 c =
+    let u = c .before .before .before .before in
+    read-at _ _ (u .good-size .ensures) (c .before .before .before .if1 .left) (c .before .before .locate .ensures) (c .enum-told2 .given .1) refl
 
 returns-4 : tie.Need-returns-4
-returns-4 c = read-at _ _ ((c .before .before .before .before .good-size .ensures)) ((c .before .before .before .if1 .left)) ((c .before .before .locate .ensures)) ((c .enum-told3 .given .1)) refl
+returns-4 c =
+    let u = c .before .before .before .before in
+    read-at _ _ (u .good-size .ensures) (c .before .before .before .if1 .left) (c .before .before .locate .ensures) (c .enum-told3 .given .1) refl
 
 returns-5 : tie.Need-returns-5
-returns-5 c = read-at _ _ ((c .before .before .before .before .before .good-size .ensures)) ((c .before .before .before .before .if1 .left)) ((c .before .before .before .locate .ensures)) ((c .before .enum-told4 .given .1)) (ap not ((c .moves .ensures)))
+returns-5 c =
+    let u = c .before .before .before .before in
+    let v = u .before in
+    read-at _ _ (v .good-size .ensures) (u .if1 .left) (c .before .before .before .locate .ensures) (c .before .enum-told4 .given .1)
+    (ap not (c .moves .ensures))
 
 returns-6 : tie.Need-returns-6
-returns-6 c = read-at _ _ ((c .before .before .before .before .good-size .ensures)) ((c .before .before .before .if1 .left)) ((c .before .before .locate .ensures)) ((c .enum-told5 .given .1)) refl
+returns-6 c =
+    let u = c .before .before .before .before in
+    read-at _ _ (u .good-size .ensures) (c .before .before .before .if1 .left) (c .before .before .locate .ensures) (c .enum-told5 .given .1) refl
 
 pub reads-plain-spec : {M : Type 1} → statement M
 reads-plain-spec =

@@ -21,8 +21,13 @@ refusal-of-requires c κs = search needs
 
 returns : tie.Need-returns
 returns c =
-    word-held (registersOf ((c .before .before .before .before .before .before .before .before .before .before .args .own .now)) ((c .before .before .before .before .before .before .before .before .before .before .args .addresses .now)) ((c .before .before .before .before .before .before .before .before .before .before .args .values .now))) _ _ _ (c .before .insert .result) ((c .before .before .before .before .before .before .reg .ensures)) ((c .before .before .before .before .before .merged .ensures)) ((c .before .insert .ensures))
-    ((c .refusal-of .ensures))
+    let u = c .before .before .before .before .before in
+    let v = u .before in
+    let w = v .before .before .before .before in
+    let a = (w .args) in
+    word-held (registersOf (a .own .now) (a .addresses .now) (a .values .now)) _ _ _ (c .before .insert .result) (v .reg .ensures)
+    (u .merged .ensures)
+    (c .before .insert .ensures) (c .refusal-of .ensures)
 
 pub store-spec : {M : Type 1} → statement M
 store-spec =

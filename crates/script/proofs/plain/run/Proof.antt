@@ -1,7 +1,7 @@
 -- What is left to run from here is what there was to run at the start.
 use Rattle.script.proofs.Runs.{run-more}
 use Rattle.script.proofs.Direct.{not-false}
-use Rattle.script.specs.Plain.{narrow, joined, PlainRun}
+use Rattle.script.specs.Plain.{narrow, PlainRun}
 use lib.ListN.{length}
 use native.Mathlib.Omega.{arith}
 use Prim.Native.Nat.{_-_, _≤_}
@@ -48,35 +48,57 @@ returns : tie.Need-returns Inv-loop μ-loop
 returns c = let i = (c .before .before .before .before .loop .inv) in (i .0, i .1, i .6)
 
 mul-lay : tie.Need-mul-lay Inv-loop μ-loop
-mul-lay c = omega (arith, (c .before .before .before .before .before .before .before .before .before .before .before .pre), (c .before .before .before .before .loop-test .taken))
+mul-lay c =
+    let u = c .before .before .before .before in
+    let v = u .before .before .before .before .before .before .before in
+    omega (arith, (v .pre), (u .loop-test .taken))
 
 add-lay : tie.Need-add-lay Inv-loop μ-loop
-add-lay c = omega (arith, (c .before .before .before .before .before .before .before .before .before .before .before .pre), (c .before .before .before .before .loop-test .taken))
+add-lay c =
+    let u = c .before .before .before .before in
+    let v = u .before .before .before .before .before .before .before in
+    omega (arith, (v .pre), (u .loop-test .taken))
 
 turn-requires : tie.Need-turn-requires Inv-loop μ-loop
 turn-requires c κs = search needs
 
 lay-requires : tie.Need-lay-requires Inv-loop μ-loop
-lay-requires c κs = omega (arith, (c .before .before .before .before .before .before .before .before .before .before .before .before .before .before .before .before .before .before .before .before .before .before .before .before .pre), (c .before .before .before .before .before .before .before .before .before .before .before .before .before .before .before .before .before .before .loop .inv .5), (c .before .before .before .before .before .before .before .before .before .before .before .before .before .before .before .before .before .loop-test .taken))
+lay-requires c κs =
+    let u = c .before .before .before .before .before .before .before .before .before .before .before .before .before .before .before .before .before in
+    let v = u .before in
+    let w = v .before .before .before .before .before .before in
+    omega (arith, (w .pre), (v .loop .inv .5), (u .loop-test .taken))
 
 add-i : tie.Need-add-i Inv-loop μ-loop
-add-i c = omega (arith, (c .before .before .before .before .before .before .before .before .before .before .before .before .before .before .before .before .before .before .before .before .before .before .before .before .before .before .before .pre), (c .before .before .before .before .before .before .before .before .before .before .before .before .before .before .before .before .before .before .before .before .loop-test .taken))
+add-i c =
+    let u = c .before .before .before .before .before .before .before .before .before .before .before .before .before .before .before .before .before .before .before .before in
+    let v = u .before .before .before .before .before .before .before in
+    omega (arith, (v .pre), (u .loop-test .taken))
 
 loop-less : tie.Need-loop-less Inv-loop μ-loop
-loop-less c = omega (arith, (c .before .before .before .before .before .before .before .before .before .before .before .before .before .before .before .before .before .before .before .before .loop-test .taken))
+loop-less c =
+    let u = c .before .before .before .before .before .before .before .before .before .before .before .before .before .before .before .before .before .before .before .before in
+    omega (arith, (u .loop-test .taken))
 
 loop-again : tie.Need-loop-again Inv-loop μ-loop
 loop-again c =
-    let i = (c .before .before .before .before .before .before .before .before .before .before .before .before .before .before .before .before .before .before .before .before .before .loop .inv) in
-    let k = (c .before .before .before .before .before .before .before .before .before .turn .kept) in (
+    let u = c .before .before .before .before .before .before .before .before .before in
+    let v = u .before .before .before .before .before .before .before .before in
+    let w = v .before in
+    let x = w .before in
+    let y = x .before in
+    let z = y .before in
+    let i = (z .loop .inv) in
+    let k = (u .turn .kept) in (
       omega (arith, i .0),
-      omega (arith, (c .before .before .before .before .before .before .before .before .before .before .before .before .before .before .before .before .before .before .before .before .loop-test .taken)),
+      omega (arith, (y .loop-test .taken)),
       k .1 .1 .1 .0 ∙ i .2,
       k .1 .1 .1 .1 .0 ∙ i .3,
       k .1 .1 .1 .1 .1 .0 ∙ i .4,
       (c .before .before .lay .kept .0) ∙ i .5,
       λ b.
-          run-more _ _ _ _ _ _ (c .before .before .before .before .before .before .before .before .before .before .before .before .before .before .before .before .before .before .before .before .loop-test .taken) (c .before .before .before .before .before .before .before .before .before .before .before .before .before .before .before .before .before .before .before .entry-at .ensures) ((c .before .before .before .before .before .before .before .before .before .turn .ensures) b (sym (c .before .before .before .before .before .before .before .before .before .before .before .before .before .before .before .before .before .before .plain .ensures) ∙ not-false _ (c .before .before .before .before .before .before .before .before .before .before .before .before .before .before .before .before .before .if1 .left))) (c .before .before .lay .ensures) ∙ i .6 b,
+          run-more _ _ _ _ _ _ (y .loop-test .taken) (x .entry-at .ensures)
+          ((u .turn .ensures) b (sym (w .plain .ensures) ∙ not-false _ (v .if1 .left))) (c .before .before .lay .ensures) ∙ i .6 b,
     )
 
 same-length-5 : tie.Need-same-length-5 Inv-loop μ-loop

@@ -30,62 +30,108 @@ loop-holds : tie.Need-loop-holds Inv-loop μ-loop
 loop-holds c = (omega arith, refl, refl, refl, refl, refl, run-start _ _ _ _)
 
 run-requires : tie.Need-run-requires Inv-loop μ-loop
-run-requires c κs = ((c .before .before .before .before .before .before .before .before .before .before .before .before .before .before .before .pre .0), (c .before .before .before .before .before .before .before .before .before .before .before .before .before .before .before .pre .1), (c .before .before .before .before .before .before .before .before .before .before .before .before .before .before .before .pre .2), omega (arith, (c .before .before .before .before .before .before .before .before .before .before .before .before .before .before .before .pre .3), (c .before .before .before .before .before .before .before .before .loop .inv .5)), omega (arith, (c .before .before .before .before .before .before .before .loop-test .taken)))
+run-requires c κs =
+    let u = c .before .before .before .before .before .before .before in
+    let v = u .before in
+    let w = v .before .before .before .before .before .before .before in
+    ((w .pre .0), (w .pre .1), (w .pre .2), omega (arith, (w .pre .3), (v .loop .inv .5)), omega (arith, (u .loop-test .taken)))
 
 same-length : tie.Need-same-length Inv-loop μ-loop
-same-length c = (c .before .before .before .before .before .before .before .before .before .run .kept .1 .1 .1 .0) ∙ (c .before .before .before .before .before .before .before .before .before .before .before .before .before .before .before .before .before .before .loop .inv .1)
+same-length c =
+    let u = c .before .before .before .before .before .before .before .before .before in
+    let v = u .before .before .before .before .before .before .before .before .before in
+    (u .run .kept .1 .1 .1 .0) ∙ (v .loop .inv .1)
 
 same-length-2 : tie.Need-same-length-2 Inv-loop μ-loop
-same-length-2 c = (c .before .before .before .before .before .before .before .before .before .run .kept .1 .1 .1 .1 .0) ∙ (c .before .before .before .before .before .before .before .before .before .before .before .before .before .before .before .before .before .before .loop .inv .2)
+same-length-2 c =
+    let u = c .before .before .before .before .before .before .before .before .before in
+    let v = u .before .before .before .before .before .before .before .before .before in
+    (u .run .kept .1 .1 .1 .1 .0) ∙ (v .loop .inv .2)
 
 same-length-3 : tie.Need-same-length-3 Inv-loop μ-loop
-same-length-3 c = (c .before .before .before .before .before .before .before .before .before .run .kept .1 .1 .1 .1 .1 .0) ∙ (c .before .before .before .before .before .before .before .before .before .before .before .before .before .before .before .before .before .before .loop .inv .3)
+same-length-3 c =
+    let u = c .before .before .before .before .before .before .before .before .before in
+    let v = u .before .before .before .before .before .before .before .before .before in
+    (u .run .kept .1 .1 .1 .1 .1 .0) ∙ (v .loop .inv .3)
 
 same-length-4 : tie.Need-same-length-4 Inv-loop μ-loop
-same-length-4 c = (c .before .before .before .before .before .before .before .before .before .before .before .before .before .before .before .before .before .before .loop .inv .4)
+same-length-4 c =
+    let u = c .before .before .before .before .before .before .before .before .before .before .before .before .before .before .before .before .before .before in
+    (u .loop .inv .4)
 
 same-length-5 : tie.Need-same-length-5 Inv-loop μ-loop
-same-length-5 c = (c .before .before .before .before .before .before .before .before .before .run .kept .1 .1 .1 .1 .1 .1 .1 .1 .1 .1 .0) ∙ (c .before .before .before .before .before .before .before .before .before .before .before .before .before .before .before .before .before .before .loop .inv .5)
+same-length-5 c =
+    let u = c .before .before .before .before .before .before .before .before .before in
+    let v = u .before .before .before .before .before .before .before .before .before in
+    (u .run .kept .1 .1 .1 .1 .1 .1 .1 .1 .1 .1 .0) ∙ (v .loop .inv .5)
 
 returns : tie.Need-returns Inv-loop μ-loop
-returns c = run-end _ _ _ _ _ _ (c .if1 .taken) ((c .before .before .before .before .before .before .before .before .before .run .ensures .2) (record { rtc = _; page = _; at = _; frequencies = _; duties = _; times = _; codes = _; fb = _; parts = _ }) ∙ (c .before .before .before .before .before .before .before .before .before .before .before .before .before .before .before .before .before .before .loop .inv .6))
+returns c =
+    let u = c .before .before .before .before .before .before .before .before .before in
+    let v = u .before .before .before .before .before .before .before .before .before in
+    run-end _ _ _ _ _ _ (c .if1 .taken)
+    ((u .run .ensures .2) (record { rtc = _; page = _; at = _; frequencies = _; duties = _; times = _; codes = _; fb = _; parts = _ }) ∙ (v .loop .inv .6))
 
 entry-at-requires : tie.Need-entry-at-requires Inv-loop μ-loop
-entry-at-requires c κs = omega (arith, (c .before .before .before .before .before .before .before .before .before .before .before .before .before .before .before .before .before .before .before .before .before .before .before .before .before .before .before .before .before .before .before .before .before .before .before .before .before .before .before .pre .2), (c .before .before .before .before .before .before .before .before .before .before .before .before .before .before .if1 .left))
+entry-at-requires c κs =
+    let u = c .before .before .before .before .before .before .before .before .before .before .before .before .before .before in
+    let v = u .before .before .before .before .before .before .before .before .before .before .before .before .before .before .before .before .before .before .before .before .before .before .before .before .before in
+    omega (arith, (v .pre .2), (u .if1 .left))
 
 turn-requires : tie.Need-turn-requires Inv-loop μ-loop
 turn-requires c κs = search needs
 
 mul-lay : tie.Need-mul-lay Inv-loop μ-loop
-mul-lay c = omega (arith, (c .before .before .before .before .before .before .before .before .before .before .before .before .before .before .before .before .before .before .before .before .before .before .before .before .before .before .before .before .before .before .before .before .before .before .before .before .before .before .before .before .before .before .before .before .before .before .before .before .before .before .pre), (c .before .before .before .before .before .before .before .before .before .before .before .before .before .before .before .before .before .before .before .before .before .before .before .before .before .if1 .left))
+mul-lay c =
+    let u = c .before .before .before .before .before .before .before .before .before .before .before .before .before .before .before .before .before .before .before .before .before .before .before .before .before in
+    let v = u .before .before .before .before .before .before .before .before .before .before .before .before .before .before .before .before .before .before .before .before .before .before .before .before .before in
+    omega (arith, (v .pre), (u .if1 .left))
 
 add-lay : tie.Need-add-lay Inv-loop μ-loop
-add-lay c = omega (arith, (c .before .before .before .before .before .before .before .before .before .before .before .before .before .before .before .before .before .before .before .before .before .before .before .before .before .before .before .before .before .before .before .before .before .before .before .before .before .before .before .before .before .before .before .before .before .before .before .before .before .before .pre), (c .before .before .before .before .before .before .before .before .before .before .before .before .before .before .before .before .before .before .before .before .before .before .before .before .before .if1 .left))
+add-lay c =
+    let u = c .before .before .before .before .before .before .before .before .before .before .before .before .before .before .before .before .before .before .before .before .before .before .before .before .before in
+    let v = u .before .before .before .before .before .before .before .before .before .before .before .before .before .before .before .before .before .before .before .before .before .before .before .before .before in
+    omega (arith, (v .pre), (u .if1 .left))
 
 lay-requires : tie.Need-lay-requires Inv-loop μ-loop
-lay-requires c κs = omega (arith, (c .before .before .before .before .before .before .before .before .before .before .before .before .before .before .before .before .before .before .before .before .before .before .before .before .before .before .before .before .before .before .before .before .before .before .before .before .before .before .before .before .before .before .before .before .before .before .before .before .before .before .pre .3), (c .before .before .before .before .before .before .before .before .before .before .before .before .before .before .before .before .before .before .before .before .before .before .before .before .before .before .before .before .before .before .before .before .before .before .before .before .before .before .before .before .before .before .before .loop .inv .5), (c .before .before .before .before .before .before .before .before .before .before .before .before .before .before .before .before .before .before .before .before .before .before .before .before .before .before .before .before .before .before .before .before .before .before .run .kept .1 .1 .1 .1 .1 .1 .1 .1 .1 .1 .0), (c .before .before .before .before .before .before .before .before .before .before .before .before .before .before .before .before .before .before .before .before .before .before .before .before .before .if1 .left))
+lay-requires c κs =
+    let u = c .before .before .before .before .before .before .before .before .before .before .before .before .before .before .before .before .before .before .before .before .before .before .before .before .before in
+    let v = u .before .before .before .before .before .before .before .before .before in
+    let w = v .before .before .before .before .before .before .before .before .before in
+    let x = w .before .before .before .before .before .before .before in
+    omega (arith, (x .pre .3), (w .loop .inv .5), (v .run .kept .1 .1 .1 .1 .1 .1 .1 .1 .1 .1 .0), (u .if1 .left))
 
 add-i : tie.Need-add-i Inv-loop μ-loop
-add-i c = omega (arith, (c .before .before .before .before .before .before .before .before .before .before .before .before .before .before .before .before .before .before .before .before .before .before .before .before .before .before .before .before .before .before .before .before .before .before .before .before .before .before .before .before .before .before .before .before .before .before .before .before .before .before .before .before .before .before .pre), (c .before .before .before .before .before .before .before .before .before .before .before .before .before .before .before .before .before .before .before .before .before .before .before .before .before .before .before .before .before .if1 .left))
+add-i c =
+    let u = c .before .before .before .before .before .before .before .before .before .before .before .before .before .before .before .before .before .before .before .before .before .before .before .before .before .before .before .before .before in
+    let v = u .before .before .before .before .before .before .before .before .before .before .before .before .before .before .before .before .before .before .before .before .before .before .before .before .before in
+    omega (arith, (v .pre), (u .if1 .left))
 
 loop-less : tie.Need-loop-less Inv-loop μ-loop
-loop-less c = omega (arith, (c .before .before .before .before .before .before .before .before .before .before .before .before .before .before .before .before .before .before .before .before .before .before .before .before .before .before .before .before .before .before .before .before .before .before .before .before .before .before .run .ensures .0), (c .before .before .before .before .before .before .before .before .before .before .before .before .before .before .before .before .before .before .before .before .before .before .before .before .before .before .before .before .before .if1 .left))
+loop-less c =
+    let u = c .before .before .before .before .before .before .before .before .before .before .before .before .before .before .before .before .before .before .before .before .before .before .before .before .before .before .before .before .before in
+    let v = u .before .before .before .before .before .before .before .before .before in
+    omega (arith, (v .run .ensures .0), (u .if1 .left))
 
 loop-again : tie.Need-loop-again Inv-loop μ-loop
 loop-again c =
-    let i = (c .before .before .before .before .before .before .before .before .before .before .before .before .before .before .before .before .before .before .before .before .before .before .before .before .before .before .before .before .before .before .before .before .before .before .before .before .before .before .before .before .before .before .before .before .before .before .before .loop .inv) in
-    let j = (c .before .before .before .before .before .before .before .before .before .before .before .before .before .before .before .before .before .before .before .before .before .before .before .before .before .before .before .before .before .before .before .before .before .before .before .before .before .before .run .kept) in
-    let k = (c .before .before .before .before .before .before .before .before .before .before .before .before .before .turn .kept) in
-    (
-      omega (arith, (c .before .before .before .before .before .before .before .before .before .before .before .before .before .before .before .before .before .before .before .before .before .before .before .before .before .before .before .before .before .if1 .left)),
+    let u = c .before .before .before .before .before .before .before .before .before .before .before .before .before in
+    let v = u .before in
+    let w = v .before .before .before .before .before .before .before .before .before .before .before .before .before .before .before in
+    let x = w .before .before .before .before .before .before .before .before .before in
+    let y = x .before .before .before .before .before .before .before .before .before in
+    let i = (y .loop .inv) in
+    let j = (x .run .kept) in
+    let k = (u .turn .kept) in (
+      omega (arith, (w .if1 .left)),
       k .1 .1 .1 .1 .1 .1 .1 .1 .1 .1 .0 ∙ j .1 .1 .1 .0 ∙ i .1,
       k .1 .1 .1 .1 .1 .1 .1 .1 .1 .1 .1 .0 ∙ j .1 .1 .1 .1 .0 ∙ i .2,
       k .1 .1 .1 .1 .1 .1 .1 .1 .1 .1 .1 .1 .0 ∙ j .1 .1 .1 .1 .1 .0 ∙ i .3,
       k .1 .1 .1 .1 .1 .1 .1 .1 .1 .1 .1 .1 .1 .0 ∙ i .4,
       (c .before .before .before .lay .kept .0) ∙ j .1 .1 .1 .1 .1 .1 .1 .1 .1 .1 .0 ∙ i .5,
-      run-more _ _ _ _ _ _ (c .before .before .before .before .before .before .before .before .before .before .before .before .before .before .before .before .before .before .before .before .before .before .before .before .before .before .before .before .before .if1 .left) (c .before .before .before .before .before .before .before .before .before .before .before .before .before .before .entry-at .ensures) (c .before .before .before .before .before .before .before .before .before .before .before .before .before .turn .ensures) (c .before .before .before .lay .ensures)
-      ∙ (c .before .before .before .before .before .before .before .before .before .before .before .before .before .before .before .before .before .before .before .before .before .before .before .before .before .before .before .before .before .before .before .before .before .before .before .before .before .before .run .ensures .2) (record { rtc = _; page = _; at = _; frequencies = _; duties = _; times = _; codes = _; fb = _; parts = _ })
-      ∙ i .6,
+      run-more _ _ _ _ _ _ (w .if1 .left) (v .entry-at .ensures) (u .turn .ensures) (c .before .before .before .lay .ensures)
+          ∙ (x .run .ensures .2) (record { rtc = _; page = _; at = _; frequencies = _; duties = _; times = _; codes = _; fb = _; parts = _ })
+          ∙ i .6,
     )
 
 same-length-6 : tie.Need-same-length-6 Inv-loop μ-loop

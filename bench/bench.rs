@@ -1,0 +1,179 @@
+//! Times the port's library and the Rust device on the same scripts, in one
+//! process and by turns.
+
+#[path = "../oracle/bus_kinds.rs"]
+#[allow(dead_code)]
+mod bus_kinds;
+#[path = "../oracle/device.rs"]
+mod device;
+mod families;
+#[path = "../oracle/full.rs"]
+#[allow(dead_code)]
+mod full;
+#[path = "../oracle/memories.rs"]
+#[allow(dead_code)]
+mod memories;
+#[path = "../oracle/random.rs"]
+#[allow(dead_code)]
+mod random;
+mod rust_side;
+#[path = "../oracle/script.rs"]
+#[allow(dead_code)]
+mod script;
+#[path = "../oracle/script_make.rs"]
+#[allow(dead_code)]
+mod script_make;
+#[path = "../oracle/script_port.rs"]
+mod script_port;
+#[path = "../oracle/step.rs"]
+#[allow(dead_code)]
+mod step;
+
+use std::env;
+use std::hint::black_box;
+use std::process::ExitCode;
+use std::time::{Duration, Instant};
+
+use device::*;
+use families::{Family, FAMILIES};
+use full::*;
+use memories::Memories;
+use script::{out_length, Script};
+use sys::System;
+
+/// How long each side runs in a family, and how often at least.
+const LONG_ENOUGH: Duration = Duration::from_millis(400);
+const OFTEN_ENOUGH: usize = 9;
+
+/// A script, and all that one side needs to run it again and again. Memories
+/// are zero at first and then what the run before left; nothing is cleared
+/// between runs, and every page has been touched before a run is timed.
+struct Bench {
+    script: Vec<u8>,
+    steps: usize,
+    fresh: System,
+    rust: (Memories, Vec<u8>),
+    port: (Memories, Vec<u8>),
+}
+
+impl Bench {
+    fn new(family: &Family) -> Bench {
+        let author = family.script();
+        let script = Script { presses: author.presses, steps: author.steps };
+        let steps = script.answers();
+        let side = || {
+            let mut memories = Memories::zero();
+            memories.0.iter_mut().for_each(|memory| memory.fill(0));
+            (memories, vec![0; out_length(steps)])
+        };
+        let (rust, port) = (side(), side());
+        Bench { script: script.bytes(), steps, fresh: fresh(&[]), rust, port }
+    }
+
+    /// What a new device costs is not counted; that the port makes its fresh
+    /// state in each run is.
+    fn rust_run(&mut self) -> Duration {
+        let mut system = fresh(&[]);
+        let (memories, out) = &mut self.rust;
+        memories.swap(&mut system);
+        let start = Instant::now();
+        measured_rust(&mut system, &self.fresh, &self.script, out);
+        let took = start.elapsed();
+        memories.swap(&mut system);
+        took
+    }
+
+    fn port_run(&mut self) -> Duration {
+        let (memories, out) = &mut self.port;
+        let start = Instant::now();
+        let returned = measured_port(memories, &self.script, out);
+        let took = start.elapsed();
+        assert_eq!(returned, 0, "the port refused the script");
+        took
+    }
+
+    fn alike(&self) -> bool {
+        self.rust.1 == self.port.1 && self.rust.0 .0 == self.port.0 .0
+    }
+}
+
+// Their names are what a counter of instructions is told.
+#[no_mangle]
+#[inline(never)]
+fn measured_rust(system: &mut System, fresh: &System, script: &[u8], out: &mut [u8]) {
+    rust_side::run(system, fresh, black_box(script), out);
+}
+
+#[no_mangle]
+#[inline(never)]
+fn measured_port(memories: &mut Memories, script: &[u8], out: &mut [u8]) -> u32 {
+    script_port::run_script(memories, black_box(script), out)
+}
+
+fn median(mut times: Vec<Duration>) -> f64 {
+    times.sort_unstable();
+    times[times.len() / 2].as_nanos() as f64
+}
+
+/// Nanoseconds a step: Rust and port.
+fn time(bench: &mut Bench) -> (f64, f64) {
+    let (mut rust, mut port) = (Vec::new(), Vec::new());
+    let start = Instant::now();
+    while rust.len() < OFTEN_ENOUGH || start.elapsed() < 2 * LONG_ENOUGH {
+        rust.push(bench.rust_run());
+        port.push(bench.port_run());
+    }
+    let steps = bench.steps as f64;
+    (median(rust) / steps, median(port) / steps)
+}
+
+fn time_all(wished: &str) -> Result<(), String> {
+    println!("{:<26}{:>10}{:>10}{:>8}", "ns a step (medians)", "Rust", "port", "ratio");
+    for family in FAMILIES.iter().filter(|family| family.name.contains(wished)) {
+        let mut bench = Bench::new(family);
+        bench.rust_run();
+        bench.port_run();
+        if !bench.alike() {
+            return Err(format!("{}: Rust and port differ", family.name));
+        }
+        let (rust, port) = time(&mut bench);
+        println!("{:<26}{rust:>10.1}{port:>10.1}{:>8.2}", family.name, port / rust);
+    }
+    Ok(())
+}
+
+/// One run of one side, for a counter of instructions.
+fn count(number: usize, side: &str) -> Option<()> {
+    let mut bench = Bench::new(FAMILIES.get(number)?);
+    match side {
+        "rust" => bench.rust_run(),
+        "port" => bench.port_run(),
+        _ => return None,
+    };
+    Some(())
+}
+
+fn main() -> ExitCode {
+    let arguments: Vec<String> = env::args().skip(1).collect();
+    let words: Vec<&str> = arguments.iter().map(String::as_str).collect();
+    let said = match *words {
+        ["time"] => time_all(""),
+        ["time", wished] => time_all(wished),
+        ["families"] => {
+            let name = |(n, family): (usize, &Family)| println!("{n} {} {}", family.script().steps.len(), family.name);
+            FAMILIES.iter().enumerate().for_each(name);
+            Ok(())
+        }
+        ["count", number, side] => {
+            number.parse().ok().and_then(|number| count(number, side)).ok_or("no such run".to_string())
+        }
+        _ => Err("usage: time [PART OF A NAME] | families | count NUMBER rust|port".to_string()),
+    };
+    match said {
+        Ok(()) => ExitCode::SUCCESS,
+        Err(said) => {
+            eprintln!("bench: {said}");
+            ExitCode::FAILURE
+        }
+    }
+}

@@ -1,0 +1,307 @@
+//! What is timed: a script for each thing that a unit's program does, as many
+//! steps of it as a script holds. No step is refused.
+
+use crate::random::Random;
+use crate::script::{Press, ScriptStep, MOST};
+
+pub struct Family {
+    pub name: &'static str,
+    make: fn(&mut Author),
+    most: usize,
+}
+
+/// A script being written.
+pub struct Author {
+    pub presses: Vec<Press>,
+    pub steps: Vec<ScriptStep>,
+    random: Random,
+    now: f64,
+}
+
+const fn family(name: &'static str, make: fn(&mut Author)) -> Family {
+    Family { name, make, most: MOST }
+}
+
+/// One whose steps take long.
+const fn short(name: &'static str, make: fn(&mut Author), most: usize) -> Family {
+    Family { name, make, most }
+}
+
+pub const FAMILIES: [Family; 27] = [
+    family("memory, words", |author| author.memory(&[4])),
+    family("memory, bytes and halves", |author| author.memory(&[1, 2])),
+    family("memory, GPIO", Author::gpio),
+    family("registers, own", Author::own),
+    family("registers, four others", |author| author.others(4)),
+    family("registers, 256 others", |author| author.others(256)),
+    family("registers, zeros read", Author::zeros),
+    family("registers, timers", Author::timer_words),
+    family("registers, time of day", Author::time_of_day),
+    family("registers, RTC chip", Author::rtc),
+    family("registers, interrupts", Author::interrupts),
+    family("registers, second SPI", Author::spi),
+    family("flash, read", Author::flash_read),
+    family("flash, program", Author::flash_program),
+    family("flash, erase 4 KiB", |author| author.erase(0x20)),
+    family("flash, erase 64 KiB", |author| author.erase(0xD8)),
+    short("flash, erase chip", Author::erase_chip, 64),
+    family("panel, pixels", Author::pixels),
+    family("panel, windows", Author::windows),
+    short("DMA", Author::dma, 512),
+    family("timers, sound", Author::sound),
+    family("timers, six running", Author::six_timers),
+    family("advance, nothing set", Author::advance),
+    family("advance, 64 presses", Author::pressed),
+    family("next event, pending", Author::next),
+    family("keys, colours, counters", Author::rest),
+    short("wipe", Author::wipes, 32),
+];
+
+impl Family {
+    pub fn script(&self) -> Author {
+        let random = Random::new(1);
+        let mut author = Author { presses: Vec::new(), steps: Vec::new(), random, now: 0.0 };
+        while author.steps.len() < self.most {
+            (self.make)(&mut author);
+        }
+        author.steps.truncate(self.most);
+        author
+    }
+}
+
+/// The words of its own storage that a read shows as written.
+const PLAIN: [u32; 7] = [
+    0xC009_0004, 0xC009_0008, 0xD000_001C, 0xD010_0030, 0xD010_0038, 0xD050_016C, 0xD050_0188,
+];
+
+impl Author {
+    fn step(&mut self, kind: u8, size: u8, address: u32, value: u64) {
+        self.steps.push(ScriptStep { kind, size, unused: [0; 2], address, value });
+    }
+
+    fn read(&mut self, address: u32) {
+        self.step(1, 4, address, 0);
+    }
+
+    fn write(&mut self, address: u32, value: u32) {
+        self.step(2, 4, address, value.into());
+    }
+
+    fn go(&mut self, seconds: f64) {
+        self.now += seconds;
+        self.step(3, 0, 0, self.now.to_bits());
+    }
+
+    fn below(&mut self, limit: usize) -> u32 {
+        self.random.below(limit) as u32
+    }
+
+    fn memory(&mut self, sizes: &[u8]) {
+        let size = self.random.pick(sizes);
+        let (base, length) = self.random.pick(&[(0x2000_0000, 0x100_0000), (0xF800_0000, 0x10_0000)]);
+        let address = base + self.below(length / 4) * 4;
+        let value = self.random.next() & 0xFFFF_FFFF;
+        self.step(2, size, address, value);
+        self.step(1, size, address, 0);
+    }
+
+    fn gpio(&mut self) {
+        let address = 0xC000_0000 + 4 * self.below(1024);
+        self.write(address, address);
+        self.read(address);
+    }
+
+    fn own(&mut self) {
+        let (word, value) = (self.random.pick(&PLAIN), self.random.next() as u32);
+        self.write(word, value);
+        self.read(word);
+    }
+
+    fn others(&mut self, count: usize) {
+        let word = 0xC010_0000 + 4 * self.below(count);
+        let value = self.random.next() as u32 | 1;
+        self.write(word, value);
+        self.read(word);
+    }
+
+    fn zeros(&mut self) {
+        if self.steps.is_empty() {
+            for n in 0..256 {
+                self.write(0xC010_0000 + 4 * n, 1);
+            }
+        }
+        let word = 0xC020_0000 + 4 * self.below(4096);
+        self.read(word);
+    }
+
+    fn timer_words(&mut self) {
+        let base = 0xC002_0000 + 0x20 * self.random.pick(&[0, 1, 2, 3, 5]);
+        let reload = self.below(65_536);
+        self.write(base + 8, reload);
+        self.write(base, 0x6000);
+        self.go(0.000_1);
+        self.read(base);
+        self.read(base + 0x10);
+        self.write(base, 0x8000);
+    }
+
+    fn time_of_day(&mut self) {
+        let word = 0xC004_0000 + 4 * self.below(3);
+        let value = self.below(60);
+        self.write(word, value);
+        self.read(word);
+        self.go(0.3);
+        self.write(0xC004_0054, 2);
+    }
+
+    fn rtc(&mut self) {
+        let (register, data) = (self.below(0x36), self.below(256));
+        self.write(0xC009_0004, register);
+        self.write(0xC009_0008, data);
+        self.write(0xC009_000C, 1);
+        self.write(0xC009_000C, 2);
+        self.read(0xC009_0014);
+    }
+
+    fn interrupts(&mut self) {
+        let mask = self.random.next() as u32;
+        self.write(0xD010_0030, mask);
+        self.read(0xD010_0028);
+        self.write(0xC00C_0004, 0x4040);
+        self.go(0.001);
+        self.read(0xC00C_0008);
+        self.write(0xD050_018C, 0x2000);
+    }
+
+    fn spi(&mut self) {
+        let byte = self.below(256);
+        self.write(0xC008_0008, byte);
+        self.read(0xC008_000C);
+        self.read(0xC008_0010);
+    }
+
+    /// One transaction, without its answers.
+    fn send(&mut self, bytes: &[u8]) {
+        self.write(0xC015_0000, 0x40);
+        for &byte in bytes {
+            self.write(0xC015_0008, byte.into());
+        }
+        self.write(0xC015_0000, 0);
+    }
+
+    fn with_address(&mut self, command: u8) -> [u8; 4] {
+        let address = self.below(0x80_0000).to_be_bytes();
+        [command, address[1], address[2], address[3]]
+    }
+
+    fn flash_read(&mut self) {
+        let bytes = self.with_address(0x03);
+        self.write(0xC015_0000, 0x40);
+        for byte in bytes.into_iter().chain([0; 256]) {
+            self.write(0xC015_0008, byte.into());
+            self.read(0xC015_000C);
+        }
+        self.write(0xC015_0000, 0);
+    }
+
+    fn flash_program(&mut self) {
+        self.send(&[0x06]);
+        let mut bytes = self.with_address(0x02).to_vec();
+        bytes.extend((0..256).map(|n| n as u8));
+        self.send(&bytes);
+    }
+
+    fn erase(&mut self, command: u8) {
+        self.send(&[0x06]);
+        let bytes = self.with_address(command);
+        self.send(&bytes);
+    }
+
+    fn erase_chip(&mut self) {
+        self.send(&[0x06]);
+        self.send(&[0xC7]);
+    }
+
+    fn command(&mut self, command: u8, words: &[u32]) {
+        self.write(0xD050_016C, command.into());
+        self.write(0xD050_0140, 0x81);
+        for &word in words {
+            self.write(0xD050_016C, word);
+            self.write(0xD050_0140, 0xA1);
+        }
+    }
+
+    fn pixels(&mut self) {
+        if self.steps.is_empty() {
+            self.command(0x2C, &[]);
+        }
+        let pixel = self.below(65_536);
+        self.write(0xD050_016C, pixel);
+        self.write(0xD050_0140, 0xA1);
+    }
+
+    fn windows(&mut self) {
+        let (x, y) = (self.below(96), self.below(96));
+        self.command(0x2A, &[x, x + 3]);
+        self.command(0x2B, &[y, y + 3]);
+        self.command(0x2C, &[0x8410; 16]);
+    }
+
+    fn dma(&mut self) {
+        let address = 0x2000_0000 + 4 * self.below(0x3F_0000);
+        self.write(0xD050_033C, address);
+        self.write(0xD050_0140, 0xD1);
+    }
+
+    fn sound(&mut self) {
+        let reload = self.below(65_536);
+        self.write(0xC002_0088, reload);
+        self.write(0xC002_008C, (reload + 65_536) / 2);
+        self.write(0xC002_0080, 0x2000);
+        self.write(0xC002_0080, 0);
+        self.step(9, 0, 0, 0);
+        self.step(9, 0, 0, 0);
+    }
+
+    fn six_timers(&mut self) {
+        if self.steps.is_empty() {
+            for n in 0..6 {
+                self.write(0xC002_0008 + 0x20 * n, 0xFC18 + 7 * n);
+                self.write(0xC002_0000 + 0x20 * n, 0x6000);
+            }
+        }
+        self.go(0.000_1);
+        self.step(4, 0, 0, 0);
+    }
+
+    fn advance(&mut self) {
+        self.go(0.001);
+    }
+
+    fn pressed(&mut self) {
+        if self.steps.is_empty() {
+            let press = |n: u32| ((n % 3) as u8, (f64::from(n) / 16.0).to_bits());
+            self.presses = (0..64).map(press).collect();
+        }
+        self.go(0.001);
+    }
+
+    fn next(&mut self) {
+        self.step(4, 0, 0, 0);
+        self.step(5, 0, 0, 0);
+    }
+
+    fn rest(&mut self) {
+        let key = self.below(3);
+        self.step(7, 0, key, 1);
+        self.step(8, 0, key, 1.5f64.to_bits());
+        let pixel = self.below(16_384);
+        self.step(11, 0, pixel, 0);
+        self.step(10, 0, 0, 0);
+        self.step(6, 0, 0, 2.0f64.to_bits());
+    }
+
+    fn wipes(&mut self) {
+        self.step(12, 0, 0, 0);
+    }
+}
