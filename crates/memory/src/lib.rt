@@ -112,18 +112,22 @@ fn load_any(m: &[u8], at: usize, size: usize) -> u32
     v
 }
 
-// The value of `size` bytes, the lowest first; 0 where they pass the end.
+// The value of `size` bytes, the lowest first; 0 where they pass the end. The tests are so that a word takes the fewest, and that the
+// first falls away where the place is known to be small.
 pub fn load(m: &[u8], at: usize, size: usize) -> u32
     ensures { λ r. ⌜ r ≡ loaded (now (m .entry)) at size ⌝ }
 {
-    if m.len() < size {
+    if usize::MAX - size < at {
         return 0;
     }
-    if m.len() - size < at {
+    if m.len() < at + size {
         return 0;
     }
-    if size == 4 {
-        return four(m, at);
+    if size > 2 {
+        if size == 4 {
+            return four(m, at);
+        }
+        return load_any(m, at, size);
     }
     if size == 2 {
         return two(m, at);
@@ -131,7 +135,7 @@ pub fn load(m: &[u8], at: usize, size: usize) -> u32
     if size == 1 {
         return one(m, at);
     }
-    load_any(m, at, size)
+    0
 }
 
 // The lowest 1 to 4 bytes of a value, to places that are there, with no loop.
@@ -180,18 +184,22 @@ fn store_any(m: &mut [u8], at: usize, size: usize, value: u32)
     }
 }
 
-// The lowest `size` bytes of a value; nothing where they pass the end.
+// The lowest `size` bytes of a value; nothing where they pass the end. The tests are those of load.
 pub fn store(m: &mut [u8], at: usize, size: usize, value: u32)
     ensures { λ r. ⌜ now (m .exit) ≡ storedAt (now (m .entry)) at size value ⌝ }
 {
-    if m.len() < size {
+    if usize::MAX - size < at {
         return;
     }
-    if m.len() - size < at {
+    if m.len() < at + size {
         return;
     }
-    if size == 4 {
-        put_four(m, at, value);
+    if size > 2 {
+        if size == 4 {
+            put_four(m, at, value);
+            return;
+        }
+        store_any(m, at, size, value);
         return;
     }
     if size == 2 {
@@ -202,7 +210,6 @@ pub fn store(m: &mut [u8], at: usize, size: usize, value: u32)
         put_one(m, at, value);
         return;
     }
-    store_any(m, at, size, value);
 }
 
 pub fn low(word: u32) -> u8
