@@ -1,0 +1,144 @@
+"""The kit, and what is built with it and with nothing else: the archive of crate script, and the programs of host/ around it.
+
+Programs are x86-64 on every machine, as the archive is. They start under the kit's loader and C library, and on another processor in
+the kit's emulator.
+"""
+
+from __future__ import annotations
+
+import contextlib
+import fcntl
+import hashlib
+import os
+import platform
+import shutil
+import subprocess
+import sys
+from pathlib import Path
+from typing import Iterator, List
+
+from .trouble import OTHER, USAGE, Trouble
+
+ROOT = Path(__file__).resolve().parents[2]
+HOST = ROOT / "host"
+BUILT = ROOT / "target" / "host"
+ARCHIVE = ROOT / "target" / "staticlib" / "libscript.a"
+SCRUBBED = ["scrubbed.c", "scrubbed_x86_64.S"]
+PROGRAMS = {
+    "runner": ["runner.c"],
+    "depth": ["tests/depth.c", "tests/scripts.c", "tests/lent.c"],
+    "guard": ["tests/guard.c", "tests/guard_edges.c", "tests/guard_wrong.c", "tests/scripts.c", "tests/lent.c"],
+    "key": ["tests/key.c", "tests/key_search.c", "tests/key_x86_64.S", "tests/scripts.c", "tests/lent.c"],
+}
+# No vector instructions in our own C: the scrubbed runner leaves vector registers zero, and nothing after it shall fill them.
+COMPILE = ["--target=x86_64-linux-gnu", "-std=c11", "-O2", "-Wall", "-Wextra", "-Werror", "-fPIC", "-mgeneral-regs-only"]
+COMPILE += ["-nostdinc", "-isystem", "host/kit", "-I", "host", "-c"]
+LINES_OF_A_FAILURE = 30
+
+
+def said(line: str) -> None:
+    print(f"tg18: {line}", file=sys.stderr, flush=True)
+
+
+class Kit:
+    """Where its parts are, found from `rt` as rt itself finds them."""
+
+    def __init__(self) -> None:
+        rt = shutil.which("rt")
+        if rt is None:
+            raise Trouble(USAGE, "the Rattle kit's rt is not on PATH")
+        self.rt = rt
+        self.home = Path(os.environ.get("RATTLE_HOME") or Path(os.path.realpath(rt)).parents[1])
+        self.tools = self.home / "on" / platform.machine() / "toolchain"
+        if not (self.tools / "bin" / "clang").exists():
+            raise Trouble(USAGE, f"the Rattle kit has no toolchain for this machine, {platform.machine()}")
+
+    def tool(self, name: str) -> str:
+        return str(self.tools / "bin" / name)
+
+    def library(self, name: str) -> str:
+        return str(self.tools / "lib" / name)
+
+    def name(self) -> bytes:
+        kit_id = self.home / "KIT-ID"
+        return str(self.tools).encode() + b"\0" + (kit_id.read_bytes() if kit_id.exists() else b"")
+
+    def starts(self, program: Path) -> List[str]:
+        emulator = self.tool("qemu-x86_64")
+        loader = [self.library("ld-linux-x86-64.so.2"), "--library-path", str(self.tools / "lib"), str(program)]
+        return [emulator] + loader if os.access(emulator, os.X_OK) else loader
+
+
+def digest_of(kit: Kit, paths: List[Path]) -> str:
+    """Of the kit and of the names and contents of the files among the paths."""
+    digest = hashlib.sha256(kit.name())
+    for file in filter(Path.is_file, paths):
+        content = file.read_bytes()
+        digest.update(f"\0{file.relative_to(ROOT)}\0{len(content)}\0".encode())
+        digest.update(content)
+    return digest.hexdigest()
+
+
+@contextlib.contextmanager
+def one_at_a_time() -> Iterator[None]:
+    BUILT.mkdir(parents=True, exist_ok=True)
+    with open(BUILT / "lock", "w") as lock:
+        fcntl.flock(lock, fcntl.LOCK_EX)
+        yield
+
+
+def is_built(made: Path, stamp: Path, digest: str) -> bool:
+    return made.exists() and stamp.exists() and stamp.read_text() == digest
+
+
+def archive(kit: Kit) -> None:
+    """rt itself looks at every crate each time, which takes seconds; so it is asked only when something has changed."""
+    stamp = BUILT / "libscript.stamp"
+    digest = digest_of(kit, [ROOT / "crates.txt", *sorted((ROOT / "crates").rglob("*"))])
+    if is_built(ARCHIVE, stamp, digest):
+        return
+    said("proving and building target/staticlib/libscript.a; the first time takes some minutes")
+    rt = subprocess.Popen([kit.rt, "staticlib", "script"], cwd=ROOT, stdin=subprocess.DEVNULL, stdout=subprocess.PIPE,
+                          stderr=subprocess.STDOUT, text=True, errors="replace")
+    lines = []
+    for line in rt.stdout or []:
+        lines.append(line.rstrip("\n"))
+        if line.startswith("rt: "):
+            print(line, end="", file=sys.stderr, flush=True)
+    if rt.wait() != 0 or not ARCHIVE.exists():
+        raise Trouble(OTHER, *lines[-LINES_OF_A_FAILURE:], "rt staticlib script failed")
+    stamp.write_text(digest)
+
+
+def ran(words: List[str]) -> None:
+    done = subprocess.run(words, cwd=ROOT, stdin=subprocess.DEVNULL, stdout=subprocess.PIPE, stderr=subprocess.STDOUT, text=True,
+                          errors="replace")
+    if done.returncode != 0:
+        lines = done.stdout.splitlines()[-LINES_OF_A_FAILURE:]
+        raise Trouble(OTHER, *lines, f"{Path(words[0]).name} failed: {done.returncode}")
+
+
+def compiled(kit: Kit, source: str) -> str:
+    made = BUILT / (source.replace("/", "-") + ".o")
+    ran([kit.tool("clang"), *COMPILE, f"host/{source}", "-o", str(made)])
+    return str(made)
+
+
+def linked(kit: Kit, made: Path, objects: List[str]) -> None:
+    start = [kit.library(n) for n in ("Scrt1.o", "crti.o", "crtbeginS.o")]
+    rest = [kit.library(n) for n in ("libc_nonshared.a", "libc.so.6", "libgcc.a", "crtendS.o", "crtn.o")]
+    ran([kit.tool("ld.lld"), "-pie", "--dynamic-linker", "/lib64/ld-linux-x86-64.so.2", "-z", "noexecstack", "-o", str(made), *start,
+         *objects, str(ARCHIVE), *rest])
+
+
+def program(kit: Kit, name: str) -> Path:
+    """The program, built if it or anything below it has changed."""
+    with one_at_a_time():
+        archive(kit)
+        made, stamp = BUILT / name, BUILT / f"{name}.stamp"
+        digest = digest_of(kit, [ARCHIVE, Path(__file__), *sorted(HOST.rglob("*.[chS]"))])
+        if not is_built(made, stamp, digest):
+            said(f"building target/host/{name}")
+            linked(kit, made, [compiled(kit, source) for source in SCRUBBED + PROGRAMS[name]])
+            stamp.write_text(digest)
+    return made

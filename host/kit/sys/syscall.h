@@ -1,0 +1,6 @@
+#ifndef KIT_SYS_SYSCALL_H
+#define KIT_SYS_SYSCALL_H
+
+#define SYS_rt_sigprocmask 14
+
+#endif
