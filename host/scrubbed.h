@@ -13,8 +13,8 @@ enum tg18_vectors { TG18_XMM, TG18_YMM, TG18_ZMM };
 
 // The scrubbed runner's stack and the guard below it.
 // The port's deepest use, measured by host/tests/depth.c with scripts of every kind, is 17,240 bytes, of which the C library's loader
-// takes a part when it finds memcpy and memset at their first call. This is 15 times that. No frame is larger than the guard, so none
-// reaches over it.
+// takes 2,432 when it finds memcpy and memset at their first call. The stack is 15 times that, and the guard is more than three times
+// that, so no frame reaches over it.
 enum { TG18_GUARD_BYTES = 65536, TG18_STACK_BYTES = 262144 };
 
 // Calls tg18_run_script on the stack that ends at `top` (a multiple of 16), and clears the registers behind it.

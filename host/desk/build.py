@@ -27,7 +27,8 @@ SCRUBBED = ["scrubbed.c", "scrubbed_x86_64.S"]
 PROGRAMS = {
     "runner": ["runner.c"],
     "depth": ["tests/depth.c", "tests/scripts.c", "tests/lent.c"],
-    "guard": ["tests/guard.c", "tests/guard_edges.c", "tests/guard_wrong.c", "tests/scripts.c", "tests/lent.c"],
+    "guard": ["tests/guard.c", "tests/guard_edges.c", "tests/guard_wrong.c", "tests/guard_scrubbed.c", "tests/scripts.c",
+              "tests/lent.c"],
     "key": ["tests/key.c", "tests/key_search.c", "tests/key_x86_64.S", "tests/scripts.c", "tests/lent.c"],
 }
 # No vector instructions in our own C: the scrubbed runner leaves vector registers zero, and nothing after it shall fill them.
@@ -46,12 +47,12 @@ class Kit:
     def __init__(self) -> None:
         rt = shutil.which("rt")
         if rt is None:
-            raise Trouble(USAGE, "the Rattle kit's rt is not on PATH")
+            raise Trouble(USAGE, "tg18: the Rattle kit's rt is not on PATH")
         self.rt = rt
         self.home = Path(os.environ.get("RATTLE_HOME") or Path(os.path.realpath(rt)).parents[1])
         self.tools = self.home / "on" / platform.machine() / "toolchain"
         if not (self.tools / "bin" / "clang").exists():
-            raise Trouble(USAGE, f"the Rattle kit has no toolchain for this machine, {platform.machine()}")
+            raise Trouble(USAGE, f"tg18: the Rattle kit has no toolchain for this machine, {platform.machine()}")
 
     def tool(self, name: str) -> str:
         return str(self.tools / "bin" / name)
@@ -92,7 +93,7 @@ def is_built(made: Path, stamp: Path, digest: str) -> bool:
 
 
 def archive(kit: Kit) -> None:
-    """rt itself looks at every crate each time, which takes seconds; so it is asked only when something has changed."""
+    """rt proves crate script anew each time, which takes a minute and more; so it is asked only when something has changed."""
     stamp = BUILT / "libscript.stamp"
     digest = digest_of(kit, [ROOT / "crates.txt", *sorted((ROOT / "crates").rglob("*"))])
     if is_built(ARCHIVE, stamp, digest):
@@ -106,7 +107,7 @@ def archive(kit: Kit) -> None:
         if line.startswith("rt: "):
             print(line, end="", file=sys.stderr, flush=True)
     if rt.wait() != 0 or not ARCHIVE.exists():
-        raise Trouble(OTHER, *lines[-LINES_OF_A_FAILURE:], "rt staticlib script failed")
+        raise Trouble(OTHER, *lines[-LINES_OF_A_FAILURE:], "tg18: rt staticlib script failed")
     stamp.write_text(digest)
 
 
@@ -115,7 +116,7 @@ def ran(words: List[str]) -> None:
                           errors="replace")
     if done.returncode != 0:
         lines = done.stdout.splitlines()[-LINES_OF_A_FAILURE:]
-        raise Trouble(OTHER, *lines, f"{Path(words[0]).name} failed: {done.returncode}")
+        raise Trouble(OTHER, *lines, f"tg18: {Path(words[0]).name} failed: {done.returncode}")
 
 
 def compiled(kit: Kit, source: str) -> str:

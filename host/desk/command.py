@@ -7,6 +7,7 @@ import os
 import subprocess
 import sys
 import tempfile
+import traceback
 from pathlib import Path
 from typing import List, Optional, Tuple
 
@@ -73,11 +74,11 @@ def ran(words: List[str], script: bytes) -> bytes:
     said = done.stderr.decode(errors="replace").splitlines()
     if done.returncode >= RUNNER_REFUSED:
         number = done.returncode - RUNNER_REFUSED
-        raise Trouble(REFUSED, f"the script was refused as a whole: {names.refusal_name(number)} ({number})")
+        raise Trouble(REFUSED, f"tg18: the script was refused as a whole: {names.refusal_name(number)} ({number})")
     if done.returncode == RUNNER_BAD_FILE:
         raise Trouble(USAGE, *said)
     if done.returncode != 0:
-        raise Trouble(OTHER, *said, f"the runner failed: {done.returncode}")
+        raise Trouble(OTHER, *said, f"tg18: the runner failed: {done.returncode}")
     return done.stdout
 
 
@@ -89,7 +90,15 @@ def write_screen(path: str, colours: Path) -> None:
         raise file_trouble(path, error) from error
 
 
+def check_once(files: List[Tuple[str, str]]) -> None:
+    loaded = [name for name, _ in files]
+    for name in loaded:
+        if loaded.count(name) > 1:
+            raise Trouble(USAGE, f"tg18: --memory {name} is given twice")
+
+
 def run(options: argparse.Namespace) -> None:
+    check_once(options.memory)
     script, entries, numbers = script_in(options.file, script_bytes(options.file))
     kit = build.Kit()
     words = kit.starts(build.program(kit, "runner"))
@@ -114,10 +123,14 @@ def main(words: List[str]) -> int:
         run(options)
     except Trouble as trouble:
         for line in trouble.lines:
-            print(f"tg18: {line}" if trouble.status != USAGE else line, file=sys.stderr)
+            print(line, file=sys.stderr)
         return trouble.status
     except BrokenPipeError:
         # Whoever read the answers has gone; Python would complain once more when it ends.
         os.dup2(os.open(os.devnull, os.O_WRONLY), sys.stdout.fileno())
+        return OTHER
+    except (Exception, KeyboardInterrupt):
+        # Python's own status would be 1, which is a refused script's.
+        traceback.print_exc()
         return OTHER
     return RAN

@@ -12,6 +12,7 @@ from .layout import Entry, bits_of, float_of
 WHOLE = re.compile(r"0x[0-9a-f]+(_[0-9a-f]+)*|[0-9]+(_[0-9]+)*", re.ASCII)
 DECIMAL = re.compile(r"[+-]?([0-9]+(_[0-9]+)*(\.([0-9]+(_[0-9]+)*)?)?|\.[0-9]+(_[0-9]+)*)(e[+-]?[0-9]+)?", re.ASCII)
 MOST_ERRORS = 20
+MOST_DIGITS = 100
 BYTE, WORD, WIDE = 8, 32, 64
 
 
@@ -40,9 +41,10 @@ class Words:
         word = self.word(what)
         if not WHOLE.fullmatch(word):
             raise BadLine(f"{what} is not a number: {word}")
-        number = int(word.replace("_", ""), 16 if word.startswith("0x") else 10)
+        # Python refuses to turn thousands of decimal digits into a number.
+        number = int(word.replace("_", ""), 16 if word.startswith("0x") else 10) if len(word) <= MOST_DIGITS else 1 << bits
         if number >> bits:
-            raise BadLine(f"{what} does not fit {bits} bits: {word}")
+            raise BadLine(f"{what} does not fit {bits} bits: {word[:MOST_DIGITS]}")
         return number
 
     def key(self, bits: int) -> int:

@@ -10,7 +10,6 @@ int strcmp(const char *, const char *);
 int strncmp(const char *, const char *, size_t);
 size_t strlen(const char *);
 char *strchr(const char *, int);
-char *strstr(const char *, const char *);
 char *strerror(int);
 
 #endif

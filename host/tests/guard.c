@@ -54,6 +54,9 @@ static const struct {
     {"counts and kinds that no script has", test_counts_and_kinds},
     {"outputs of other lengths", test_out_lengths},
     {"which refusal comes first", test_order},
+    {"nothing at no address", test_null},
+    {"scrubbed, no memory for a stack", test_no_stack},
+    {"scrubbed, signals blocked before and after", test_signals},
 };
 
 static int in_a_child(size_t i) {

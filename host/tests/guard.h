@@ -32,5 +32,10 @@ void test_script_lengths(void);
 void test_counts_and_kinds(void);
 void test_out_lengths(void);
 void test_order(void);
+void test_null(void);
+
+// guard_scrubbed.c
+void test_no_stack(void);
+void test_signals(void);
 
 #endif

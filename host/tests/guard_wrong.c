@@ -57,7 +57,8 @@ static struct lent lent_script(const struct script *script, size_t bytes, enum e
 
 static void try_memory(int which, size_t bytes, enum edge edge) {
     struct script script = short_script();
-    struct lent right = unit.memory[which], lent = lent_script(&script, script_length(&script), edge), out = lend(out_length(&script), edge);
+    struct lent right = unit.memory[which];
+    struct lent lent = lent_script(&script, script_length(&script), edge), out = lend(out_length(&script), edge);
     unit.memory[which] = lend(bytes, edge);
     fill_any(&unit.memory[which], 4);
     keep(&unit.memory[which]);
@@ -94,7 +95,7 @@ static void try_script(const struct script *script, size_t bytes) {
     for (int edge = AFTER_GUARD; edge <= BEFORE_GUARD; edge++) {
         struct lent lent = lent_script(script, bytes, (enum edge)edge), out = lend(out_length(script), (enum edge)edge);
         for (int entry = 0; entry < ENTRIES; entry++) {
-            now_at("script of %zu bytes in the place of %zu, %s, %s", bytes, script_length(script), edge_names[edge], entry_names[entry]);
+            now_at("script of %zu bytes, %s, %s", bytes, edge_names[edge], entry_names[entry]);
             check_refused(entry, TG18_BAD_SCRIPT, &lent, &out);
         }
         give_back(&lent);
@@ -194,4 +195,26 @@ void test_order(void) {
     try_order(GPIO, 0, TG18_BAD_MEMORY);
     try_order(MEMORIES, 1, TG18_BAD_SCRIPT);
     try_order(MEMORIES, 0, TG18_OUT_TOO_SHORT);
+}
+
+// ---- length 0 with a null pointer
+
+static const struct lent nothing = {NULL, 0, NULL, 0, NULL};
+
+void test_null(void) {
+    struct script script = short_script();
+    struct lent lent = lent_script(&script, script_length(&script), AFTER_GUARD), out = lend(out_length(&script), AFTER_GUARD);
+    unit_kept();
+    for (int entry = 0; entry < ENTRIES; entry++) {
+        struct lent no_script = nothing, no_out = nothing;
+        now_at("null, %s", entry_names[entry]);
+        check_refused(entry, TG18_BAD_SCRIPT, &no_script, &out);
+        check_refused(entry, TG18_OUT_TOO_SHORT, &lent, &no_out);
+        for (int i = 0; i < MEMORIES; i++) {
+            struct lent right = unit.memory[i];
+            unit.memory[i] = nothing;
+            check_refused(entry, TG18_BAD_MEMORY, &lent, &out);
+            unit.memory[i] = right;
+        }
+    }
 }

@@ -1,6 +1,6 @@
-// What a script leaves of a key outside the memories that it was lent. A key of 32 bytes goes into the unit by a script, on one of seven
-// ways; then everything that the process can read is searched for rows of it, the script and the answers set aside. Each case is a
-// process of its own.
+// What a script leaves of a key outside the memories that it was lent. A key of 32 bytes goes into the unit by a script, in one of
+// seven ways; then everything that the process can read is searched for rows of it, the script and the answers set aside. Each case
+// is a process of its own.
 #define _GNU_SOURCE
 #include "key_search.h"
 #include "lent.h"

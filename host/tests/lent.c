@@ -66,12 +66,6 @@ struct unit unit_made(void) {
     return unit;
 }
 
-void unit_clear(struct unit *unit) {
-    for (int i = 0; i < MEMORIES; i++) {
-        memset(unit->memory[i].at, 0, unit->memory[i].bytes);
-    }
-}
-
 uint32_t run_over(runner *run, struct unit *unit, const struct lent *script, size_t script_bytes, struct lent *out) {
     struct lent *m = unit->memory;
     return run(m[RAM].at, m[RAM].bytes, m[SRAM].at, m[SRAM].bytes, m[GPIO].at, m[GPIO].bytes, m[FRAMEBUFFER].at, m[FRAMEBUFFER].bytes,

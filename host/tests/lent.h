@@ -35,7 +35,6 @@ void keep(struct lent *lent);
 int is_kept(const struct lent *lent);
 
 struct unit unit_made(void);
-void unit_clear(struct unit *unit);
 uint32_t run_over(runner *run, struct unit *unit, const struct lent *script, size_t script_bytes, struct lent *out);
 
 #endif
