@@ -13,7 +13,7 @@ static void cpuid(uint32_t leaf, uint32_t words[4]) {
 }
 
 // The processor has them, and the system keeps them for this process: else an instruction that names them is a fault.
-static enum tg18_vectors vectors_here(void) {
+enum tg18_vectors tg18_vectors_here(void) {
     uint32_t words[4], kept, above;
     cpuid(1, words);
     if ((words[2] & 0x18000000) != 0x18000000) { // OSXSAVE and AVX
@@ -62,7 +62,7 @@ uint32_t tg18_run_script_scrubbed(uint8_t *ram, size_t ram_len, uint8_t *sram, s
     // the C library's function leaves two signals out. SIG_SETMASK is 2; a mask has eight bytes.
     uint64_t all = ~(uint64_t)0, before = 0;
     syscall(SYS_rt_sigprocmask, 2, &all, &before, sizeof all);
-    uint32_t refusal = tg18_call_on(arguments, stack + TG18_STACK_BYTES, vectors_here());
+    uint32_t refusal = tg18_call_on(arguments, stack + TG18_STACK_BYTES, tg18_vectors_here());
     tg18_clear(stack, TG18_STACK_BYTES);
     syscall(SYS_rt_sigprocmask, 2, &before, NULL, sizeof before);
     munmap(stack - TG18_GUARD_BYTES, TG18_GUARD_BYTES + TG18_STACK_BYTES);

@@ -40,48 +40,17 @@ tg18_call_on:
     vzeroall
     je .Lgeneral
     # The C library's copying uses zmm16 and above where it can.
-    vpxorq %zmm16, %zmm16, %zmm16
-    vpxorq %zmm17, %zmm17, %zmm17
-    vpxorq %zmm18, %zmm18, %zmm18
-    vpxorq %zmm19, %zmm19, %zmm19
-    vpxorq %zmm20, %zmm20, %zmm20
-    vpxorq %zmm21, %zmm21, %zmm21
-    vpxorq %zmm22, %zmm22, %zmm22
-    vpxorq %zmm23, %zmm23, %zmm23
-    vpxorq %zmm24, %zmm24, %zmm24
-    vpxorq %zmm25, %zmm25, %zmm25
-    vpxorq %zmm26, %zmm26, %zmm26
-    vpxorq %zmm27, %zmm27, %zmm27
-    vpxorq %zmm28, %zmm28, %zmm28
-    vpxorq %zmm29, %zmm29, %zmm29
-    vpxorq %zmm30, %zmm30, %zmm30
-    vpxorq %zmm31, %zmm31, %zmm31
-    kxorw %k0, %k0, %k0
-    kxorw %k1, %k1, %k1
-    kxorw %k2, %k2, %k2
-    kxorw %k3, %k3, %k3
-    kxorw %k4, %k4, %k4
-    kxorw %k5, %k5, %k5
-    kxorw %k6, %k6, %k6
-    kxorw %k7, %k7, %k7
+    .irp n, 16, 17, 18, 19, 20, 21, 22, 23, 24, 25, 26, 27, 28, 29, 30, 31
+    vpxorq %zmm\n, %zmm\n, %zmm\n
+    .endr
+    .irp n, 0, 1, 2, 3, 4, 5, 6, 7
+    kxorw %k\n, %k\n, %k\n
+    .endr
     jmp .Lgeneral
 .Lxmm:
-    xorps %xmm0, %xmm0
-    xorps %xmm1, %xmm1
-    xorps %xmm2, %xmm2
-    xorps %xmm3, %xmm3
-    xorps %xmm4, %xmm4
-    xorps %xmm5, %xmm5
-    xorps %xmm6, %xmm6
-    xorps %xmm7, %xmm7
-    xorps %xmm8, %xmm8
-    xorps %xmm9, %xmm9
-    xorps %xmm10, %xmm10
-    xorps %xmm11, %xmm11
-    xorps %xmm12, %xmm12
-    xorps %xmm13, %xmm13
-    xorps %xmm14, %xmm14
-    xorps %xmm15, %xmm15
+    .irp n, 0, 1, 2, 3, 4, 5, 6, 7, 8, 9, 10, 11, 12, 13, 14, 15
+    xorps %xmm\n, %xmm\n
+    .endr
 .Lgeneral:
     # x87 and MMX are left: floats of the port are in xmm registers, and the C library's copying uses no others.
     xor %ecx, %ecx

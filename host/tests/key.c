@@ -12,9 +12,9 @@
 #include <sys/wait.h>
 #include <unistd.h>
 
-enum { REGISTER_BYTES = 16 * 8 + 16 * 16, FIRST_XMM = 16 * 8 };
+enum { REGISTER_BYTES = 16 * 8 + 32 * 64, FIRST_VECTOR = 16 * 8 };
 
-uint32_t called(runner *run, const uintptr_t *arguments, uint8_t *registers);
+uint32_t called(runner *run, const uintptr_t *arguments, uint8_t *registers, enum tg18_vectors vectors);
 
 static struct unit unit;
 static struct lent script_room, out;
@@ -145,7 +145,7 @@ static void run_test(const struct test *test) {
         (uintptr_t)m[RAM].at,      m[RAM].bytes,           (uintptr_t)m[SRAM].at,        m[SRAM].bytes,
         (uintptr_t)m[GPIO].at,     m[GPIO].bytes,          (uintptr_t)m[FRAMEBUFFER].at, m[FRAMEBUFFER].bytes,
         (uintptr_t)script_room.at, script_length(&script), (uintptr_t)out.at,            out.bytes};
-    uint32_t refusal = called(test->run, arguments, registers);
+    uint32_t refusal = called(test->run, arguments, registers, tg18_vectors_here());
     for (int i = 0; test->afterwards == CLEARED_BY_HOST && i < MEMORIES; i++) {
         tg18_clear(m[i].at, m[i].bytes);
     }
@@ -176,9 +176,9 @@ static int is_there_alone(const struct found *found, const struct way *way) {
     return met == way->theres && found->rows == way->theres;
 }
 
-static size_t xmm_used(void) {
+static size_t vectors_used(void) {
     size_t used = 0;
-    for (size_t i = FIRST_XMM; i < REGISTER_BYTES; i++) {
+    for (size_t i = FIRST_VECTOR; i < REGISTER_BYTES; i++) {
         used += registers[i] != 0;
     }
     return used;
@@ -199,7 +199,7 @@ static void print_found(const struct found *found, const struct found *in_regist
     for (size_t i = 0; i < found->rows && i < MOST_FOUND; i++) {
         printf("%s %zu bytes in %s", i == 0 ? ":" : ",", found->row[i].bytes, where_is(found, i));
     }
-    printf("; longest %zu; in registers longest %zu, %zu bytes of xmm not 0", found->longest, in_registers->longest, xmm_used());
+    printf("; longest %zu; in registers longest %zu, %zu bytes of vectors not 0", found->longest, in_registers->longest, vectors_used());
     if (stacks_seen > 0) {
         printf("; %zu bytes of its stack not 0", stack_not_clear);
     }
@@ -211,7 +211,7 @@ static int try_test(const struct test *test) {
     struct found found = search(&in_registers);
     int there = test->afterwards == KEPT ? is_there_alone(&found, test->way) : found.rows == 0;
     int clear = stacks_seen == 1 && stack_not_clear == 0;
-    int good = !is_scrubbed(test) || (there && clear && in_registers.rows == 0 && xmm_used() == 0);
+    int good = !is_scrubbed(test) || (there && clear && in_registers.rows == 0 && vectors_used() == 0);
     printf("%s key: by %s, %s, %s:", !is_scrubbed(test) ? "seen" : good ? "ok" : "FAILED", test->way->name,
            is_scrubbed(test) ? "scrubbed" : "plain", afterwards_names[test->afterwards]);
     print_found(&found, &in_registers);

@@ -1,7 +1,7 @@
-# uint32_t called(runner *run, const uintptr_t *arguments, uint8_t *registers)
-# Calls a runner with twelve arguments, and stores directly afterwards the sixteen general registers (8 bytes each) and xmm0 to xmm15
-# (16 each). The call is made 128 KiB below the caller's frame, so that what it leaves on the stack is still there when the search is
-# made, whose own frames lie above.
+# uint32_t called(runner *run, const uintptr_t *arguments, uint8_t *registers, enum tg18_vectors vectors)
+# Calls a runner with twelve arguments, and stores directly afterwards the sixteen general registers, 8 bytes each, and behind them
+# the vector registers, 64 bytes each, as many of those as there are. The call is made 128 KiB below the caller's frame, so that what
+# it leaves on the stack is still there when the search is made, whose own frames lie above.
 
     .text
     .globl called
@@ -11,7 +11,8 @@ called:
     push %rbp
     mov %rsp, %rbp
     push %rdx
-    sub $131080, %rsp
+    push %rcx
+    sub $131072, %rsp
     mov %rdi, %r11
     mov %rsi, %rax
     pushq 88(%rax)
@@ -45,22 +46,19 @@ called:
     mov %r13, 104(%rcx)
     mov %r14, 112(%rcx)
     mov %r15, 120(%rcx)
-    movups %xmm0, 128(%rcx)
-    movups %xmm1, 144(%rcx)
-    movups %xmm2, 160(%rcx)
-    movups %xmm3, 176(%rcx)
-    movups %xmm4, 192(%rcx)
-    movups %xmm5, 208(%rcx)
-    movups %xmm6, 224(%rcx)
-    movups %xmm7, 240(%rcx)
-    movups %xmm8, 256(%rcx)
-    movups %xmm9, 272(%rcx)
-    movups %xmm10, 288(%rcx)
-    movups %xmm11, 304(%rcx)
-    movups %xmm12, 320(%rcx)
-    movups %xmm13, 336(%rcx)
-    movups %xmm14, 352(%rcx)
-    movups %xmm15, 368(%rcx)
+    .irp n, 0, 1, 2, 3, 4, 5, 6, 7, 8, 9, 10, 11, 12, 13, 14, 15
+    movups %xmm\n, 128 + 64 * \n(%rcx)
+    .endr
+    cmpq $1, -16(%rbp)
+    jb .Ldone
+    .irp n, 0, 1, 2, 3, 4, 5, 6, 7, 8, 9, 10, 11, 12, 13, 14, 15
+    vmovups %ymm\n, 128 + 64 * \n(%rcx)
+    .endr
+    je .Ldone
+    .irp n, 0, 1, 2, 3, 4, 5, 6, 7, 8, 9, 10, 11, 12, 13, 14, 15, 16, 17, 18, 19, 20, 21, 22, 23, 24, 25, 26, 27, 28, 29, 30, 31
+    vmovups %zmm\n, 128 + 64 * \n(%rcx)
+    .endr
+.Ldone:
     mov %rbp, %rsp
     pop %rbp
     ret
