@@ -88,16 +88,22 @@ def one_at_a_time() -> Iterator[None]:
         yield
 
 
-def is_built(made: Path, stamp: Path, digest: str) -> bool:
-    return made.exists() and stamp.exists() and stamp.read_text() == digest
+class Made:
+    """A file under target/ and the digest of all that it was made from, which is kept beside it."""
+
+    def __init__(self, path: Path, digest: str):
+        self.path = path
+        self.digest = digest
+        self.stamp = BUILT / f"{path.name}.stamp"
+
+    def is_there(self) -> bool:
+        return self.path.exists() and self.stamp.exists() and self.stamp.read_text() == self.digest
+
+    def keep(self) -> None:
+        self.stamp.write_text(self.digest)
 
 
-def archive(kit: Kit) -> None:
-    """rt proves crate script anew each time, which takes a minute and more; so it is asked only when something has changed."""
-    stamp = BUILT / "libscript.stamp"
-    digest = digest_of(kit, [ROOT / "crates.txt", *sorted((ROOT / "crates").rglob("*"))])
-    if is_built(ARCHIVE, stamp, digest):
-        return
+def make_archive(kit: Kit) -> None:
     said("proving and building target/staticlib/libscript.a; the first time takes some minutes")
     rt = subprocess.Popen([kit.rt, "staticlib", "script"], cwd=ROOT, stdin=subprocess.DEVNULL, stdout=subprocess.PIPE,
                           stderr=subprocess.STDOUT, text=True, errors="replace")
@@ -108,7 +114,11 @@ def archive(kit: Kit) -> None:
             print(line, end="", file=sys.stderr, flush=True)
     if rt.wait() != 0 or not ARCHIVE.exists():
         raise Trouble(OTHER, *lines[-LINES_OF_A_FAILURE:], "tg18: rt staticlib script failed")
-    stamp.write_text(digest)
+
+
+def archive(kit: Kit) -> Made:
+    """rt proves crate script anew each time, which takes a minute and more; so it is asked only when something has changed."""
+    return Made(ARCHIVE, digest_of(kit, [ROOT / "crates.txt", *sorted((ROOT / "crates").rglob("*"))]))
 
 
 def ran(words: List[str]) -> None:
@@ -132,14 +142,22 @@ def linked(kit: Kit, made: Path, objects: List[str]) -> None:
          *objects, str(ARCHIVE), *rest])
 
 
+def program_of(kit: Kit, name: str) -> Made:
+    return Made(BUILT / name, digest_of(kit, [ARCHIVE, Path(__file__), *sorted(HOST.rglob("*.[chS]"))]))
+
+
 def program(kit: Kit, name: str) -> Path:
-    """The program, built if it or anything below it has changed."""
+    """The program, made anew if it or anything below it has changed."""
+    if archive(kit).is_there() and program_of(kit, name).is_there():
+        return BUILT / name
     with one_at_a_time():
-        archive(kit)
-        made, stamp = BUILT / name, BUILT / f"{name}.stamp"
-        digest = digest_of(kit, [ARCHIVE, Path(__file__), *sorted(HOST.rglob("*.[chS]"))])
-        if not is_built(made, stamp, digest):
+        below = archive(kit)
+        if not below.is_there():
+            make_archive(kit)
+            below.keep()
+        made = program_of(kit, name)
+        if not made.is_there():
             said(f"building target/host/{name}")
-            linked(kit, made, [compiled(kit, source) for source in SCRUBBED + PROGRAMS[name]])
-            stamp.write_text(digest)
-    return made
+            linked(kit, made.path, [compiled(kit, source) for source in SCRUBBED + PROGRAMS[name]])
+            made.keep()
+    return made.path
