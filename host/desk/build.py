@@ -26,6 +26,7 @@ ARCHIVE = ROOT / "target" / "staticlib" / "libscript.a"
 SCRUBBED = ["scrubbed.c", "scrubbed_x86_64.S"]
 PROGRAMS = {
     "runner": ["runner.c"],
+    "scrub": ["tests/scrub.c", "tests/stand_in_x86_64.S", "tests/key_x86_64.S"],
     "depth": ["tests/depth.c", "tests/scripts.c", "tests/lent.c"],
     "guard": ["tests/guard.c", "tests/guard_edges.c", "tests/guard_wrong.c", "tests/guard_scrubbed.c", "tests/scripts.c",
               "tests/lent.c"],

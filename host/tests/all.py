@@ -11,7 +11,7 @@ sys.path.insert(0, str(Path(__file__).resolve().parents[1]))
 from desk import build
 from desk.trouble import Trouble
 
-PROGRAMS = ["depth", "key", "guard"]
+PROGRAMS = ["scrub", "depth", "key", "guard"]
 
 
 class Count:

@@ -77,7 +77,7 @@ static int in_a_child(size_t i) {
     if (WEXITSTATUS(status) != 0) {
         return 0;
     }
-    printf("ok guard: %s (%u runs)\n", tests[i].name, told->cases);
+    printf("ok guard: %s (runs: %u)\n", tests[i].name, told->cases);
     return 1;
 }
 

@@ -195,7 +195,7 @@ static const char *where_is(const struct found *found, size_t i) {
 }
 
 static void print_found(const struct found *found, const struct found *in_registers) {
-    printf(" %zu rows", found->rows);
+    printf(" %zu row%s", found->rows, found->rows == 1 ? "" : "s");
     for (size_t i = 0; i < found->rows && i < MOST_FOUND; i++) {
         printf("%s %zu bytes in %s", i == 0 ? ":" : ",", found->row[i].bytes, where_is(found, i));
     }
