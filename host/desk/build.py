@@ -30,6 +30,7 @@ PROGRAMS = {
     "depth": ["tests/depth.c", "tests/scripts.c", "tests/lent.c"],
     "guard": ["tests/guard.c", "tests/guard_edges.c", "tests/guard_wrong.c", "tests/guard_scrubbed.c", "tests/scripts.c",
               "tests/lent.c"],
+    "replay": ["tests/replay.c", "tests/scripts.c", "tests/lent.c"],
     "key": ["tests/key.c", "tests/key_search.c", "tests/key_x86_64.S", "tests/scripts.c", "tests/lent.c"],
 }
 # No vector instructions in our own C: the scrubbed runner leaves vector registers zero, and nothing after it shall fill them.

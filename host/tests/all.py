@@ -1,5 +1,6 @@
 """Builds and runs all tests of host/: one line a test, and how many passed and failed. host/test starts it."""
 
+import os
 import subprocess
 import sys
 import unittest
@@ -11,7 +12,8 @@ sys.path.insert(0, str(Path(__file__).resolve().parents[1]))
 from desk import build
 from desk.trouble import Trouble
 
-PROGRAMS = ["scrub", "depth", "key", "guard"]
+PROGRAMS = ["scrub", "depth", "key", "guard", "replay"]
+GIVEN = {"replay": Path(__file__).with_name("replay.list")}
 
 
 class Count:
@@ -47,7 +49,8 @@ class Result(unittest.TestResult):
 
 def run_program(kit: build.Kit, name: str, count: Count) -> None:
     before = count.failed
-    done = subprocess.Popen(kit.starts(build.program(kit, name)), stdin=subprocess.DEVNULL, stdout=subprocess.PIPE, text=True)
+    with open(GIVEN.get(name, os.devnull), "rb") as given:
+        done = subprocess.Popen(kit.starts(build.program(kit, name)), stdin=given, stdout=subprocess.PIPE, text=True)
     for line in done.stdout or []:
         count.line(line.rstrip("\n"))
     if done.wait() != 0 and count.failed == before:
