@@ -7,9 +7,11 @@ mod memories;
 mod script;
 mod script_cases;
 mod script_counts;
+mod script_device_cases;
 mod script_faults;
 mod script_make;
 mod script_port;
+mod script_replay;
 mod script_run;
 mod script_stage;
 mod script_starts;
@@ -22,11 +24,11 @@ use device::*;
 use full::*;
 use script_cases::{makings, Case};
 use script_counts::Counts;
-use script_stage::{Outcome, Stage};
+use script_stage::{Difference, Stage};
 
 /// The script is kept where it can be run again.
-fn judge(stage: &mut Stage, case: &Case, seed: u64, kept: &str) -> Result<Outcome, String> {
-    stage.run(case, seed).map_err(|difference| {
+fn judge<T>(ran: Result<T, Difference>, case: &Case, kept: &str) -> Result<T, String> {
+    ran.map_err(|difference| {
         let kept = match fs::write(kept, &case.script) {
             Ok(()) => format!("script: {kept}"),
             Err(error) => format!("{kept}: {error}"),
@@ -53,8 +55,8 @@ fn compare(
         let name = format!("family {}, seed {seed}, script {number}", making.name);
         // Should the port break off, this is what remains.
         eprintln!("running {name}");
-        let outcome = judge(&mut stage, &case, seed.wrapping_add(number), kept)
-            .map_err(|said| format!("{name}: {said}"))?;
+        let ran = stage.run(&case, seed.wrapping_add(number));
+        let outcome = judge(ran, &case, kept).map_err(|said| format!("{name}: {said}"))?;
         counts.add(&case, &outcome);
     }
     Ok((counts, stage.bytes))
@@ -64,7 +66,7 @@ fn compare(
 fn run_file(path: &str, kept: &str) -> Result<(), String> {
     let script = fs::read(path).map_err(|error| format!("{path}: {error}"))?;
     let case = Case::of_script(script);
-    let outcome = judge(&mut Stage::new(), &case, 0, kept)?;
+    let outcome = judge(Stage::new().run(&case, 0), &case, kept)?;
     println!("returned {}", outcome.returned);
     if outcome.returned == 0 {
         let count = u32::from_le_bytes(outcome.out[..4].try_into().unwrap()) as usize;
@@ -75,6 +77,20 @@ fn run_file(path: &str, kept: &str) -> Result<(), String> {
     Ok(())
 }
 
+/// The list for replay, and nothing of it if there is a difference.
+fn write_list(kept: &str) -> Result<(), String> {
+    let (mut stage, mut list) = (Stage::new(), String::new());
+    for (number, case) in (1..).zip(script_replay::cases()) {
+        let name = format!("line {number}, family {}", case.family);
+        eprintln!("running {name}");
+        let (outcome, memories) = judge(stage.run_digested(&case, 0), &case, kept)
+            .map_err(|said| format!("{name}: {said}"))?;
+        list += &script_replay::line(&case, &outcome, memories);
+    }
+    print!("{list}");
+    Ok(())
+}
+
 fn run(words: &[&str]) -> Option<Result<(), String>> {
     Some(match *words {
         ["families"] => {
@@ -82,6 +98,7 @@ fn run(words: &[&str]) -> Option<Result<(), String>> {
             Ok(())
         }
         ["file", path, kept] => run_file(path, kept),
+        ["list", kept] => write_list(kept),
         ["seed", seed, first, count, family, kept] => {
             let (seed, first, count) =
                 (seed.parse().ok()?, first.parse().ok()?, count.parse().ok()?);
@@ -104,7 +121,10 @@ fn main() -> ExitCode {
             ExitCode::FAILURE
         }
         None => {
-            println!("usage: families | file SCRIPT KEPT | seed SEED FIRST COUNT FAMILY KEPT");
+            println!(
+                "usage: families | file SCRIPT KEPT | list KEPT | \
+                 seed SEED FIRST COUNT FAMILY KEPT"
+            );
             ExitCode::from(2)
         }
     }

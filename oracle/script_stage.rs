@@ -3,6 +3,7 @@
 
 use std::fmt;
 
+use crate::bus_steps::digest;
 use crate::memories::{Memories, NAMES};
 use crate::script::{read_answer, ANSWER_BYTES};
 use crate::script_cases::Case;
@@ -92,6 +93,22 @@ impl Stage {
     }
 
     pub fn run(&mut self, case: &Case, seed: u64) -> Result<Outcome, Difference> {
+        self.run_both(case, seed);
+        self.outcome()
+    }
+
+    /// The same, and digests of the memories as the Rust side left them.
+    pub fn run_digested(
+        &mut self,
+        case: &Case,
+        seed: u64,
+    ) -> Result<(Outcome, [u64; 4]), Difference> {
+        self.run_both(case, seed);
+        let digests = self.rust.memories.0.each_ref().map(|memory| digest(memory));
+        Ok((self.outcome()?, digests))
+    }
+
+    fn run_both(&mut self, case: &Case, seed: u64) {
         self.draw((case.picture, case.picture_seed));
         let (lent, script) = (case.out, &case.script);
         for side in [&mut self.rust, &mut self.port] {
@@ -100,6 +117,9 @@ impl Stage {
         let (rust, port) = (&mut self.rust, &mut self.port);
         rust.returned = script_run::run_script(&mut rust.memories, script, &mut rust.out[..lent]);
         port.returned = script_port::run_script(&mut port.memories, script, &mut port.out[..lent]);
+    }
+
+    fn outcome(&mut self) -> Result<Outcome, Difference> {
         self.compare()?;
         Ok(Outcome { returned: self.rust.returned, out: std::mem::take(&mut self.rust.out) })
     }

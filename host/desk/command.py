@@ -1,0 +1,136 @@
+"""./tg18 run: its options, and what it does with them."""
+
+from __future__ import annotations
+
+import argparse
+import os
+import subprocess
+import sys
+import tempfile
+import traceback
+from pathlib import Path
+from typing import List, Optional, Tuple
+
+from . import build, names
+from .layout import Entry, answers_in, packed, unpacked
+from .lines import answer_lines
+from .png import png_of
+from .text import MOST_ERRORS, read_script
+from .trouble import OTHER, RAN, REFUSED, USAGE, Trouble
+
+# host/runner.c
+RUNNER_BAD_FILE = 3
+RUNNER_REFUSED = 64
+
+
+def memory_file(word: str) -> Tuple[str, str]:
+    name, equals, path = word.partition("=")
+    if not equals or name.lower() not in names.MEMORIES or not path:
+        raise argparse.ArgumentTypeError(f"NAME=FILE is due here, NAME one of {', '.join(names.MEMORIES)}: {word}")
+    return name.lower(), path
+
+
+def parser() -> argparse.ArgumentParser:
+    whole = argparse.ArgumentParser(prog="tg18", description="Runs scripts on the proved tg18 register bus.")
+    run = whole.add_subparsers(dest="command", required=True, metavar="run").add_parser("run", help="run a script")
+    run.add_argument("file", metavar="FILE", help="the script, text or binary; - is standard input")
+    run.add_argument("--screen", metavar="FILE", help="write the screen as PNG afterwards")
+    run.add_argument("--memory", metavar="NAME=FILE", type=memory_file, action="append", default=[],
+                     help="a memory's first bytes before the run (ram, sram, gpio, framebuffer); the rest is zero")
+    run.add_argument("--dump", metavar="NAME=FILE", type=memory_file, action="append", default=[],
+                     help="write a memory as it is afterwards")
+    run.add_argument("--binary", action="store_true", help="print the raw answers and no lines")
+    return whole
+
+
+def file_trouble(path: str, error: OSError) -> Trouble:
+    return Trouble(USAGE, f"{path}: {error.strerror or error}")
+
+
+def script_bytes(path: str) -> bytes:
+    try:
+        return sys.stdin.buffer.read() if path == "-" else Path(path).read_bytes()
+    except OSError as error:
+        raise file_trouble(path, error) from error
+
+
+def script_in(path: str, content: bytes) -> Tuple[bytes, Optional[List[Entry]], Optional[List[int]]]:
+    """The binary script, and of a text its entries and their lines. Every script that is not refused has a byte 0, and no text has."""
+    if b"\0" in content:
+        return content, None, None
+    lines, errors = read_script(content)
+    if errors:
+        where = "standard input" if path == "-" else path
+        more = [f"{where}: and {len(errors) - MOST_ERRORS} more"] if len(errors) > MOST_ERRORS else []
+        raise Trouble(USAGE, *[f"{where}:{number}: {what}" for number, what in errors[:MOST_ERRORS]], *more)
+    entries = [line.entry for line in lines]
+    presses = sum(line.is_press for line in lines)
+    return packed(entries[:presses], entries[presses:]), entries, [line.number for line in lines]
+
+
+def ran(words: List[str], script: bytes) -> bytes:
+    """The answers, from host/runner.c."""
+    done = subprocess.run(words, input=script, stdout=subprocess.PIPE, stderr=subprocess.PIPE)
+    said = done.stderr.decode(errors="replace").splitlines()
+    if done.returncode >= RUNNER_REFUSED:
+        number = done.returncode - RUNNER_REFUSED
+        raise Trouble(REFUSED, f"tg18: the script was refused as a whole: {names.refusal_name(number)} ({number})")
+    if done.returncode == RUNNER_BAD_FILE:
+        raise Trouble(USAGE, *said)
+    if done.returncode != 0:
+        raise Trouble(OTHER, *said, f"tg18: the runner failed: {done.returncode}")
+    return done.stdout
+
+
+def write_screen(path: str, colours: Path) -> None:
+    picture = png_of(names.SCREEN_WIDTH, names.SCREEN_HEIGHT, colours.read_bytes())
+    try:
+        Path(path).write_bytes(picture)
+    except OSError as error:
+        raise file_trouble(path, error) from error
+
+
+def check_once(files: List[Tuple[str, str]]) -> None:
+    loaded = [name for name, _ in files]
+    for name in loaded:
+        if loaded.count(name) > 1:
+            raise Trouble(USAGE, f"tg18: --memory {name} is given twice")
+
+
+def run(options: argparse.Namespace) -> None:
+    check_once(options.memory)
+    script, entries, numbers = script_in(options.file, script_bytes(options.file))
+    kit = build.Kit()
+    words = kit.starts(build.program(kit, "runner"))
+    for verb, files in (("load", options.memory), ("dump", options.dump)):
+        words += [word for name, path in files for word in (verb, f"{name}={path}")]
+    with tempfile.TemporaryDirectory() as folder:
+        colours = Path(folder) / "colours"
+        out = ran(words + (["screen", str(colours)] if options.screen else []), script)
+        if options.screen:
+            write_screen(options.screen, colours)
+    if options.binary:
+        sys.stdout.buffer.write(out)
+    else:
+        for line in answer_lines(unpacked(script) if entries is None else entries, numbers, answers_in(out)):
+            print(line)
+    sys.stdout.flush()
+
+
+def main(words: List[str]) -> int:
+    options = parser().parse_args(words)
+    try:
+        run(options)
+    except Trouble as trouble:
+        for line in trouble.lines:
+            print(line, file=sys.stderr)
+        return trouble.status
+    except BrokenPipeError:
+        # Whoever read the answers has gone; Python would complain once more when it ends.
+        os.dup2(os.open(os.devnull, os.O_WRONLY), sys.stdout.fileno())
+        return OTHER
+    except (Exception, KeyboardInterrupt):
+        # Python's own status would be 1, which is a refused script's.
+        traceback.print_exc()
+        return OTHER
+    return RAN

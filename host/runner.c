@@ -1,0 +1,217 @@
+// The program behind ./tg18: a binary script on standard input, raw answers on standard output.
+//     runner [load NAME=FILE]... [dump NAME=FILE]... [screen FILE]
+// Always scrubbed; memories, script and answers are cleared before it ends. A status of 64 and above is the script's refusal, 64 off.
+#define _GNU_SOURCE
+#include "scrubbed.h"
+#include "tg18.h"
+#include <errno.h>
+#include <fcntl.h>
+#include <stdio.h>
+#include <string.h>
+#include <sys/mman.h>
+#include <unistd.h>
+
+enum status { RAN = 0, BAD_USAGE = 2, BAD_FILE = 3, NO_MEMORY = 4, REFUSED = 64 };
+
+// One byte more than a script can have: a longer one is refused by the port itself.
+enum { SCRIPT_ROOM = 8 + TG18_PRESS_BYTES * TG18_MOST_PRESSES + TG18_STEP_BYTES * TG18_MOST_STEPS + 1 };
+enum { OUT_ROOM = 4 + TG18_ANSWER_BYTES * (TG18_MOST_PRESSES + TG18_MOST_STEPS) };
+enum { COLOUR_BYTES = 3 * TG18_SCREEN_WIDTH * TG18_SCREEN_HEIGHT };
+
+enum place { RAM, SRAM, GPIO, FRAMEBUFFER, SCRIPT, OUT, COLOURS, PLACES };
+
+static struct {
+    const char *name;
+    size_t bytes;
+    uint8_t *at;
+} places[PLACES] = {
+    {"ram", TG18_RAM_BYTES, NULL},
+    {"sram", TG18_SRAM_BYTES, NULL},
+    {"gpio", TG18_GPIO_BYTES, NULL},
+    {"framebuffer", TG18_FRAMEBUFFER_BYTES, NULL},
+    {"script", SCRIPT_ROOM, NULL},
+    {"out", OUT_ROOM, NULL},
+    {"colours", COLOUR_BYTES, NULL},
+};
+
+static int complain(enum status status, const char *what, const char *why) {
+    fprintf(stderr, "%s: %s\n", what, why);
+    return status;
+}
+
+static int map_places(void) {
+    for (int i = 0; i < PLACES; i++) {
+        void *at = mmap(NULL, places[i].bytes, PROT_READ | PROT_WRITE, MAP_PRIVATE | MAP_ANONYMOUS, -1, 0);
+        if (at == MAP_FAILED) {
+            return complain(NO_MEMORY, places[i].name, strerror(errno));
+        }
+        madvise(at, places[i].bytes, MADV_DONTDUMP);
+        mlock(at, places[i].bytes); // may fail: then it can be in swap
+        places[i].at = at;
+    }
+    return RAN;
+}
+
+static void clear_places(void) {
+    for (int i = 0; i < PLACES; i++) {
+        if (places[i].at != NULL) {
+            tg18_clear(places[i].at, places[i].bytes);
+        }
+    }
+}
+
+// How many bytes there were, at most `room`; -1 if reading fails.
+static ssize_t fill(int file, uint8_t *at, size_t room) {
+    size_t have = 0;
+    while (have < room) {
+        ssize_t got = read(file, at + have, room - have);
+        if (got == 0) {
+            break;
+        }
+        if (got > 0) {
+            have += (size_t)got;
+        } else if (errno != EINTR) {
+            return -1;
+        }
+    }
+    return (ssize_t)have;
+}
+
+static int put(int file, const uint8_t *at, size_t bytes) {
+    while (bytes > 0) {
+        ssize_t put = write(file, at, bytes);
+        if (put < 0 && errno != EINTR) {
+            return -1;
+        }
+        if (put > 0) {
+            at += put;
+            bytes -= (size_t)put;
+        }
+    }
+    return 0;
+}
+
+static int load(enum place place, const char *path) {
+    int file = open(path, O_RDONLY | O_CLOEXEC);
+    if (file < 0) {
+        return complain(BAD_FILE, path, strerror(errno));
+    }
+    ssize_t have = fill(file, places[place].at, places[place].bytes);
+    uint8_t more;
+    int status = RAN;
+    if (have < 0) {
+        status = complain(BAD_FILE, path, strerror(errno));
+    } else if ((size_t)have == places[place].bytes && fill(file, &more, 1) != 0) {
+        status = complain(BAD_FILE, path, "longer than the memory that it is for");
+    }
+    close(file);
+    return status;
+}
+
+// Readable by its owner alone: a memory can hold a key.
+static int store(enum place place, const char *path) {
+    int file = open(path, O_WRONLY | O_CREAT | O_TRUNC | O_CLOEXEC, 0600);
+    if (file < 0) {
+        return complain(BAD_FILE, path, strerror(errno));
+    }
+    int failed = put(file, places[place].at, places[place].bytes);
+    if (close(file) != 0 || failed) {
+        return complain(BAD_FILE, path, strerror(errno));
+    }
+    return RAN;
+}
+
+static uint32_t run(size_t script_bytes) {
+    return tg18_run_script_scrubbed(places[RAM].at, TG18_RAM_BYTES, places[SRAM].at, TG18_SRAM_BYTES, places[GPIO].at, TG18_GPIO_BYTES,
+                                    places[FRAMEBUFFER].at, TG18_FRAMEBUFFER_BYTES, places[SCRIPT].at, script_bytes, places[OUT].at,
+                                    OUT_ROOM);
+}
+
+static void lay(uint8_t *at, uint32_t number) {
+    for (int i = 0; i < 4; i++) {
+        at[i] = (uint8_t)(number >> (8 * i));
+    }
+}
+
+// 4,096 steps that ask for colours; the port answers them, so they are the proved ones.
+static int colours_from(uint32_t first) {
+    uint8_t *script = places[SCRIPT].at, *out = places[OUT].at, *to = places[COLOURS].at + 3 * (size_t)first;
+    memset(script, 0, SCRIPT_ROOM);
+    lay(script + 4, TG18_MOST_STEPS);
+    for (uint32_t i = 0; i < TG18_MOST_STEPS; i++) {
+        script[8 + TG18_STEP_BYTES * i] = TG18_COLOUR;
+        lay(script + 8 + TG18_STEP_BYTES * i + 4, first + i);
+    }
+    uint32_t refusal = run(TG18_SCRIPT_BYTES(0, TG18_MOST_STEPS));
+    for (uint32_t i = 0; i < TG18_MOST_STEPS && refusal == TG18_DONE; i++) {
+        const uint8_t *answer = out + 4 + TG18_ANSWER_BYTES * i + 1;
+        to[3 * i] = answer[2];
+        to[3 * i + 1] = answer[1];
+        to[3 * i + 2] = answer[0];
+    }
+    return refusal == TG18_DONE ? RAN : complain(NO_MEMORY, "screen", "the scripts that ask for its colours were not run");
+}
+
+static int screen(const char *path) {
+    int status = RAN;
+    for (uint32_t at = 0; at < TG18_SCREEN_WIDTH * TG18_SCREEN_HEIGHT && status == RAN; at += TG18_MOST_STEPS) {
+        status = colours_from(at);
+    }
+    return status == RAN ? store(COLOURS, path) : status;
+}
+
+// NAME=FILE: the file, and the memory of that name; NULL if it is none.
+static const char *named(const char *word, enum place *place) {
+    for (int i = RAM; i <= FRAMEBUFFER; i++) {
+        size_t bytes = strlen(places[i].name);
+        if (strncmp(word, places[i].name, bytes) == 0 && word[bytes] == '=') {
+            *place = (enum place)i;
+            return word + bytes + 1;
+        }
+    }
+    return NULL;
+}
+
+// Does what the words with this verb ask; all words are looked at, whatever the verb.
+static int act(int count, char **words, const char *verb) {
+    int status = RAN;
+    for (int i = 1; i + 1 < count && status == RAN; i += 2) {
+        enum place place = COLOURS;
+        int is_screen = strcmp(words[i], "screen") == 0;
+        const char *path = is_screen ? words[i + 1] : named(words[i + 1], &place);
+        if (path == NULL || (!is_screen && strcmp(words[i], "load") != 0 && strcmp(words[i], "dump") != 0)) {
+            return complain(BAD_USAGE, words[i], "runner [load NAME=FILE]... [dump NAME=FILE]... [screen FILE]");
+        }
+        if (strcmp(words[i], verb) == 0) {
+            status = is_screen ? screen(path) : verb[0] == 'l' ? load(place, path) : store(place, path);
+        }
+    }
+    return status;
+}
+
+static int answer(void) {
+    ssize_t bytes = fill(0, places[SCRIPT].at, SCRIPT_ROOM);
+    if (bytes < 0) {
+        return complain(BAD_FILE, "standard input", strerror(errno));
+    }
+    uint32_t refusal = run((size_t)bytes);
+    if (refusal == TG18_NO_STACK) {
+        return complain(NO_MEMORY, "stack", "no memory");
+    }
+    if (refusal != TG18_DONE) {
+        return REFUSED + (int)refusal;
+    }
+    const uint8_t *out = places[OUT].at;
+    size_t count = out[0] | (size_t)out[1] << 8 | (size_t)out[2] << 16 | (size_t)out[3] << 24;
+    return put(1, out, TG18_OUT_BYTES(count, 0)) == 0 ? RAN : complain(BAD_FILE, "standard output", strerror(errno));
+}
+
+int main(int count, char **words) {
+    int status = count % 2 == 1 ? map_places() : complain(BAD_USAGE, "runner", "an odd number of words");
+    status = status == RAN ? act(count, words, "load") : status;
+    status = status == RAN ? answer() : status;
+    status = status == RAN ? act(count, words, "dump") : status;
+    status = status == RAN ? act(count, words, "screen") : status;
+    clear_places();
+    return status;
+}

@@ -1,0 +1,54 @@
+// Scripts for the tests: laid out in place, by hand or at random.
+#ifndef SCRIPTS_H
+#define SCRIPTS_H
+
+#include <stddef.h>
+#include <stdint.h>
+
+struct script {
+    uint8_t *at;
+    uint32_t presses, steps;
+};
+
+// registers that the scripts use
+#define FLASH_SELECT 0xC0150000u
+#define FLASH_TRANSFER 0xC0150008u
+#define FLASH_ANSWER 0xC015000Cu
+#define RTC_PLACE 0xC0090004u
+#define RTC_BYTE 0xC0090008u
+#define RTC_COMMAND 0xC009000Cu
+#define PANEL_CONTROL 0xD0500140u
+#define PANEL_DATA 0xD050016Cu
+#define PANEL_SOURCE 0xD050033Cu
+
+struct script script_at(uint8_t *at);
+// before the first step
+void press(struct script *script, uint8_t key, uint64_t time_bits);
+void step(struct script *script, uint8_t kind, uint8_t size, uint32_t address, uint64_t value);
+void put_word(struct script *script, uint32_t address, uint32_t value);
+size_t script_length(const struct script *script);
+size_t out_length(const struct script *script);
+
+// ---- transactions of the flash, and of the panel
+
+void flash_begin(struct script *script, uint8_t command);
+void flash_send(struct script *script, uint8_t byte);
+void flash_end(struct script *script);
+void flash_enable(struct script *script);
+void flash_begin_at(struct script *script, uint8_t command, uint32_t address);
+void panel_command(struct script *script, uint8_t command);
+void panel_window(struct script *script, uint8_t command, uint32_t low, uint32_t high);
+void picture(struct script *script, uint32_t source);
+
+// ---- at random
+
+// Where a memory, the flash's array or the registers begin or end.
+enum { PLACES = 16 };
+extern const uint32_t places[PLACES];
+
+uint64_t any(uint64_t *state);               // splitmix64
+uint64_t below(uint64_t *state, uint64_t n); // 0 to n - 1
+// At least `steps` of them, of all kinds, with addresses near those places; some presses before them.
+void script_any(struct script *script, uint64_t *state, uint32_t steps);
+
+#endif

@@ -1,0 +1,141 @@
+"""./tg18 from outside: what it prints, its statuses, its files."""
+
+import os
+import struct
+import subprocess
+import sys
+import tempfile
+import unittest
+import zlib
+from pathlib import Path
+
+from desk.build import ROOT
+
+FOUR_BYTES = b"write 4 0x20000000 0x11223344\nread 4 0x20000000\n"
+
+
+def tg18(*words, stdin=b"", env=None):
+    command = [sys.executable, "-B", str(ROOT / "tg18"), *map(str, words)]
+    return subprocess.run(command, input=stdin, stdout=subprocess.PIPE, stderr=subprocess.PIPE, env=env)
+
+
+def picture_in(png):
+    """Width, height and colours of a truecolour PNG whose rows have filter 0."""
+    chunks, at = {}, 8
+    while at < len(png):
+        size, kind = struct.unpack_from(">I4s", png, at)
+        data = png[at + 8:at + 8 + size]
+        if struct.unpack_from(">I", png, at + 8 + size)[0] != zlib.crc32(kind + data):
+            raise ValueError("a chunk's checksum is wrong")
+        chunks[kind] = data
+        at += 12 + size
+    width, height, *form = struct.unpack(">IIBBBBB", chunks[b"IHDR"])
+    rows = zlib.decompress(chunks[b"IDAT"])
+    if png[:8] != b"\x89PNG\r\n\x1a\n" or form != [8, 2, 0, 0, 0] or len(rows) != height * (3 * width + 1):
+        raise ValueError("another form")
+    return width, height, b"".join(rows[y * (3 * width + 1) + 1:(y + 1) * (3 * width + 1)] for y in range(height))
+
+
+class Command(unittest.TestCase):
+    def setUp(self):
+        folder = tempfile.TemporaryDirectory()
+        self.addCleanup(folder.cleanup)
+        self.folder = Path(folder.name)
+
+    def file(self, name, content):
+        path = self.folder / name
+        path.write_bytes(content)
+        return path
+
+    def expect(self, done, status, *said):
+        self.assertEqual(done.returncode, status, done.stderr)
+        for part in said:
+            self.assertIn(part, done.stderr.decode())
+        if status != 0:
+            self.assertEqual(done.stdout, b"")
+
+    def test_examples(self):
+        examples = sorted((ROOT / "examples").glob("*.steps"))
+        self.assertGreaterEqual(len(examples), 3)
+        for example in examples:
+            done = tg18("run", example)
+            self.expect(done, 0)
+            self.assertEqual(done.stdout.decode(), example.with_suffix(".out").read_text(), example.name)
+
+    def test_standard_input_and_nothing(self):
+        done = tg18("run", "-", stdin=FOUR_BYTES)
+        self.expect(done, 0)
+        self.assertEqual(done.stdout.decode().splitlines()[1], "2  line 2  read 4 0x20000000              done  0x11223344")
+        self.assertEqual(tg18("run", "-").stdout, b"")
+
+    def test_binary_script_and_answers(self):
+        script = struct.pack("<IIBBxxIQBBxxIQ", 0, 2, 2, 4, 0x20000000, 0x11223344, 1, 4, 0x20000000, 5)
+        done = tg18("run", self.file("script", script))
+        self.assertEqual(done.stdout.decode().splitlines()[1], "2  step 1 4 0x20000000 0x5        done  0x11223344")
+        done = tg18("run", "--binary", self.file("script", script))
+        self.expect(done, 0)
+        self.assertEqual(done.stdout, struct.pack("<IBQQQBQQQ", 2, 0, 0, 0, 0, 0, 0x11223344, 0, 0))
+
+    def test_refused_as_a_whole(self):
+        self.expect(tg18("run", "-", stdin=b"\0" * 9), 1, "refused as a whole: BadScript (10)")
+        self.expect(tg18("run", "-", stdin=b"step 13 0 0 0\n"), 1, "BadScript")
+        self.expect(tg18("run", "-", stdin=b"step 0 0 0 0\n"), 1, "BadScript")
+        self.expect(tg18("run", "-", stdin=b"wipe\n" * 4097), 1, "BadScript")
+        self.expect(tg18("run", "-", stdin=bytes(3000000)), 1, "BadScript")
+        dump = self.folder / "dump"
+        tg18("run", "-", "--dump", f"ram={dump}", "--screen", dump, stdin=b"\0")
+        self.assertFalse(dump.exists())
+
+    def test_as_many_as_there_may_be(self):
+        done = tg18("run", "-", stdin=b"press A 0\n" * 4096 + b"next\n" * 4096)
+        self.expect(done, 0)
+        self.assertEqual(len(done.stdout.splitlines()), 8192)
+
+    def test_bad_lines(self):
+        bad = self.file("bad.steps", b"wipe\nread 4\n\npress A 0\n")
+        self.expect(tg18("run", bad), 2, f"{bad}:2: the address is missing", f"{bad}:4: a press behind a step")
+        done = tg18("run", "-", stdin=b"what\n" * 30)
+        self.expect(done, 2, "standard input:20: no such word", "standard input: and 10 more")
+        self.assertNotIn("input:21:", done.stderr.decode())
+
+    def test_bad_usage(self):
+        self.expect(tg18(), 2, "usage")
+        self.expect(tg18("walk"), 2, "usage")
+        self.expect(tg18("run"), 2, "usage")
+        self.expect(tg18("run", "-", "--memory", "rom=x"), 2, "NAME=FILE is due here")
+        self.expect(tg18("run", "-", "--dump", "ram"), 2, "NAME=FILE is due here")
+        self.expect(tg18("run", "-", "--memory", "ram=a", "--memory", "RAM=b"), 2, "--memory ram is given twice")
+
+    def test_files_that_cannot_be_used(self):
+        nowhere = self.folder / "no" / "where"
+        self.expect(tg18("run", nowhere), 2, str(nowhere), "No such file")
+        self.expect(tg18("run", "-", "--memory", f"ram={nowhere}"), 2, str(nowhere))
+        self.expect(tg18("run", "-", "--dump", f"ram={nowhere}"), 2, str(nowhere))
+        self.expect(tg18("run", "-", "--screen", nowhere), 2, str(nowhere))
+        long = self.file("long", bytes(4097))
+        self.expect(tg18("run", "-", "--memory", f"gpio={long}"), 2, f"{long}: longer than the memory")
+
+    def test_no_kit(self):
+        self.expect(tg18("run", "-", env={**os.environ, "PATH": ""}), 2, "rt is not on PATH")
+
+    def test_memories_in_and_out(self):
+        sizes = {"ram": 16777216, "sram": 1048576, "gpio": 4096, "framebuffer": 32768}
+        words = []
+        for name, size in sizes.items():
+            content = bytes([len(name)]) * (size if name == "gpio" else 1000)
+            words += ["--memory", f"{name}={self.file(name, content)}", "--dump", f"{name}={self.folder / name}.out"]
+        self.expect(tg18("run", "-", *words, stdin=b"write 1 0x20000001 0xEE\n"), 0)
+        for name, size in sizes.items():
+            content = bytearray((self.folder / name).read_bytes().ljust(size, b"\0"))
+            content[1] = 0xEE if name == "ram" else content[1]
+            self.assertEqual((self.folder / f"{name}.out").read_bytes(), bytes(content), name)
+
+    def test_screen(self):
+        pixels = [(i * 40503) & 0xFFFF for i in range(16384)]
+        memory = self.file("memory", struct.pack("<16384H", *pixels))
+        screen = self.folder / "screen.png"
+        self.expect(tg18("run", "-", "--memory", f"framebuffer={memory}", "--screen", screen), 0)
+        width, height, colours = picture_in(screen.read_bytes())
+        self.assertEqual((width, height), (128, 128))
+        expected = [((v >> 11) * 255 // 31, (v >> 5 & 63) * 255 // 63, (v & 31) * 255 // 31) for v in pixels]
+        self.assertEqual(list(zip(*[iter(colours)] * 3)), expected)
