@@ -6,6 +6,7 @@ use std::ops::RangeInclusive;
 
 use crate::bus_clock_cases::{adc_controls, ports_and_power};
 use crate::bus_device_cases::{answers_of_flash, programs};
+use crate::bus_flash::frame;
 use crate::bus_limit_cases::next_events;
 use crate::bus_list::List;
 use crate::bus_status_cases::{masks, room};
@@ -43,11 +44,12 @@ const WHOLE: [(&str, RangeInclusive<usize>); 6] = [
 
 /// Cases of the whole bus and of scripts, for what chance rarely meets: stores
 /// that are full, all answers and programs of the flash, controls.
-const CASES: [(&str, fn(&mut List)); 11] = [
+const CASES: [(&str, fn(&mut List)); 12] = [
     ("room", room),
     ("full_store", full_store),
     ("programs", programs),
     ("answers_of_flash", answers_of_flash),
+    ("flash_reads", flash_reads),
     ("devices", devices),
     ("masks", masks),
     ("timer_controls", timer_controls),
@@ -56,6 +58,24 @@ const CASES: [(&str, fn(&mut List)); 11] = [
     ("ports_and_power", ports_and_power),
     ("next_events", next_events),
 ];
+
+/// Erased, programmed over a page's end, and read by both commands; its names.
+fn flash_reads(list: &mut List) {
+    for bytes in [
+        &[0x06][..],
+        &[0x20, 0, 0x30, 0],
+        &[0x06],
+        &[0x02, 0, 0x30, 0xFD, 0xA1, 0xA2, 0xA3, 0xA4, 0xA5],
+        &[0x03, 0, 0x30, 0xFC, 0, 0, 0, 0, 0],
+        &[0x0B, 0, 0x30, 0xFC, 0, 0, 0, 0, 0, 0],
+        &[0x03, 0, 0x2F, 0xFE, 0, 0, 0, 0],
+        &[0x90, 0, 0, 0, 0, 0, 0],
+        &[0x9F, 0, 0, 0, 0],
+    ] {
+        frame(list, bytes);
+    }
+    list.counters();
+}
 
 /// What a replay does not have: other lengths of the memories, other starts.
 fn from_zero(case: Case) -> Case {
