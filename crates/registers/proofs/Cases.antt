@@ -1,16 +1,15 @@
 -- The branches of the definitions, each with the fact that leads to it.
 use Prim.Native.Nat.{ℕ, zero, suc, _+_, _-_, _*_, _/_, _%_, _≤_, _<_}
 use mathlib.Core.Path.{_≡_, refl, sym, ap, _∙_}
-use mathlib.Core.Bool.{Bool, true, false, cond, _||_}
+use mathlib.Core.Bool.{true, false}
 use mathlib.Core.List.{List, [], _∷_, _++_}
 use mathlib.Core.Logic.{_≢_}
 use native.Mathlib.Omega.{arith}
 use lib.ListN.{length, getD, set}
-use lib.Dec.{eqb, ltb}
-use borrow.Author.Tests.{eq-eqb, ne-eqb, lt-ltb, le-ltb, ltb-false}
+use borrow.Author.Tests.{eq-eqb, ne-eqb, lt-ltb, le-ltb}
 use Rattle.registers.specs.declared.Registers.{Registers}
 use Rattle.registers.specs.declared.Refusal.the-variants.{Done, RegistersFull}
-use Rattle.registers.specs.Words.{wordsFrom, namedWords, ownWords, index, slotOf, ownAt, ownWith, unstored, scan, place}
+use Rattle.registers.specs.Words.{wordsFrom, namedWords, ownWords, index, slotOf, ownAt, ownWith, unstored, place}
 use Rattle.registers.specs.Words.{Others, otherAt, placed, without, roomFor, OtherOutcome, otherOutcome, putOther}
 use Rattle.registers.specs.Words.{registersOf, othersOf, wordAt, outcome, beside, putWord}
 
@@ -92,70 +91,6 @@ module _ (own : List ℕ) (a s : ℕ) (e : s ≡ slotOf a) where
   pub own-kept : (v : ℕ) → 76 ≤ s → own ≡ ownWith own a v
   unfolding ownWith
   own-kept v h = rw (← e, le-ltb _ _ h)
-
--- ---- the search in 256 places
-scan-most : (l : List ℕ) (k n i : ℕ) → scan n i l k ≤ i + n
-unfolding scan
-scan-most l k zero i = omega arith
-scan-most l k (suc n) i = here-or-on (eqb (getD l i 0) k) (scan-most l k n (i + 1))
-  where
-    here-or-on : (here : Bool) → scan n (i + 1) l k ≤ i + 1 + n → cond here i (scan n (i + 1) l k) ≤ i + suc n
-    here-or-on true h = omega arith
-    here-or-on false h = omega arith
-
-module _ (l : List ℕ) (k : ℕ) where
-  pub place-start : place l k ≡ scan (256 - 0) 0 l k
-  unfolding place
-  place-start = refl
-
-  pub holds-start : (false || ltb (scan (256 - 0) 0 l k) 256) ≡ ltb (place l k) 256
-  unfolding place
-  holds-start = refl
-
-  module _ (i : ℕ) where
-    scan-next : i < 256 → scan (256 - i) i l k ≡ cond (eqb (getD l i 0) k) i (scan (256 - (i + 1)) (i + 1) l k)
-    unfolding scan
-    scan-next h = let z : 256 - i ≡ suc (256 - (i + 1)) = omega arith in rw z
-
-    scan-end : 256 ≤ i → scan (256 - i) i l k ≡ i
-    unfolding scan
-    scan-end h = let z : 256 - i ≡ 0 = omega arith in rw z
-
-    pub place-here : i < 256 → place l k ≡ scan (256 - i) i l k → getD l i 0 ≡ k → place l k ≡ i
-    place-here h e q = e ∙ scan-next h ∙ rw (eq-eqb _ _ q)
-
-    pub place-on : i < 256 → place l k ≡ scan (256 - i) i l k → getD l i 0 ≢ k → place l k ≡ scan (256 - (i + 1)) (i + 1) l k
-    place-on h e q = e ∙ scan-next h ∙ rw (ne-eqb _ _ q)
-
-    pub place-none : 256 ≤ i → place l k ≡ scan (256 - i) i l k → place l k ≡ i
-    place-none h e = e ∙ scan-end h
-
-    one-more : (found here : Bool) (rest : ℕ) → i < 256 → (found || here || ltb rest 256) ≡ (found || ltb (cond here i rest) 256)
-    one-more true here rest h = refl
-    one-more false true rest h = sym (lt-ltb i 256 h)
-    one-more false false rest h = refl
-
-    pub holds-on : (found : Bool) → i < 256 → (found || ltb (scan (256 - i) i l k) 256) ≡ ltb (place l k) 256
-        → (found || eqb (getD l i 0) k || ltb (scan (256 - (i + 1)) (i + 1) l k) 256) ≡ ltb (place l k) 256
-    holds-on found h e =
-        one-more found (eqb (getD l i 0) k) (scan (256 - (i + 1)) (i + 1) l k) h
-        ∙ ap (λ (p : ℕ). found || ltb p 256) (sym (scan-next h)) ∙ e
-
-    none-left : (found : Bool) → (found || false) ≡ found
-    none-left true = refl
-    none-left false = refl
-
-    pub holds-end : (found : Bool) → 256 ≤ i → (found || ltb (scan (256 - i) i l k) 256) ≡ ltb (place l k) 256 → found ≡ ltb (place l k) 256
-    holds-end found h e =
-        let over : ltb (scan (256 - i) i l k) 256 ≡ false = ap (λ (p : ℕ). ltb p 256) (scan-end h) ∙ le-ltb i 256 h in
-        sym (none-left found) ∙ ap (λ (b : Bool). found || b) (sym over) ∙ e
-
-  place-most : place l k ≤ 256
-  unfolding place
-  place-most = scan-most l k 256 0
-
-  pub place-end : ltb (place l k) 256 ≡ false → 256 ≡ place l k
-  place-end h = omega (arith, place-most, ltb-false (place l k) 256 h)
 
 -- ---- the others; i is the place that was found
 module _ (o : Others) (a : ℕ) where

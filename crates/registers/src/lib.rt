@@ -2,9 +2,9 @@
 //
 // A free place holds zeros, its address too, so what is stored says all of the state but the places that words stand in.
 ghost use mathlib.Core.Path.{_≡_};
-ghost use Prim.Native.Nat.{_+_};
+ghost use Prim.Native.Nat.{_+_, _-_, _≤_};
 ghost use lib.Dec.{ltb};
-ghost use Rattle.registers.specs.Words.{slotOf, index, namedWords, unstored, place, ownAt, ownWith, otherAt, wordAt};
+ghost use Rattle.registers.specs.Words.{slotOf, index, namedWords, unstored, scan, place, ownAt, ownWith, otherAt, wordAt};
 ghost use Rattle.registers.specs.Words.{registersOf, others, without, roomFor, otherOutcome, putOther, outcome, putWord, freshRegisters};
 
 pub struct Registers {
@@ -108,24 +108,27 @@ fn unstored(addr: u32) -> bool
     (addr == 0) | (addr == 0xC004_0000) | (addr == 0xC004_0004) | (addr == 0xC004_0008)
 }
 
-// Whether key stands anywhere. It looks at all places and never stops early, so that many are compared at once.
-fn holds(words: &[u32; 256], key: u32) -> bool
-    ensures { λ r. ⌜ r ≡ ltb (place (now (words .entry)) key) 256 ⌝ }
+// Whether key stands in the block of 32 places from a place on. It looks at all of them and never stops early, so that many are compared at
+// once.
+fn seen(words: &[u32; 256], key: u32, from: usize) -> bool
+    requires { ⌜ from + 32 ≤ 256 ⌝ }
+    ensures { λ r. ⌜ r ≡ ltb (scan 32 from (now (words .entry)) key) (from + 32) ⌝ }
 {
     let mut found = false;
     let mut i: usize = 0;
-    while i < 256 {
-        found = found | (words[i] == key);
+    while i < 32 {
+        found = found | (words[from + i] == key);
         i += 1;
     }
     found
 }
 
-// Where key first stands, or 256.
-fn first(words: &[u32; 256], key: u32) -> usize
-    ensures { λ r. ⌜ r ≡ place (now (words .entry)) key ⌝ }
+// Where key first stands from a place on, or 256.
+fn first(words: &[u32; 256], key: u32, from: usize) -> usize
+    requires { ⌜ from ≤ 256 ⌝ }
+    ensures { λ r. ⌜ r ≡ scan (256 - from) from (now (words .entry)) key ⌝ }
 {
-    let mut i: usize = 0;
+    let mut i = from;
     while i < 256 {
         if words[i] == key {
             return i;
@@ -135,12 +138,17 @@ fn first(words: &[u32; 256], key: u32) -> usize
     i
 }
 
-// The same, quick where key stands nowhere.
+// Where key first stands, or 256: block by block, and one by one only in the first that has it.
 fn find(words: &[u32; 256], key: u32) -> usize
     ensures { λ r. ⌜ r ≡ place (now (words .entry)) key ⌝ }
 {
-    if holds(words, key) {
-        return first(words, key);
+    let mut block: usize = 0;
+    while block < 8 {
+        let from = block * 32;
+        if seen(words, key, from) {
+            return first(words, key, from);
+        }
+        block += 1;
     }
     256
 }

@@ -1,20 +1,56 @@
-use mathlib.Core.Path.{sym, _∙_}
+use Prim.Native.Nat.{_≤_, _-_, _*_}
+use mathlib.Core.Path.{_≡_, sym, _∙_}
 use borrow.Author.Needs.{needs}
-use Rattle.registers.proofs.Cases.{place-end}
+use Rattle.registers.specs.Words.{place, scan}
+use Rattle.registers.proofs.Search.{find-start, find-on, find-end}
 use Rattle.registers.proofs.find.Statement.{statement}
 use Rattle.registers.proofs.find.Tie as tie
 
-holds-requires : tie.Need-holds-requires
-holds-requires c κs = search needs
+abbrev Inv-loop : tie.InvT-loop
+Inv-loop words key block₀ block = (block ≤ 8) × (place words key ≡ scan (256 - block * 32) (block * 32) words key)
 
-first-requires : tie.Need-first-requires
+abbrev μ-loop : tie.MeasureT-loop
+μ-loop words key block₀ block = 8 - block
+
+loop-holds : tie.Need-loop-holds Inv-loop μ-loop
+loop-holds c = (search needs, find-start _ _)
+
+mul-from : tie.Need-mul-from Inv-loop μ-loop
+mul-from c = search needs
+
+seen-requires : tie.Need-seen-requires Inv-loop μ-loop
+seen-requires c κs = search needs
+
+first-requires : tie.Need-first-requires Inv-loop μ-loop
 first-requires c κs = search needs
 
-returns : tie.Need-returns
-returns c = c .first .ensures
+returns : tie.Need-returns Inv-loop μ-loop
+returns c = c .first .ensures ∙ sym (c .before .before .before .before .loop .inv .1)
 
-returns-2 : tie.Need-returns-2
-returns-2 c = place-end _ _ (sym (c .before .holds .ensures) ∙ c .if1 .left)
+add-block : tie.Need-add-block Inv-loop μ-loop
+add-block c = search needs
+
+loop-less : tie.Need-loop-less Inv-loop μ-loop
+loop-less c = search needs
+
+loop-again : tie.Need-loop-again Inv-loop μ-loop
+loop-again c = (search needs, c .before .before .before .loop .inv .1 ∙ find-on _ _ _ (search needs) (sym (c .before .seen .ensures) ∙ c .if1 .left))
+
+returns-2 : tie.Need-returns-2 Inv-loop μ-loop
+returns-2 c = sym (c .before .loop .inv .1 ∙ find-end _ _ _ (search needs))
 
 pub find-spec : {M : Type 1} → statement M
-find-spec = tie.close (tie.spec holds-requires first-requires returns returns-2)
+find-spec =
+    tie.close
+    (tie.spec
+    Inv-loop
+    μ-loop
+    loop-holds
+    mul-from
+    seen-requires
+    first-requires
+    returns
+    add-block
+    loop-less
+    loop-again
+    returns-2)

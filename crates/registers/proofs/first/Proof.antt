@@ -1,19 +1,19 @@
 use Prim.Native.Nat.{_≤_, _-_}
-use mathlib.Core.Path.{_≡_, sym}
+use mathlib.Core.Path.{_≡_, refl, sym, _∙_}
 use borrow.Author.Needs.{needs}
-use Rattle.registers.specs.Words.{place, scan}
-use Rattle.registers.proofs.Cases.{place-start, place-here, place-on, place-none}
+use Rattle.registers.specs.Words.{scan}
+use Rattle.registers.proofs.Search.{first-here, first-on, first-end}
 use Rattle.registers.proofs.first.Statement.{statement}
 use Rattle.registers.proofs.first.Tie as tie
 
 abbrev Inv-loop : tie.InvT-loop
-Inv-loop words key i₀ i = (i ≤ 256) × (place words key ≡ scan (256 - i) i words key)
+Inv-loop words key from i₀ i = (i ≤ 256) × (scan (256 - from) from words key ≡ scan (256 - i) i words key)
 
 abbrev μ-loop : tie.MeasureT-loop
-μ-loop words key i₀ i = 256 - i
+μ-loop words key from i₀ i = 256 - i
 
 loop-holds : tie.Need-loop-holds Inv-loop μ-loop
-loop-holds c = (search needs, place-start _ _)
+loop-holds c = (search needs, refl)
 
 mul-if1 : tie.Need-mul-if1 Inv-loop μ-loop
 mul-if1 c = search needs
@@ -22,7 +22,7 @@ element-copy-out-if1 : tie.Need-element-copy-out-if1 Inv-loop μ-loop
 element-copy-out-if1 c = search needs
 
 returns : tie.Need-returns Inv-loop μ-loop
-returns c = sym (place-here _ _ _ (search needs) (c .before .before .before .loop .inv .1) (c .if1 .taken))
+returns c = sym (c .before .before .before .loop .inv .1 ∙ first-here _ _ _ (search needs) (c .if1 .taken))
 
 add-i : tie.Need-add-i Inv-loop μ-loop
 add-i c = search needs
@@ -31,10 +31,10 @@ loop-less : tie.Need-loop-less Inv-loop μ-loop
 loop-less c = search needs
 
 loop-again : tie.Need-loop-again Inv-loop μ-loop
-loop-again c = (search needs, place-on _ _ _ (search needs) (c .before .before .before .loop .inv .1) (c .if1 .left))
+loop-again c = (search needs, c .before .before .before .loop .inv .1 ∙ first-on _ _ _ (search needs) (c .if1 .left))
 
 returns-2 : tie.Need-returns-2 Inv-loop μ-loop
-returns-2 c = sym (place-none _ _ _ (search needs) (c .before .loop .inv .1))
+returns-2 c = sym (c .before .loop .inv .1 ∙ first-end _ _ _ (search needs))
 
 pub first-spec : {M : Type 1} → statement M
 first-spec =
