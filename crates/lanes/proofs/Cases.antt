@@ -4,6 +4,7 @@ use mathlib.Core.Path.{_≡_, refl, sym, ap, _∙_}
 use mathlib.Core.Bool.{Bool, true, false, not}
 use mathlib.Core.List.{List}
 use mathlib.Core.Logic.{_≢_}
+use lib.Bits.{and-zero-r}
 use borrow.Author.Tests.{eq-eqb, ne-eqb}
 use Rattle.registers.specs.declared.Registers.{Registers}
 use Rattle.registers.specs.declared.Refusal.{Refusal}
@@ -11,7 +12,7 @@ use Rattle.registers.specs.Words.{Outcome, numberOf, outcome, ownAt, wordAt, pu
 use Rattle.memory.specs.declared.Place.{Place}
 use Rattle.memory.specs.declared.Place.the-variants.{Register}
 use Rattle.memory.specs.Places.{placeOf}
-use Rattle.memory.specs.Access.{goodSize, cutOf, mergedOf}
+use Rattle.memory.specs.Access.{goodSize, cutOf, maskOf, writtenOf, mergedOf}
 use Rattle.flash.specs.declared.Chip.{Chip}
 use Rattle.panel.specs.Entries.{Screen}
 use Rattle.bus.specs.Words.{actsOf}
@@ -89,6 +90,15 @@ pub word-held : (r : Registers) {r₁ : Registers} (a n v : ℕ) {old new k : �
     → outcome x r₁ ≡ putWord r (wordOf a) new → k ≡ numberOf x → held k r₁ ≡ storing r a n v
 unfolding storing
 word-held r a n v x e h i j = rw (← e, ← h, j) i
+
+-- a write of four bytes leaves nothing of the word
+merged-whole : (old a n v : ℕ) → n ≡ 4 → mergedOf old a n v ≡ writtenOf a n v
+unfolding mergedOf maskOf
+merged-whole old a n v e = rw (eq-eqb n 4 e, and-zero-r)
+
+pub whole-held : (r : Registers) {r₁ : Registers} (a n v : ℕ) {new k : ℕ} (x : Refusal) → n ≡ 4 → new ≡ writtenOf a n v
+    → outcome x r₁ ≡ putWord r (wordOf a) new → k ≡ numberOf x → held k r₁ ≡ storing r a n v
+whole-held r a n v x e h i j = word-held r a n v x refl (h ∙ sym (merged-whole _ a n v e)) i j
 
 module _ (r : Registers) (m s g : List ℕ) (a n v : ℕ) {p : Place} (f : p ≡ placeOf a) where
   pub put-at : {q : Place} {x : Kept} → p ≡ q → x ≡ putAt q r m s g a n v → x ≡ putOf r m s g a n v

@@ -142,6 +142,11 @@ fn store(
         ≡ storing (registersOf (now (own .entry)) (now (addresses .entry)) (now (values .entry))) addr size value ⌝ }
 {
     let word = addr - addr % 4;
+    if size == 4 {
+        // all of the word is written, whatever it held
+        let whole = memory::written(addr, size, value);
+        return refusal_of(registers::insert(own, addresses, values, word, whole));
+    }
     let old = registers::reg(own, addresses, values, word);
     let new = memory::merged(old, addr, size, value);
     refusal_of(registers::insert(own, addresses, values, word, new))
