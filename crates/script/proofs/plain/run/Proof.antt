@@ -1,6 +1,6 @@
 -- What is left to run from here is what there was to run at the start.
 use Rattle.script.proofs.Runs.{run-more}
-use Rattle.script.proofs.Direct.{not-false}
+use Rattle.script.proofs.Direct.{not-false, plain-end, plain-stop}
 use Rattle.script.specs.Plain.{narrow, joined, PlainRun}
 use lib.ListN.{length}
 use native.Mathlib.Omega.{arith}
@@ -45,7 +45,7 @@ same-length-4 : tie.Need-same-length-4 Inv-loop μ-loop
 same-length-4 c = ((c .before .before .before .before .loop .inv) .5)
 
 returns : tie.Need-returns Inv-loop μ-loop
-returns c = let i = (c .before .before .before .before .loop .inv) in (i .0, i .1, i .6)
+returns c = let i = (c .before .before .before .before .loop .inv) in (i .0, i .1, i .6, plain-stop _ _ _ _ (c .before .before .entry-at .ensures) (c .before .plain .ensures) (c .if1 .taken))
 
 mul-lay : tie.Need-mul-lay Inv-loop μ-loop
 mul-lay c = omega (arith, (c .before .before .before .before .before .before .before .before .before .before .before .pre), (c .before .before .before .before .loop-test .taken))
@@ -92,7 +92,7 @@ same-length-8 : tie.Need-same-length-8 Inv-loop μ-loop
 same-length-8 c = ((c .before .loop .inv) .5)
 
 returns-2 : tie.Need-returns-2 Inv-loop μ-loop
-returns-2 c = let i = (c .before .loop .inv) in (i .0, i .1, i .6)
+returns-2 c = let i = (c .before .loop .inv) in (i .0, i .1, i .6, plain-end _ _ _ _ (c .loop-test .left))
 
 pub run-spec : {M : Type 1} → statement M
 run-spec =
