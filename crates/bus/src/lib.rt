@@ -11,7 +11,7 @@ use timer::Tone;
 pub mod block;
 pub mod chip;
 pub mod read;
-mod rtc;
+pub mod rtc;
 pub mod screen;
 mod sounds;
 pub mod words;

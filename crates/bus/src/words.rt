@@ -63,7 +63,7 @@ pub(crate) fn done(devices: Devices) -> Wrote
     }
 }
 
-pub(crate) fn refused(refusal: u8, devices: Devices) -> Wrote
+pub fn refused(refusal: u8, devices: Devices) -> Wrote
     ensures { λ r. ⌜ r ≡ answer refusal devices ⌝ }
 {
     Wrote {
@@ -127,7 +127,7 @@ fn tod_write(devices: Devices, field: u32, new: u32) -> Devices
 }
 
 // old is the word, new the merged word, part the bits that were written.
-pub(crate) fn word_write(
+pub fn word_write(
     own: &mut [u32; 76],
     devices: Devices,
     clock: u32,

@@ -8,21 +8,27 @@ use lib.Bits.{and-zero-r}
 use borrow.Author.Tests.{eq-eqb, ne-eqb}
 use Rattle.registers.specs.declared.Registers.{Registers}
 use Rattle.registers.specs.declared.Refusal.{Refusal}
-use Rattle.registers.specs.Words.{Outcome, numberOf, outcome, ownAt, wordAt, putWord}
+use Rattle.registers.specs.Words.{Outcome, numberOf, outcome, ownAt, ownWith, wordAt, putWord}
 use Rattle.memory.specs.declared.Place.{Place}
 use Rattle.memory.specs.declared.Place.the-variants.{Register}
 use Rattle.memory.specs.Places.{placeOf}
 use Rattle.memory.specs.Access.{goodSize, cutOf, maskOf, writtenOf, mergedOf}
 use Rattle.flash.specs.declared.Chip.{Chip}
 use Rattle.panel.specs.Entries.{Screen}
-use Rattle.bus.specs.Words.{actsOf}
+use Rattle.clock.specs.declared.Latch.{Latch}
+use Rattle.clock.specs.Rtc.{rtcOf}
+use Rattle.bus.specs.declared.Devices.{Devices}
+use Rattle.bus.specs.declared.Wrote.{Wrote}
+use Rattle.bus.specs.World.{Said, said, answer, withLatch}
+use Rattle.bus.specs.Rtc.{Ran, ran, commandWritten}
+use Rattle.bus.specs.Words.{actsOf, wordWritten}
 use Rattle.bus.specs.Chip.{Flashed, selectWritten, sendWritten}
 use Rattle.bus.specs.Screen.{Copied, controlled}
-use Rattle.bus.specs.Write.{wordOf}
+use Rattle.bus.specs.Write.{clockIn, wordOf}
 use Rattle.lanes.specs.declared.Lane.{Lane}
 use Rattle.lanes.specs.declared.Lane.the-variants.{Plain, Flash, Panel, Other}
-use Rattle.lanes.specs.Lanes.{plainAt, plainRead, wordLane, laneAt, laneOf}
-use Rattle.lanes.specs.Ways.{gotAt, gotOf, held, Kept, kept, storing, putAt, putOf, flashOf, panelOf}
+use Rattle.lanes.specs.Lanes.{plainAt, plainRead, wordLane, laneAt, laneOf, wordInAt, wordIn}
+use Rattle.lanes.specs.Ways.{gotAt, gotOf, held, Kept, kept, storing, putAt, putOf, flashOf, panelOf, ownOf, Acted, acted, byCommand, bySaid, wordActed, actAt, actOf}
 
 -- ---- which lane
 
@@ -68,7 +74,15 @@ module _ (a n : ℕ) {good : Bool} (e : good ≡ goodSize n) where
   unfolding laneOf
   no-lane h = rw (← e, other good true h)
 
+  pub no-word : not good ≡ true → 0 ≡ wordIn a n
+  unfolding wordIn
+  no-word h = rw (← e, other good true h)
+
   module _ (h : not good ≡ false) {p : Place} (f : p ≡ placeOf a) where
+    pub word-at : {q : Place} {x : ℕ} → p ≡ q → x ≡ wordInAt q a → x ≡ wordIn a n
+    unfolding wordIn
+    word-at k i = rw (← e, other good false h, ← f, k) i
+
     pub read-at : {q : Place} {b : Bool} → p ≡ q → b ≡ plainAt q a → b ≡ plainRead a n
     unfolding plainRead
     read-at k i = rw (← e, other good false h, ← f, k) i
@@ -121,3 +135,32 @@ pub panel-written : (r : Registers) (m s g : List ℕ) (t : Screen) (a n v : ℕ
     → new ≡ mergedOf old a n v → x ≡ controlled r m s g t new → x ≡ panelOf r m s g t a n v
 unfolding panelOf
 panel-written r m s g t a n v e k i = rw (← e, ← k) i
+
+pub own-written : (own : List ℕ) (a n v : ℕ) {old new : ℕ} {x : List ℕ} → old ≡ ownAt own (wordOf a) → new ≡ mergedOf old a n v
+    → x ≡ ownWith own (wordOf a) new → x ≡ ownOf own a n v
+unfolding ownOf
+own-written own a n v e k i = rw (← e, ← k) i
+
+-- ---- the others
+
+module _ (r : Registers) (rtc s : List ℕ) (d : Devices) (full : Bool) (a n v : ℕ) where
+  module _ {old new : ℕ} (e : old ≡ wordAt r (wordOf a)) (k : new ≡ mergedOf old a n v) where
+    pub act-command : wordOf a ≡ 0xC009000C → {own regs : List ℕ} {l : Latch} {w : Wrote}
+        → ran own (rtcOf regs l) ≡ commandWritten (r .own) (rtcOf rtc (d .latch)) (d .clocks .times .game) new → w ≡ answer 0 (withLatch d l)
+        → acted own regs w ≡ wordActed r rtc s d full a n v
+    unfolding wordActed
+    act-command h i j = rw (eq-eqb _ _ h, ← e, ← k, j) (ap (λ (x : Ran). byCommand d x) i)
+
+    pub act-word : wordOf a ≢ 0xC009000C → {clock part : ℕ} {own : List ℕ} {w : Wrote} → clock ≡ clockIn s → part ≡ writtenOf a n v
+        → said own w ≡ wordWritten (r .own) d clock full (wordOf a) old new part → acted own rtc w ≡ wordActed r rtc s d full a n v
+    unfolding wordActed
+    act-word h c p i = rw (ne-eqb _ _ h, ← e, ← k, ← c, ← p) (ap (λ (x : Said). bySaid rtc x) i)
+
+  module _ {good : Bool} (e : good ≡ goodSize n) where
+    pub act-bad : not good ≡ true → {w : Wrote} → w ≡ answer 9 d → acted (r .own) rtc w ≡ actOf r rtc s d full a n v
+    unfolding actOf
+    act-bad h i = rw (← e, other good true h, i)
+
+    pub act-at : not good ≡ false → {p q : Place} {x : Acted} → p ≡ placeOf a → p ≡ q → x ≡ actAt q r rtc s d full a n v → x ≡ actOf r rtc s d full a n v
+    unfolding actOf
+    act-at h f k i = rw (← e, other good false h, ← f, k) i

@@ -51,3 +51,22 @@ laneAt Stray a = Other
 -- the lane of a write
 unfoldable pub laneOf : ℕ → ℕ → Lane
 laneOf a n = cond (goodSize n) (laneAt (placeOf a) a) Other
+
+abbrev pub wordInAt : Place → ℕ → ℕ
+wordInAt (Ram o) a = 0
+wordInAt (Sram o) a = 0
+wordInAt (Gpio o) a = 0
+wordInAt Register a = wordOf a
+wordInAt Stray a = 0
+
+-- the word that an access reaches, or 0
+unfoldable pub wordIn : ℕ → ℕ → ℕ
+wordIn a n = cond (goodSize n) (wordInAt (placeOf a) a) 0
+
+-- the flash's answer
+abbrev pub heard : ℕ → Bool
+heard word = eqb word 0xC015000C
+
+-- the flash's words, the panel's control word, and two of the panel's that are only stored
+abbrev pub touched : ℕ → Bool
+touched word = eqb word 0xC0150000 || (eqb word 0xC0150008 || (eqb word 0xD0500140 || (eqb word 0xD050016C || eqb word 0xD050033C)))

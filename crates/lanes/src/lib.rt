@@ -8,9 +8,11 @@ ghost use Rattle.registers.specs.Words.{registersOf};
 ghost use Rattle.panel.specs.Entries.{screen};
 ghost use Rattle.bus.specs.Chip.{chipped, flashed};
 ghost use Rattle.bus.specs.Screen.{copied};
-ghost use Rattle.lanes.specs.Lanes.{movesOf, plainRead, wordLane, laneOf};
-ghost use Rattle.lanes.specs.Ways.{gotOf, held, kept, storing, putOf, flashOf, panelOf};
+ghost use Rattle.lanes.specs.Lanes.{movesOf, plainRead, wordLane, laneOf, wordIn, heard, touched};
+ghost use Rattle.lanes.specs.Ways.{gotOf, held, kept, storing, putOf, flashOf, panelOf, ownOf, acted, wordActed, actOf};
 ghost use Rattle.registers.specs.Words.{numberOf};
+use bus::Devices;
+use bus::Wrote;
 use flash::Chip;
 use memory::Place;
 use panel::Panel;
@@ -90,6 +92,40 @@ pub fn write_lane(addr: u32, size: u32) -> Lane
         Place::Register => word_lane(addr - addr % 4),
         Place::Stray => Lane::Other,
     }
+}
+
+// The word that an access reaches, or 0 where it reaches no register.
+fn word_at(addr: u32, size: u32) -> u32
+    ensures { λ r. ⌜ r ≡ wordIn addr size ⌝ }
+{
+    if !memory::good_size(size) {
+        return 0;
+    }
+    let place = memory::locate(addr);
+    match place {
+        Place::Ram(_) => 0,
+        Place::Sram(_) => 0,
+        Place::Gpio(_) => 0,
+        Place::Register => addr - addr % 4,
+        Place::Stray => 0,
+    }
+}
+
+// Whether a read takes what the flash answered last.
+pub fn hears(addr: u32, size: u32) -> bool
+    ensures { λ r. ⌜ r ≡ heard (wordIn addr size) ⌝ }
+{
+    word_at(addr, size) == 0xC015_000C
+}
+
+// Whether a write goes to the flash, to the panel, or to a word of the panel that is only stored.
+pub fn touches(addr: u32, size: u32) -> bool
+    ensures { λ r. ⌜ r ≡ touched (wordIn addr size) ⌝ }
+{
+    let word = word_at(addr, size);
+    (word == 0xC015_0000)
+        | ((word == 0xC015_0008)
+            | ((word == 0xD050_0140) | ((word == 0xD050_016C) | (word == 0xD050_033C))))
 }
 
 // ---- the ways
@@ -229,4 +265,86 @@ pub fn panel_write(
     let old = registers::own_reg(own, 0xD050_0140);
     let new = memory::merged(old, addr, size, value);
     bus::screen::lcd_write_ctrl(own, addresses, values, ram, sram, gpio, fb, panel, new)
+}
+
+// A word with storage of its own is stored.
+pub fn own_write(own: &mut [u32; 76], addr: u32, size: u32, value: u32)
+    ensures { λ _. ⌜ now (own .exit) ≡ ownOf (now (own .entry)) addr size value ⌝ }
+{
+    let word = addr - addr % 4;
+    let old = registers::own_reg(own, word);
+    let new = memory::merged(old, addr, size, value);
+    registers::own_insert(own, word, new);
+}
+
+// A write to the RTC's command word, or else to a word that acts.
+fn act(
+    own: &mut [u32; 76],
+    addresses: &[u32; 256],
+    values: &[u32; 256],
+    rtc: &mut [u8; 256],
+    sram: &[u8],
+    devices: Devices,
+    full: bool,
+    addr: u32,
+    size: u32,
+    value: u32,
+) -> Wrote
+    ensures { λ r. ⌜ acted (now (own .exit)) (now (rtc .exit)) r
+        ≡ wordActed (registersOf (now (own .entry)) (now (addresses .entry)) (now (values .entry))) (now (rtc .entry)) (now (sram .entry)) devices full addr size value ⌝ }
+{
+    let word = addr - addr % 4;
+    let old = registers::reg(own, addresses, values, word);
+    let new = memory::merged(old, addr, size, value);
+    if word == 0xC009_000C {
+        let clocks = devices.clocks;
+        let times = clocks.times;
+        let latch = bus::rtc::command_write(own, rtc, devices.latch, times.game, new);
+        let mut next = devices;
+        next.latch = latch;
+        return bus::words::refused(0, next);
+    }
+    let clock = memory::load(sram, 0x90A4, 4);
+    let part = memory::written(addr, size, value);
+    bus::words::word_write(own, devices, clock, full, word, old, new, part)
+}
+
+// A write of lane Other. Memories are none of its, nor is a word that takes another lane.
+pub fn other_write(
+    own: &mut [u32; 76],
+    addresses: &[u32; 256],
+    values: &[u32; 256],
+    rtc: &mut [u8; 256],
+    sram: &[u8],
+    devices: Devices,
+    full: bool,
+    addr: u32,
+    size: u32,
+    value: u32,
+) -> Wrote
+    ensures { λ r. ⌜ acted (now (own .exit)) (now (rtc .exit)) r
+        ≡ actOf (registersOf (now (own .entry)) (now (addresses .entry)) (now (values .entry))) (now (rtc .entry)) (now (sram .entry)) devices full addr size value ⌝ }
+{
+    if !memory::good_size(size) {
+        return bus::words::refused(9, devices);
+    }
+    let place = memory::locate(addr);
+    match place {
+        Place::Ram(_) => bus::words::refused(6, devices),
+        Place::Sram(_) => bus::words::refused(6, devices),
+        Place::Gpio(_) => bus::words::refused(6, devices),
+        Place::Register => act(
+            own,
+            addresses,
+            values,
+            rtc,
+            sram,
+            devices,
+            full,
+            addr,
+            size,
+            value,
+        ),
+        Place::Stray => bus::words::refused(6, devices),
+    }
 }

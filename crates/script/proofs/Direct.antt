@@ -1,5 +1,5 @@
 -- Entries that need no device do what all entries do.
-use Prim.Native.Nat.{ℕ, _%_, _^_}
+use Prim.Native.Nat.{ℕ, _%_, _^_, _≤_}
 use mathlib.Core.Path.{_≡_, refl, sym, ap, _∙_}
 use mathlib.Core.Bool.{Bool, true, false, not, cond}
 use mathlib.Core.List.{List}
@@ -20,8 +20,9 @@ use Rattle.system.specs.Calls.{writing, writeOf}
 use Rattle.script.specs.declared.Entry.{Entry}
 use Rattle.script.specs.declared.Answer.{Answer}
 use Rattle.script.specs.Answers.{reply}
+use Rattle.script.specs.Format.{entryAt}
 use Rattle.script.specs.Parts.{parts, turned}
-use Rattle.script.specs.Plain.{isPlain, plainEntry}
+use Rattle.script.specs.Plain.{isPlain, plainEntry, PlainStop}
 use Rattle.script.specs.Script.{turn, turnOf, leftTurn}
 use Rattle.script.proofs.Turns.{turn-read, turn-write}
 
@@ -50,10 +51,10 @@ pub not-false : (b : Bool) → not b ≡ false → b ≡ true
 not-false true h = refl
 not-false false h = sym h
 
-clash : {A : Type 0} → false ≡ true → A
+pub clash : {A : Type 0} → false ≡ true → A
 clash e = let z : _≡_ {A = ℕ} 0 1 = cc in absurd (omega arith)
 
-is-write : (b c : Bool) → cond b c false ≡ true → b ≡ true
+pub is-write : (b c : Bool) → cond b c false ≡ true → b ≡ true
 is-write true c h = refl
 is-write false c h = h
 
@@ -98,3 +99,16 @@ module _ (m : Machine) (e : Entry) (h : plainEntry e ≡ true) where
       let l = is-plain (eqb (e .kind) 2) (laneOf (e .address) (e .size)) t in
       let k = eqb-true (e .kind) 2 (is-write (eqb (e .kind) 2) (isPlain (laneOf (e .address) (e .size))) t) in
       turn-write m e k (rw (j, ← w) (put-leaves v l i))
+
+-- ---- where the loop stops
+
+module _ (s : List ℕ) (p n j : ℕ) where
+  pub plain-end : n ≤ j → PlainStop s p n j
+  plain-end h l = absurd (omega arith)
+
+  pub plain-stop : {e : Entry} {b : Bool} → e ≡ entryAt s p j → b ≡ plainEntry e → not b ≡ true → PlainStop s p n j
+  plain-stop {e} {b} f g h l = sym (ap plainEntry f) ∙ sym g ∙ no b h
+    where
+      no : (b : Bool) → not b ≡ true → b ≡ false
+      no true q = sym q
+      no false q = refl

@@ -2,6 +2,7 @@
 pub mod Turns
 pub mod Starts
 pub mod Direct
+pub mod Light
 pub mod Runs
 pub mod Laid
 pub mod Inside

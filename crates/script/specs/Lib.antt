@@ -4,4 +4,5 @@ pub mod Answers
 pub mod Script
 pub mod Parts
 pub mod Plain
+pub mod Serial
 pub mod Fold

@@ -22,6 +22,8 @@ use Rattle.time.specs.declared.Advanced.{Advanced}
 use Rattle.time.specs.Within.{timesWith}
 use Rattle.bus.specs.declared.Devices.{Devices}
 use Rattle.bus.specs.World.{withClocks}
+use Rattle.lanes.specs.declared.Lane.the-variants.{Other}
+use Rattle.lanes.specs.Lanes.{laneOf}
 use Rattle.system.specs.declared.System.{System}
 use Rattle.system.specs.declared.Presses.{Presses}
 use Rattle.system.specs.System.{Machine, machine, systemOf, presses}
@@ -93,39 +95,32 @@ Steps l e l′ x = (b : Beside) → Left (e .kind) → turn (joined b l′) x �
 
 -- ---- a write
 
--- the machine but for the presses
-pub record Unpressed : Type 0 where
+-- what it is lent
+pub record Lent : Type 0 where
   pub registers : Registers
   pub rtc : List ℕ
-  pub page : List ℕ
   pub queue : Queue
-  pub ram : List ℕ
   pub sram : List ℕ
-  pub gpio : List ℕ
-  pub fb : List ℕ
   pub parts : Parts
 
-abbrev pub unpressed : Registers → List ℕ → List ℕ → List Float → List Float → List Float → List ℕ → List ℕ → List ℕ → List ℕ → Parts → Unpressed
-unpressed r rtc page at frequencies duties ram sram gpio fb x =
-    record {
-      registers = r;
-      rtc = rtc;
-      page = page;
-      queue = queueOf at frequencies duties (x .ring);
-      ram = ram;
-      sram = sram;
-      gpio = gpio;
-      fb = fb;
-      parts = x;
-    }
+abbrev pub lent : Registers → List ℕ → List Float → List Float → List Float → List ℕ → Parts → Lent
+lent r rtc at frequencies duties sram x = record { registers = r; rtc = rtc; queue = queueOf at frequencies duties (x .ring); sram = sram; parts = x }
 
-abbrev pub pressed : Presses → Unpressed → Machine
-pressed p l =
-    machine (systemOf (l .registers) (l .rtc) (l .page) (l .parts .devices) (l .queue) p (l .parts .keys)) (l .ram) (l .sram) (l .gpio) (l .fb)
+-- what it is not lent
+pub record Unlent : Type 0 where
+  pub page : List ℕ
+  pub presses : Presses
+  pub ram : List ℕ
+  pub gpio : List ℕ
+  pub fb : List ℕ
 
--- whatever presses there are, the machine turns
-abbrev pub Writes : Unpressed → ℕ → ℕ → ℕ → Unpressed → Answer → Type 0
-Writes l a n v l′ x = (p : Presses) → turn (pressed p l′) x ≡ leftTurn (writeOf (pressed p l) a n v)
+abbrev pub whole : Unlent → Lent → Machine
+whole b l =
+    machine (systemOf (l .registers) (l .rtc) (b .page) (l .parts .devices) (l .queue) (b .presses) (l .parts .keys)) (b .ram) (l .sram) (b .gpio) (b .fb)
+
+-- whatever it is not lent, the machine turns by a write that needs neither flash nor panel nor a memory
+abbrev pub Writes : Lent → ℕ → ℕ → ℕ → Lent → Answer → Type 0
+Writes l a n v l′ x = (b : Unlent) → laneOf a n ≡ Other → turn (whole b l′) x ≡ leftTurn (writeOf (whole b l) a n v)
 
 -- ---- what stands beside an answer of a crate below
 

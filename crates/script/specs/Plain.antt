@@ -1,5 +1,5 @@
 -- Entries that need no device.
-use Prim.Native.Nat.{ℕ, _+_, _-_, _*_}
+use Prim.Native.Nat.{ℕ, _+_, _-_, _*_, _<_}
 use mathlib.Core.Path.{_≡_}
 use mathlib.Core.Bool.{Bool, true, false, cond}
 use mathlib.Core.List.{List}
@@ -12,7 +12,7 @@ use Rattle.system.specs.System.{Machine, machine}
 use Rattle.script.specs.declared.Entry.{Entry}
 use Rattle.script.specs.declared.Answer.{Answer}
 use Rattle.script.specs.declared.Parts.{Parts}
-use Rattle.script.specs.Format.{entriesFrom}
+use Rattle.script.specs.Format.{entryAt, entriesFrom}
 use Rattle.script.specs.Parts.{stateOf}
 use Rattle.script.specs.Script.{turn, turnOf, ran, ranOf}
 
@@ -69,3 +69,7 @@ PlainTurn l e l′ x = (b : Beside) → plainEntry e ≡ true → turn (joined b
 abbrev pub PlainRun : Narrow → List ℕ → ℕ → List ℕ → ℕ → ℕ → Narrow → List ℕ → ℕ → Type 0
 PlainRun l out i s p n l′ out′ j =
     (b : Beside) → ranOf (ran (joined b l′) out′) (4 + 25 * j) (entriesFrom s p (n - j) j) ≡ ranOf (ran (joined b l) out) (4 + 25 * i) (entriesFrom s p (n - i) i)
+
+-- it stops at an entry that is not plain, or at the end
+abbrev pub PlainStop : List ℕ → ℕ → ℕ → ℕ → Type 0
+PlainStop s p n j = j < n → plainEntry (entryAt s p j) ≡ false

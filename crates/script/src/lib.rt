@@ -5,12 +5,15 @@ mod format;
 mod plain;
 mod replies;
 pub mod run;
+mod serial;
 mod start;
 mod steps;
 mod turn;
 
 use bus::Devices;
+use flash::Chip;
 use keys::Keys;
+use panel::Panel;
 use timer::Ring;
 ghost use mathlib.Core.Path.{_≡_};
 ghost use Rattle.script.specs.Script.{ended, scriptOf};
@@ -41,6 +44,25 @@ pub struct Parts {
 pub struct Turned {
     pub answer: Answer,
     pub parts: Parts,
+}
+
+// Where a loop over entries stopped.
+pub struct Paused {
+    pub place: usize,
+    pub parts: Parts,
+}
+
+// What the flash's and the panel's loop leaves, and where it stopped.
+pub struct Stopped {
+    pub place: usize,
+    pub chip: Chip,
+    pub panel: Panel,
+}
+
+pub struct Served {
+    pub answer: Answer,
+    pub chip: Chip,
+    pub panel: Panel,
 }
 
 // Runs a script over the lent memories as they come, and says by 01's number whether it was refused as a whole.

@@ -3,7 +3,7 @@
 ghost use mathlib.Core.Path.{_≡_};
 ghost use Prim.Native.Nat.{_+_, _-_, _*_, _≤_};
 ghost use lib.ListN.{length};
-ghost use Rattle.script.specs.Plain.{isPlain, plainEntry, narrow, PlainTurn, PlainRun};
+ghost use Rattle.script.specs.Plain.{isPlain, plainEntry, narrow, PlainTurn, PlainRun, PlainStop};
 use crate::Answer;
 use crate::Entry;
 use crate::format::entry_at;
@@ -83,7 +83,7 @@ pub(crate) fn run(
 ) -> usize
     requires { ⌜ (p ≤ 4096) × (n ≤ p + 4096) × (8 + 9 * p + 16 * (n - p) ≤ length (now script)) × (4 + 25 * n ≤ length (now out)) × (from ≤ n) ⌝ }
     ensures { λ r. ⌜ (from ≤ r) × (r ≤ n) × PlainRun (narrow (now (own .entry)) (now (addresses .entry)) (now (values .entry)) (now (ram .entry)) (now (sram .entry)) (now (gpio .entry))) (now (out .entry)) from (now (script .entry)) p n
-        (narrow (now (own .exit)) (now (addresses .exit)) (now (values .exit)) (now (ram .exit)) (now (sram .exit)) (now (gpio .exit))) (now (out .exit)) r ⌝ }
+        (narrow (now (own .exit)) (now (addresses .exit)) (now (values .exit)) (now (ram .exit)) (now (sram .exit)) (now (gpio .exit))) (now (out .exit)) r × PlainStop (now (script .entry)) p n r ⌝ }
 {
     let mut i = from;
     while i < n {

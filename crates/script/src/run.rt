@@ -5,13 +5,17 @@ ghost use lib.ListN.{length};
 ghost use Rattle.system.specs.System.{machine};
 ghost use Rattle.script.specs.Format.{entriesFrom};
 ghost use Rattle.script.specs.Parts.{stateOf};
+ghost use Rattle.script.specs.Serial.{Stops};
 ghost use Rattle.script.specs.Script.{ran, ranOf, badMemory, ended, runOf};
 use crate::Parts;
+use crate::Paused;
 use crate::format::bad_script;
 use crate::format::entry_at;
 use crate::format::presses;
 use crate::format::steps;
 use crate::replies::lay;
+use crate::serial::light;
+use crate::serial::put_back;
 use crate::start::reset;
 use crate::turn::turn;
 
@@ -21,6 +25,82 @@ pub fn bad_memory(ram: &[u8], sram: &[u8], gpio: &[u8], fb: &[u8]) -> bool
 {
     (ram.len() != 16777216)
         | ((sram.len() != 1048576) | ((gpio.len() != 4096) | (fb.len() != 32768)))
+}
+
+// Works entries from a place on up to one that needs the flash or the panel and no other device.
+fn run_others(
+    own: &mut [u32; 76],
+    addresses: &mut [u32; 256],
+    values: &mut [u32; 256],
+    rtc: &mut [u8; 256],
+    page: &mut [u8; 256],
+    at: &mut [f64; 256],
+    frequencies: &mut [f64; 256],
+    duties: &mut [f64; 256],
+    times: &mut [f64; 64],
+    codes: &mut [u8; 64],
+    ram: &mut [u8],
+    sram: &mut [u8],
+    gpio: &mut [u8],
+    fb: &mut [u8],
+    start: Parts,
+    script: &[u8],
+    p: usize,
+    from: usize,
+    n: usize,
+    out: &mut [u8],
+) -> Paused
+    requires { ⌜ (p ≤ 4096) × (n ≤ p + 4096) × (8 + 9 * p + 16 * (n - p) ≤ length (now script)) × (4 + 25 * n ≤ length (now out)) × (from ≤ n) ⌝ }
+    ensures { λ r. ⌜ (from ≤ r .place) × (r .place ≤ n) × Stops (now (script .entry)) p n (r .place)
+        × (ranOf (ran (machine (stateOf (now (own .exit)) (now (addresses .exit)) (now (values .exit)) (now (rtc .exit)) (now (page .exit)) (now (at .exit)) (now (frequencies .exit)) (now (duties .exit)) (now (times .exit)) (now (codes .exit)) (r .parts)) (now (ram .exit)) (now (sram .exit)) (now (gpio .exit)) (now (fb .exit))) (now (out .exit))) (4 + 25 * (r .place)) (entriesFrom (now (script .entry)) p (n - r .place) (r .place))
+        ≡ ranOf (ran (machine (stateOf (now (own .entry)) (now (addresses .entry)) (now (values .entry)) (now (rtc .entry)) (now (page .entry)) (now (at .entry)) (now (frequencies .entry)) (now (duties .entry)) (now (times .entry)) (now (codes .entry)) start) (now (ram .entry)) (now (sram .entry)) (now (gpio .entry)) (now (fb .entry))) (now (out .entry))) (4 + 25 * from) (entriesFrom (now (script .entry)) p (n - from) from)) ⌝ }
+{
+    let mut parts = start;
+    let mut i = from;
+    while i < n {
+        i = crate::plain::run(
+            own,
+            addresses,
+            values,
+            ram,
+            sram,
+            gpio,
+            script,
+            p,
+            i,
+            n,
+            out,
+        );
+        if i >= n {
+            return Paused { place: i, parts };
+        }
+        let e = entry_at(script, p, i);
+        if light(e) {
+            return Paused { place: i, parts };
+        }
+        let turned = turn(
+            own,
+            addresses,
+            values,
+            rtc,
+            page,
+            at,
+            frequencies,
+            duties,
+            times,
+            codes,
+            ram,
+            sram,
+            gpio,
+            fb,
+            parts,
+            e,
+        );
+        lay(out, 4 + 25 * i, turned.answer);
+        parts = turned.parts;
+        i += 1;
+    }
+    Paused { place: i, parts }
 }
 
 // The n entries of a script whose first p are presses.
@@ -52,23 +132,7 @@ fn run_all(
     let mut parts = start;
     let mut i: usize = 0;
     while i < n {
-        i = crate::plain::run(
-            own,
-            addresses,
-            values,
-            ram,
-            sram,
-            gpio,
-            script,
-            p,
-            i,
-            n,
-            out,
-        );
-        if i >= n {
-            return parts;
-        }
-        let turned = turn(
+        let paused = run_others(
             own,
             addresses,
             values,
@@ -84,11 +148,33 @@ fn run_all(
             gpio,
             fb,
             parts,
-            entry_at(script, p, i),
+            script,
+            p,
+            i,
+            n,
+            out,
         );
-        lay(out, 4 + 25 * i, turned.answer);
-        parts = turned.parts;
-        i += 1;
+        let before = paused.parts;
+        let devices = before.devices;
+        let stopped = crate::serial::run(
+            own,
+            addresses,
+            values,
+            page,
+            ram,
+            sram,
+            gpio,
+            fb,
+            devices.flash,
+            devices.panel,
+            script,
+            p,
+            paused.place,
+            n,
+            out,
+        );
+        parts = put_back(before, stopped.chip, stopped.panel);
+        i = stopped.place;
     }
     parts
 }

@@ -3,7 +3,8 @@ ghost use mathlib.Core.Path.{_≡_};
 ghost use Rattle.registers.specs.Words.{registersOf};
 ghost use Rattle.timer.specs.Events.{queueOf, takeOf};
 ghost use Rattle.system.specs.System.{machine};
-ghost use Rattle.script.specs.Parts.{stateOf, unpressed, Writes, taken, takenOf};
+ghost use Rattle.script.specs.Parts.{stateOf, lent, Writes, taken, takenOf};
+ghost use Rattle.script.specs.Serial.{Turns};
 ghost use Rattle.script.specs.Script.{turn, turnOf};
 use crate::Entry;
 use crate::Parts;
@@ -15,39 +16,31 @@ use system::parts::event_number;
 use system::parts::note;
 use whole::forms::bits_of;
 
-// A write, and the event that it makes, if any.
+// A write that needs neither flash nor panel nor a memory, and the event that it makes, if any.
 fn write(
     own: &mut [u32; 76],
-    addresses: &mut [u32; 256],
-    values: &mut [u32; 256],
+    addresses: &[u32; 256],
+    values: &[u32; 256],
     rtc: &mut [u8; 256],
-    page: &mut [u8; 256],
     at: &mut [f64; 256],
     frequencies: &mut [f64; 256],
     duties: &mut [f64; 256],
-    ram: &mut [u8],
-    sram: &mut [u8],
-    gpio: &mut [u8],
-    fb: &mut [u8],
+    sram: &[u8],
     parts: Parts,
     addr: u32,
     size: u32,
     value: u32,
 ) -> Turned
-    ensures { λ r. ⌜ Writes (unpressed (registersOf (now (own .entry)) (now (addresses .entry)) (now (values .entry))) (now (rtc .entry)) (now (page .entry)) (now (at .entry)) (now (frequencies .entry)) (now (duties .entry)) (now (ram .entry)) (now (sram .entry)) (now (gpio .entry)) (now (fb .entry)) parts) addr size value
-        (unpressed (registersOf (now (own .exit)) (now (addresses .exit)) (now (values .exit))) (now (rtc .exit)) (now (page .exit)) (now (at .exit)) (now (frequencies .exit)) (now (duties .exit)) (now (ram .exit)) (now (sram .exit)) (now (gpio .exit)) (now (fb .exit)) (r .parts)) (r .answer) ⌝ }
+    ensures { λ r. ⌜ Writes (lent (registersOf (now (own .entry)) (now (addresses .entry)) (now (values .entry))) (now (rtc .entry)) (now (at .entry)) (now (frequencies .entry)) (now (duties .entry)) (now (sram .entry)) parts) addr size value
+        (lent (registersOf (now (own .exit)) (now (addresses .entry)) (now (values .entry))) (now (rtc .exit)) (now (at .exit)) (now (frequencies .exit)) (now (duties .exit)) (now (sram .entry)) (r .parts)) (r .answer) ⌝ }
 {
     let full = timer::events::full(parts.ring);
-    let wrote = bus::write::write(
+    let wrote = lanes::other_write(
         own,
         addresses,
         values,
         rtc,
-        page,
-        ram,
         sram,
-        gpio,
-        fb,
         parts.devices,
         full,
         addr,
@@ -86,6 +79,7 @@ fn take(
     said(next, numbers(event_number(refusal), a, b, c))
 }
 
+// An entry that is worked in none of the loops of its own.
 pub(crate) fn turn(
     own: &mut [u32; 76],
     addresses: &mut [u32; 256],
@@ -104,8 +98,8 @@ pub(crate) fn turn(
     parts: Parts,
     e: Entry,
 ) -> Turned
-    ensures { λ r. ⌜ turn (machine (stateOf (now (own .exit)) (now (addresses .exit)) (now (values .exit)) (now (rtc .exit)) (now (page .exit)) (now (at .exit)) (now (frequencies .exit)) (now (duties .exit)) (now (times .exit)) (now (codes .exit)) (r .parts)) (now (ram .exit)) (now (sram .exit)) (now (gpio .exit)) (now (fb .exit))) (r .answer)
-        ≡ turnOf (machine (stateOf (now (own .entry)) (now (addresses .entry)) (now (values .entry)) (now (rtc .entry)) (now (page .entry)) (now (at .entry)) (now (frequencies .entry)) (now (duties .entry)) (now (times .entry)) (now (codes .entry)) parts) (now (ram .entry)) (now (sram .entry)) (now (gpio .entry)) (now (fb .entry))) e ⌝ }
+    ensures { λ r. ⌜ Turns e (turn (machine (stateOf (now (own .exit)) (now (addresses .exit)) (now (values .exit)) (now (rtc .exit)) (now (page .exit)) (now (at .exit)) (now (frequencies .exit)) (now (duties .exit)) (now (times .exit)) (now (codes .exit)) (r .parts)) (now (ram .exit)) (now (sram .exit)) (now (gpio .exit)) (now (fb .exit))) (r .answer))
+        (turnOf (machine (stateOf (now (own .entry)) (now (addresses .entry)) (now (values .entry)) (now (rtc .entry)) (now (page .entry)) (now (at .entry)) (now (frequencies .entry)) (now (duties .entry)) (now (times .entry)) (now (codes .entry)) parts) (now (ram .entry)) (now (sram .entry)) (now (gpio .entry)) (now (fb .entry))) e) ⌝ }
 {
     let kind = e.kind;
     match kind {
@@ -129,14 +123,10 @@ pub(crate) fn turn(
                 addresses,
                 values,
                 rtc,
-                page,
                 at,
                 frequencies,
                 duties,
-                ram,
                 sram,
-                gpio,
-                fb,
                 parts,
                 e.address,
                 e.size,

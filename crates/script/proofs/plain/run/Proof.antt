@@ -1,6 +1,6 @@
 -- What is left to run from here is what there was to run at the start.
 use Rattle.script.proofs.Runs.{run-more}
-use Rattle.script.proofs.Direct.{not-false}
+use Rattle.script.proofs.Direct.{not-false, plain-end, plain-stop}
 use Rattle.script.specs.Plain.{narrow, PlainRun}
 use lib.ListN.{length}
 use native.Mathlib.Omega.{arith}
@@ -45,60 +45,38 @@ same-length-4 : tie.Need-same-length-4 Inv-loop μ-loop
 same-length-4 c = ((c .before .before .before .before .loop .inv) .5)
 
 returns : tie.Need-returns Inv-loop μ-loop
-returns c = let i = (c .before .before .before .before .loop .inv) in (i .0, i .1, i .6)
+returns c = let i = (c .before .before .before .before .loop .inv) in (i .0, i .1, i .6, plain-stop _ _ _ _ (c .before .before .entry-at .ensures) (c .before .plain .ensures) (c .if1 .taken))
 
 mul-lay : tie.Need-mul-lay Inv-loop μ-loop
-mul-lay c =
-    let u = c .before .before .before .before in
-    let v = u .before .before .before .before .before .before .before in
-    omega (arith, (v .pre), (u .loop-test .taken))
+mul-lay c = omega (arith, (c .before .before .before .before .before .before .before .before .before .before .before .pre), (c .before .before .before .before .loop-test .taken))
 
 add-lay : tie.Need-add-lay Inv-loop μ-loop
-add-lay c =
-    let u = c .before .before .before .before in
-    let v = u .before .before .before .before .before .before .before in
-    omega (arith, (v .pre), (u .loop-test .taken))
+add-lay c = omega (arith, (c .before .before .before .before .before .before .before .before .before .before .before .pre), (c .before .before .before .before .loop-test .taken))
 
 turn-requires : tie.Need-turn-requires Inv-loop μ-loop
 turn-requires c κs = search needs
 
 lay-requires : tie.Need-lay-requires Inv-loop μ-loop
-lay-requires c κs =
-    let u = c .before .before .before .before .before .before .before .before .before .before .before .before .before .before .before .before .before in
-    let v = u .before in
-    let w = v .before .before .before .before .before .before in
-    omega (arith, (w .pre), (v .loop .inv .5), (u .loop-test .taken))
+lay-requires c κs = omega (arith, (c .before .before .before .before .before .before .before .before .before .before .before .before .before .before .before .before .before .before .before .before .before .before .before .before .pre), (c .before .before .before .before .before .before .before .before .before .before .before .before .before .before .before .before .before .before .loop .inv .5), (c .before .before .before .before .before .before .before .before .before .before .before .before .before .before .before .before .before .loop-test .taken))
 
 add-i : tie.Need-add-i Inv-loop μ-loop
-add-i c =
-    let u = c .before .before .before .before .before .before .before .before .before .before .before .before .before .before .before .before .before .before .before .before in
-    let v = u .before .before .before .before .before .before .before in
-    omega (arith, (v .pre), (u .loop-test .taken))
+add-i c = omega (arith, (c .before .before .before .before .before .before .before .before .before .before .before .before .before .before .before .before .before .before .before .before .before .before .before .before .before .before .before .pre), (c .before .before .before .before .before .before .before .before .before .before .before .before .before .before .before .before .before .before .before .before .loop-test .taken))
 
 loop-less : tie.Need-loop-less Inv-loop μ-loop
-loop-less c =
-    let u = c .before .before .before .before .before .before .before .before .before .before .before .before .before .before .before .before .before .before .before .before in
-    omega (arith, (u .loop-test .taken))
+loop-less c = omega (arith, (c .before .before .before .before .before .before .before .before .before .before .before .before .before .before .before .before .before .before .before .before .loop-test .taken))
 
 loop-again : tie.Need-loop-again Inv-loop μ-loop
 loop-again c =
-    let u = c .before .before .before .before .before .before .before .before .before in
-    let v = u .before .before .before .before .before .before .before .before in
-    let w = v .before in
-    let x = w .before in
-    let y = x .before in
-    let z = y .before in
-    let i = (z .loop .inv) in
-    let k = (u .turn .kept) in (
+    let i = (c .before .before .before .before .before .before .before .before .before .before .before .before .before .before .before .before .before .before .before .before .before .loop .inv) in
+    let k = (c .before .before .before .before .before .before .before .before .before .turn .kept) in (
       omega (arith, i .0),
-      omega (arith, (y .loop-test .taken)),
+      omega (arith, (c .before .before .before .before .before .before .before .before .before .before .before .before .before .before .before .before .before .before .before .before .loop-test .taken)),
       k .1 .1 .1 .0 ∙ i .2,
       k .1 .1 .1 .1 .0 ∙ i .3,
       k .1 .1 .1 .1 .1 .0 ∙ i .4,
       (c .before .before .lay .kept .0) ∙ i .5,
       λ b.
-          run-more _ _ _ _ _ _ (y .loop-test .taken) (x .entry-at .ensures)
-          ((u .turn .ensures) b (sym (w .plain .ensures) ∙ not-false _ (v .if1 .left))) (c .before .before .lay .ensures) ∙ i .6 b,
+          run-more _ _ _ _ _ _ (c .before .before .before .before .before .before .before .before .before .before .before .before .before .before .before .before .before .before .before .before .loop-test .taken) (c .before .before .before .before .before .before .before .before .before .before .before .before .before .before .before .before .before .before .before .entry-at .ensures) ((c .before .before .before .before .before .before .before .before .before .turn .ensures) b (sym (c .before .before .before .before .before .before .before .before .before .before .before .before .before .before .before .before .before .before .plain .ensures) ∙ not-false _ (c .before .before .before .before .before .before .before .before .before .before .before .before .before .before .before .before .before .if1 .left))) (c .before .before .lay .ensures) ∙ i .6 b,
     )
 
 same-length-5 : tie.Need-same-length-5 Inv-loop μ-loop
@@ -114,7 +92,7 @@ same-length-8 : tie.Need-same-length-8 Inv-loop μ-loop
 same-length-8 c = ((c .before .loop .inv) .5)
 
 returns-2 : tie.Need-returns-2 Inv-loop μ-loop
-returns-2 c = let i = (c .before .loop .inv) in (i .0, i .1, i .6)
+returns-2 c = let i = (c .before .loop .inv) in (i .0, i .1, i .6, plain-end _ _ _ _ (c .loop-test .left))
 
 pub run-spec : {M : Type 1} → statement M
 run-spec =

@@ -49,14 +49,10 @@ same-length-6 c = search needs
 
 returns-2 : tie.Need-returns-2
 returns-2 c =
-    let u = c .before .before .before .before .before .before .before in
-    let v = u .before .before .before .before .before .before .before in
-    let w = v .before in
-    let x = w .before .before .before .before in
-    let a = (x .args) in
+    let a = (c .before .before .before .before .before .before .before .before .before .before .before .before .before .before .before .before .before .before .before .args) in
     λ b h.
     turn-put (joined b (narrow (a .own .now) (a .addresses .now) (a .values .now) (a .ram .now) (a .sram .now) (a .gpio .now))) (a .e) h
-    (w .if1 .left) (v .low .ensures) (u .put .ensures) (c .refused .ensures)
+    (c .before .before .before .before .before .before .before .before .before .before .before .before .before .before .before .if1 .left) (c .before .before .before .before .before .before .before .before .before .before .before .before .before .before .low .ensures) (c .before .before .before .before .before .before .before .put .ensures) (c .refused .ensures)
 
 pub turn-spec : {M : Type 1} → statement M
 turn-spec =
