@@ -9,7 +9,7 @@ use lib.Dec.{eqb, ltb}
 use borrow.Author.Tests.{eqb-false, eqb-true, ne-eqb, ltb-true}
 use Rattle.registers.specs.declared.Registers.{Registers}
 use Rattle.registers.specs.Words as words
-use Rattle.registers.specs.Words.{Outcome, registersOf, ownAt, ownWith, wordAt}
+use Rattle.registers.specs.Words.{registersOf, ownAt, wordAt}
 use Rattle.registers.proofs.Own.{own-word, own-put}
 use Rattle.memory.specs.declared.Place.{Place}
 use Rattle.memory.specs.declared.Place.the-variants.{Ram, Sram, Gpio, Register, Stray}

@@ -9,7 +9,7 @@ use lib.Dec.{eqb, ltb}
 use borrow.Author.Tests.{eqb-true, eqb-false, ne-eqb, ltb-true, ltb-false}
 use Rattle.flash.specs.declared.Chip.{Chip}
 use Rattle.panel.specs.declared.Panel.{Panel}
-use Rattle.panel.specs.Entries.{Screen, screen}
+use Rattle.panel.specs.Entries.{screen}
 use Rattle.registers.specs.Words.{registersOf}
 use Rattle.memory.specs.Access.{cutOf}
 use Rattle.bus.specs.declared.Wrote.{Wrote}
@@ -19,7 +19,6 @@ use Rattle.bus.specs.World.{Out, out, world, withFlash, withPanel}
 use Rattle.bus.specs.Write as write
 use Rattle.bus.specs.Write.{wordOf}
 use Rattle.timer.specs.Events as events
-use Rattle.lanes.specs.declared.Lane.{Lane}
 use Rattle.lanes.specs.declared.Lane.the-variants.{Other}
 use Rattle.lanes.specs.Lanes.{laneOf, wordIn, heard, touched}
 use Rattle.lanes.specs.Ways.{flashOf, panelOf, ownOf, Acted, acted, actOf}
@@ -33,7 +32,7 @@ use Rattle.script.specs.Format.{entryAt}
 use Rattle.script.specs.Parts.{parts, turned}
 use Rattle.script.specs.Plain.{isPlain, plainEntry}
 use Rattle.script.specs.Serial.{lightEntry, Goes, Stops}
-use Rattle.script.specs.Script.{Turn, turn, turnOf, leftTurn}
+use Rattle.script.specs.Script.{turn, turnOf, leftTurn}
 use Rattle.script.proofs.Direct.{clash, is-write}
 use Rattle.script.proofs.Turns.{turn-read, turn-write}
 

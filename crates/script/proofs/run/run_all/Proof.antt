@@ -2,7 +2,7 @@
 use lib.ListN.{length}
 use native.Mathlib.Omega.{arith}
 use Prim.Native.Nat.{_+_, _-_, _*_, _≤_}
-use mathlib.Core.Path.{_≡_, refl, sym, ap, _∙_}
+use mathlib.Core.Path.{_≡_, refl, _∙_}
 use Rattle.script.specs.Script.{ran, ranOf}
 use Rattle.script.specs.Parts.{stateOf}
 use Rattle.script.specs.Format.{entriesFrom}

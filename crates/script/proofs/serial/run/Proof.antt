@@ -1,8 +1,8 @@
 -- What is left to run from here is what there was to run at the start.
 use lib.ListN.{length}
 use native.Mathlib.Omega.{arith}
-use Prim.Native.Nat.{_+_, _-_, _*_, _≤_}
-use mathlib.Core.Path.{_≡_, refl, sym, ap, _∙_}
+use Prim.Native.Nat.{_-_, _≤_}
+use mathlib.Core.Path.{_≡_, refl, sym, _∙_}
 use Rattle.script.specs.Serial.{narrow, SerialRun}
 use Rattle.script.proofs.Light.{goes-on, goes-end}
 use Rattle.script.proofs.Direct.{not-false}
