@@ -59,6 +59,7 @@ pub struct Stopped {
     pub panel: Panel,
 }
 
+// What one of its entries answers and leaves.
 pub struct Served {
     pub answer: Answer,
     pub chip: Chip,

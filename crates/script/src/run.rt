@@ -27,7 +27,8 @@ pub fn bad_memory(ram: &[u8], sram: &[u8], gpio: &[u8], fb: &[u8]) -> bool
         | ((sram.len() != 1048576) | ((gpio.len() != 4096) | (fb.len() != 32768)))
 }
 
-// Works entries from a place on up to one that needs the flash or the panel and no other device.
+// Works entries from a place on up to one that needs the flash or the panel and no other device. This is a loop within that of
+// run_all, so that the scalars go no longer way for an entry because another needs the flash.
 fn run_others(
     own: &mut [u32; 76],
     addresses: &mut [u32; 256],

@@ -16,6 +16,7 @@ use flash::Chip;
 use panel::Panel;
 use whole::forms::low;
 
+// Whether an entry is one of these.
 pub(crate) fn light(e: Entry) -> bool
     ensures { λ r. ⌜ r ≡ lightEntry e ⌝ }
 {
@@ -105,7 +106,7 @@ fn serve(
     }
 }
 
-// Works entries from a place on for as long as they are such.
+// Works entries from a place on for as long as they are light; the answer says where the first stands that is not.
 pub(crate) fn run(
     own: &mut [u32; 76],
     addresses: &[u32; 256],

@@ -79,7 +79,7 @@ fn take(
     said(next, numbers(event_number(refusal), a, b, c))
 }
 
-// An entry that is worked in none of the loops of its own.
+// An entry that is worked neither in plain.rt nor in serial.rt.
 pub(crate) fn turn(
     own: &mut [u32; 76],
     addresses: &mut [u32; 256],
