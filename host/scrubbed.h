@@ -13,9 +13,9 @@ enum tg18_vectors { TG18_XMM, TG18_YMM, TG18_ZMM };
 enum tg18_vectors tg18_vectors_here(void);
 
 // The scrubbed runner's stack and the guard below it.
-// The port's deepest use, measured by host/tests/depth.c with scripts of every kind, is 17,240 bytes, of which the C library's loader
-// takes 2,432 when it finds memcpy and memset at their first call. The stack is 15 times that, and the guard is more than three times
-// that, so no frame reaches over it.
+// The port's deepest use, measured by host/tests/depth.c with scripts of every kind, is 15,048 bytes, with what the C library's loader
+// takes when it finds memcpy and memset at their first call. The stack is 17 times that, and the guard is more than four times that,
+// so no frame reaches over it.
 enum { TG18_GUARD_BYTES = 65536, TG18_STACK_BYTES = 262144 };
 
 // scrubbed_x86_64.S: calls tg18_run_script on the stack that ends at `top` (a multiple of 16), and clears the registers behind it.
