@@ -60,7 +60,7 @@ class Command(unittest.TestCase):
         for example in examples:
             done = tg18("run", example)
             self.expect(done, 0)
-            self.assertEqual(done.stdout.decode(), example.with_suffix(".out").read_text(), example.name)
+            self.assertEqual(done.stdout.decode(), example.with_suffix(".answers").read_text(), example.name)
 
     def test_standard_input_and_nothing(self):
         done = tg18("run", "-", stdin=FOUR_BYTES)
