@@ -13,7 +13,7 @@ use Rattle.flash.specs.Board.{Board, board}
 use Rattle.flash.specs.Steps.{Step, cs, byte}
 use Rattle.flash.specs.Run.{after}
 use Rattle.flash.proofs.Long.{step-long}
-use Rattle.bus.specs.declared.Devices.{Devices}
+use Rattle.state.specs.declared.Devices.{Devices}
 use Rattle.bus.specs.World.{Said}
 use Rattle.bus.specs.Chip.{Chipped, boardOf, inRam, selectedOver, sentOver}
 use Rattle.bus.specs.Sounds.{soundWritten, timerWritten}

@@ -21,15 +21,16 @@ use Rattle.timer.specs.declared.Sounded.{Sounded}
 use Rattle.timer.specs.declared.Sounded.the-variants.{Same, Change, SoundFull}
 use Rattle.timer.specs.Timers.{writtenOf}
 use Rattle.registers.specs.Words.{ownWith}
-use Rattle.time.specs.Irq.{none}
-use Rattle.bus.specs.declared.Devices.{Devices}
-use Rattle.bus.specs.World.{World, Out, out, done, Said, said, answer, well, withTone}
+use Rattle.state.specs.Parts.{none, withTone}
+use Rattle.state.specs.declared.Devices.{Devices}
+use Rattle.bus.specs.World.{World, Out, out, done, Said, said, answer, well}
 use Rattle.bus.specs.Chip.{selectWritten, sendWritten}
 use Rattle.bus.specs.Rtc.{commandWritten}
 use Rattle.bus.specs.Screen.{controlled}
 use Rattle.bus.specs.Sounds.{timerSet, soundOf, sounding, soundWritten, timerWritten}
 use Rattle.bus.specs.Words.{controlAt, fieldAt, actsOf, poweredBy, spiSent, adcWritten, daySet, wordWritten}
-use Rattle.bus.specs.Write.{storedWord, byFlash, byPanel, byRtc, byWord, byStore, clockIn, portWritten, regWritten, withRam, withSram, withGpio, writeAt, writeOf}
+use Rattle.bus.specs.Write.{storedWord, byFlash, byPanel, byRtc, byWord, byStore, portWritten, regWritten, withRam, withSram, withGpio, writeAt, writeOf}
+use Rattle.time.specs.Clocks.{clockIn}
 
 -- ---- a test
 

@@ -39,10 +39,10 @@ use Rattle.timer.specs.declared.Sounded.{Sounded}
 use Rattle.timer.specs.declared.Sounded.the-variants.{Same, Change, SoundFull}
 use Rattle.flash.specs.declared.Chip.{Chip}
 use Rattle.panel.specs.declared.Panel.{Panel}
-use Rattle.time.specs.Irq.{none}
-use Rattle.bus.specs.declared.Devices.{Devices}
-use Rattle.bus.specs.declared.Wrote.{Wrote}
-use Rattle.bus.specs.World.{World, world, Out, out, Said, said, answer, well, withFlash, withPanel, withLatch, withTone}
+use Rattle.state.specs.Parts.{none, withFlash, withPanel, withLatch, withTone}
+use Rattle.state.specs.declared.Devices.{Devices}
+use Rattle.time.specs.Clocks.{clockIn}
+use Rattle.bus.specs.World.{World, world, Out, out, Wrote, Said, said, answer, well}
 use Rattle.bus.specs.Chip.{Chipped, chipped, Flashed, flashed, selectedOver, sentOver, selectWritten, sendWritten}
 use Rattle.bus.specs.Rtc.{Ran, ran, commandWritten}
 use Rattle.bus.specs.Block as block
@@ -50,8 +50,7 @@ use Rattle.bus.specs.Block.{Block, peekOf, joinedOf, blockOf, wholeOf, P
 use Rattle.bus.specs.Screen.{fedWord, Copied, copied, dmaDone, acted, quieted, controlled}
 use Rattle.bus.specs.Sounds.{timerSet, soundOf, soundWritten, timerWritten}
 use Rattle.bus.specs.Words.{controlAt, fieldAt, actsOf, poweredBy, spiSent, adcSet, adcAfter, adcWritten, daySet, wordWritten}
-use Rattle.bus.specs.Write.{Stored, stored, settled, storedWord, byFlash, byPanel, byRtc, byWord, byStore, clockIn, portWritten, wordOf, regWritten, writeAt, writeOf}
-use Rattle.bus.specs.Write.{ownIn}
+use Rattle.bus.specs.Write.{Stored, stored, settled, storedWord, ownIn, byFlash, byPanel, byRtc, byWord, byStore, portWritten, wordOf, regWritten, writeAt, writeOf}
 use Rattle.bus.specs.Read.{afterRead, valueOf, given, regRead, got, reads, readAt, readOf}
 
 -- ---- a block that fits

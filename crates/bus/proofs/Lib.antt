@@ -2,6 +2,8 @@
 pub mod Parts
 pub mod Whole
 pub mod Cases
+pub mod BankedWords
+pub mod BankedWrites
 pub mod Branches
 pub mod Boards
 pub mod Unique

@@ -8,3 +8,4 @@ pub mod Sounds
 pub mod Words
 pub mod Write
 pub mod Read
+pub mod Bank

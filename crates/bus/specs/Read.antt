@@ -15,12 +15,14 @@ use Rattle.memory.specs.Bytes.{loaded}
 use Rattle.memory.specs.Access.{goodSize, cutOf}
 use Rattle.timer.specs.Timers.{controlOf, counterOf}
 use Rattle.clock.specs.Day.{todOf, fieldOf}
-use Rattle.time.specs.declared.Clocks.{Clocks}
-use Rattle.time.specs.Irq.{none, pendingOf}
-use Rattle.bus.specs.declared.Devices.{Devices}
+use Rattle.state.specs.declared.Clocks.{Clocks}
+use Rattle.state.specs.declared.Devices.{Devices}
+use Rattle.state.specs.Parts.{none}
+use Rattle.time.specs.Irq.{pendingOf}
+use Rattle.time.specs.Clocks.{clockIn}
 use Rattle.bus.specs.declared.Got.{Got}
 use Rattle.bus.specs.Words.{controlAt, fieldAt}
-use Rattle.bus.specs.Write.{wordOf, clockIn}
+use Rattle.bus.specs.Write.{wordOf}
 
 -- 2 if bit 15 of the clock switch is set, else 1
 unfoldable pub statusOf : List ℕ → ℕ

@@ -1,10 +1,12 @@
 -- The timers' control words and the buzzer: timer_write_ctrl, sound_update.
 use Prim.Native.Nat.{ℕ}
-use mathlib.Core.Bool.{Bool, true, cond}
+use mathlib.Core.Bool.{Bool, true, false, cond}
 use mathlib.Core.List.{List}
 use lib.ListN.{getD}
 use lib.Dec.{eqb}
 use Rattle.registers.specs.Words.{ownAt, ownWith}
+use Rattle.timer.specs.declared.Event.{Event}
+use Rattle.timer.specs.declared.Queue.{Queue}
 use Rattle.timer.specs.declared.Timer.{Timer}
 use Rattle.timer.specs.declared.Tone.{Tone}
 use Rattle.timer.specs.declared.Written.{Written}
@@ -12,10 +14,10 @@ use Rattle.timer.specs.declared.Sounded.{Sounded}
 use Rattle.timer.specs.declared.Sounded.the-variants.{Same, Change, SoundFull}
 use Rattle.timer.specs.Timers.{writtenOf}
 use Rattle.timer.specs.Sound.{toneOf, soundedOf}
-use Rattle.time.specs.Irq.{none}
-use Rattle.time.specs.Within.{timerWith}
-use Rattle.bus.specs.declared.Devices.{Devices}
-use Rattle.bus.specs.World.{Said, said, answer, well, withClocks, withTone}
+use Rattle.timer.specs.Events.{putOf}
+use Rattle.state.specs.Parts.{none, timerWith, withClocks, withTone}
+use Rattle.state.specs.declared.Devices.{Devices}
+use Rattle.bus.specs.World.{Said, said, answer, well}
 
 abbrev pub timerSet : Devices → ℕ → Timer → Devices
 timerSet d n t = withClocks d (timerWith (d .clocks) n t)
@@ -47,3 +49,14 @@ controlWritten x own d clock full n word =
 unfoldable pub timerWritten : List ℕ → Devices → ℕ → Bool → ℕ → ℕ → ℕ → ℕ → Said
 timerWritten own d clock full n word old new =
     controlWritten (writtenOf (getD (d .clocks .timers) n none) (d .clocks .times .now) new old) own d clock full n word
+
+-- ---- the sound queue
+
+-- the event of a change: from the devices' time on, their tone
+abbrev pub soundNow : Devices → Event
+soundNow d = record { time = d .clocks .times .now; frequency = d .tone .frequency; duty = d .tone .duty }
+
+-- the queue after a write that made an event, or none
+abbrev pub noted : Queue → Devices → Bool → Queue
+noted q d true = putOf q (soundNow d) .queue
+noted q d false = q

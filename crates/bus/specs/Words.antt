@@ -9,9 +9,9 @@ use Rattle.registers.specs.Words.{ownAt, ownWith}
 use Rattle.clock.specs.declared.Adc.{Adc}
 use Rattle.clock.specs.Adc.{writtenOf}
 use Rattle.clock.specs.Day.{setOf}
-use Rattle.time.specs.Within.{irqWith, convertingWith}
-use Rattle.bus.specs.declared.Devices.{Devices}
-use Rattle.bus.specs.World.{Said, well, withClocks, withOff}
+use Rattle.state.specs.Parts.{irqWith, convertingWith, withClocks, withOff}
+use Rattle.state.specs.declared.Devices.{Devices}
+use Rattle.bus.specs.World.{Said, well}
 use Rattle.bus.specs.Sounds.{soundWritten, timerWritten}
 
 -- the timer whose control word it is, or 6

@@ -3,13 +3,7 @@ use Prim.Native.Nat.{ℕ}
 use mathlib.Core.Bool.{Bool, false}
 use mathlib.Core.List.{List}
 use Rattle.registers.specs.declared.Registers.{Registers}
-use Rattle.flash.specs.declared.Chip.{Chip}
-use Rattle.panel.specs.declared.Panel.{Panel}
-use Rattle.clock.specs.declared.Latch.{Latch}
-use Rattle.timer.specs.declared.Tone.{Tone}
-use Rattle.time.specs.declared.Clocks.{Clocks}
-use Rattle.bus.specs.declared.Devices.{Devices}
-use Rattle.bus.specs.declared.Wrote.{Wrote}
+use Rattle.state.specs.declared.Devices.{Devices}
 
 -- registers; the RTC's registers; the page's running AND; the four lent memories; what the devices hold beside
 pub record World : Type 0 where
@@ -37,30 +31,13 @@ out w n e = record { world = w; refusal = n; event = e }
 abbrev pub done : World → Out
 done w = out w 0 false
 
--- ---- the devices with one part replaced
-
-abbrev pub devicesOf : Chip → Panel → Clocks → Latch → Tone → Bool → Devices
-devicesOf f p c l t o = record { flash = f; panel = p; clocks = c; latch = l; tone = t; off = o }
-
-abbrev pub withFlash : Devices → Chip → Devices
-withFlash d x = devicesOf x (d .panel) (d .clocks) (d .latch) (d .tone) (d .off)
-
-abbrev pub withPanel : Devices → Panel → Devices
-withPanel d x = devicesOf (d .flash) x (d .clocks) (d .latch) (d .tone) (d .off)
-
-abbrev pub withClocks : Devices → Clocks → Devices
-withClocks d x = devicesOf (d .flash) (d .panel) x (d .latch) (d .tone) (d .off)
-
-abbrev pub withLatch : Devices → Latch → Devices
-withLatch d x = devicesOf (d .flash) (d .panel) (d .clocks) x (d .tone) (d .off)
-
-abbrev pub withTone : Devices → Tone → Devices
-withTone d x = devicesOf (d .flash) (d .panel) (d .clocks) (d .latch) x (d .off)
-
-abbrev pub withOff : Devices → Bool → Devices
-withOff d x = devicesOf (d .flash) (d .panel) (d .clocks) (d .latch) (d .tone) x
-
 -- ---- what a write leaves that reaches no memory and no array but the words with storage of their own
+
+-- the answer, and the devices
+pub record Wrote : Type 0 where
+  pub refusal : ℕ
+  pub event : Bool
+  pub devices : Devices
 
 pub record Said : Type 0 where
   pub own : List ℕ

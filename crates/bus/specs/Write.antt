@@ -8,16 +8,20 @@ use Rattle.registers.specs.Words.{Outcome, registersOf, wordAt, putWord}
 use Rattle.memory.specs.declared.Place.{Place}
 use Rattle.memory.specs.declared.Place.the-variants.{Ram, Sram, Gpio, Register, Stray}
 use Rattle.memory.specs.Places.{placeOf}
-use Rattle.memory.specs.Bytes.{loaded, storedAt}
+use Rattle.memory.specs.Bytes.{storedAt}
 use Rattle.memory.specs.Access.{goodSize, mergedOf, writtenOf}
 use Rattle.panel.specs.Entries.{screen}
 use Rattle.clock.specs.Rtc.{rtcOf}
-use Rattle.bus.specs.declared.Devices.{Devices}
-use Rattle.bus.specs.declared.Wrote.{Wrote}
-use Rattle.bus.specs.World.{World, world, Out, out, done, Said, answer, withFlash, withPanel, withLatch}
+use Rattle.timer.specs.declared.Queue.{Queue}
+use Rattle.timer.specs.Events.{fullOf}
+use Rattle.state.specs.declared.Devices.{Devices}
+use Rattle.state.specs.Parts.{withFlash, withPanel, withLatch}
+use Rattle.time.specs.Clocks.{clockIn}
+use Rattle.bus.specs.World.{World, world, Out, out, done, Wrote, Said, answer}
 use Rattle.bus.specs.Chip.{Flashed, selectWritten, sendWritten}
 use Rattle.bus.specs.Rtc.{Ran, commandWritten}
 use Rattle.bus.specs.Screen.{Copied, controlled}
+use Rattle.bus.specs.Sounds.{noted}
 use Rattle.bus.specs.Words.{actsOf, wordWritten}
 
 -- a word that only is stored
@@ -57,10 +61,6 @@ byStore w x = out (world (x .registers) (w .rtc) (w .page) (w .ram) (w .sram) (w
 
 -- ---- a register
 
--- the system clock's word, at 0xF80090A4
-abbrev pub clockIn : List ℕ → ℕ
-clockIn sram = loaded sram 0x90A4 4
-
 unfoldable pub portWritten : World → Bool → ℕ → ℕ → ℕ → ℕ → Out
 portWritten w full word old new part =
     cond (eqb word 0xC0150000) (byFlash w (selectWritten (w .registers .own) (w .devices .flash) (w .page) (w .ram) new))
@@ -98,3 +98,18 @@ writeAt Stray w full a n v = out w 6 false
 
 unfoldable pub writeOf : World → Bool → ℕ → ℕ → ℕ → Out
 writeOf w full a n v = cond (goodSize n) (writeAt (placeOf a) w full a n v) (out w 9 false)
+
+-- ---- with the sound queue: an event that finds 256 waiting refuses the write, any other is put in
+
+pub record Noted : Type 0 where
+  pub out : Out
+  pub queue : Queue
+
+abbrev pub together : Out → Queue → Noted
+together o q = record { out = o; queue = q }
+
+abbrev pub notes : Queue → Out → Noted
+notes q o = together o (noted q (o .world .devices) (o .event))
+
+unfoldable pub notedWrite : World → Queue → ℕ → ℕ → ℕ → Noted
+notedWrite w q a n v = notes q (writeOf w (fullOf (q .ring)) a n v)

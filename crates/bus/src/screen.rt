@@ -2,7 +2,7 @@
 ghost use mathlib.Core.Path.{_≡_};
 ghost use Rattle.registers.specs.Words.{registersOf};
 ghost use Rattle.panel.specs.Entries.{screen};
-ghost use Rattle.bus.specs.Screen.{fedWord, Copied, copied, dmaDone, acted, controlled};
+ghost use Rattle.bus.specs.Screen.{fedWord, copied, dmaDone, acted, controlled};
 use panel::Panel;
 
 // A word's one data byte or two, the high one first.

@@ -1,11 +1,17 @@
 // The timers' control words, and the buzzer that follows timer 4.
 ghost use mathlib.Core.Path.{_≡_};
 ghost use mathlib.Core.Bool.{cond};
-ghost use Prim.Native.Nat.{_<_};
-ghost use Rattle.bus.specs.World.{Said, said};
+ghost use Rattle.state.specs.Bank.{partsIn};
+ghost use Rattle.state.specs.Packed.{Kept};
+ghost use Rattle.bus.specs.Bank.{Only, wroteOf};
 ghost use Rattle.bus.specs.Sounds.{timerSet, soundOf, soundWritten, timerWritten};
-use crate::Devices;
-use crate::Wrote;
+ghost use Rattle.bus.specs.World.{said};
+use crate::Told;
+use crate::words::done;
+use state::Cells;
+use state::Floats;
+use state::moments::put_timer;
+use state::rests::put_tone;
 use timer::Sounded;
 use timer::Timer;
 use timer::Tone;
@@ -38,87 +44,130 @@ fn sound_after(own: &[u32; 76], tone: Tone, clock: u32, full: bool, word: u32, k
     timer::sound::sound_update(tone, full, clock, control, reload, compare)
 }
 
-// A word of timer 4 is stored. `next` are the devices as they are then, but for the tone.
+// Timer 4's reload or compare word is stored.
 pub(crate) fn sound_write(
     own: &mut [u32; 76],
-    devices: Devices,
-    next: Devices,
+    cells: &Cells,
+    floats: &mut Floats,
     clock: u32,
     full: bool,
     word: u32,
     kept: u32,
-) -> Wrote
-    ensures { λ r. ⌜ said (now (own .exit)) r ≡ soundWritten (now (own .entry)) devices next clock full word kept ⌝ }
+) -> Told
+    ensures { λ r. ⌜ (said (now (own .exit)) (wroteOf r (partsIn (now (cells .entry)) (now (floats .exit)) .devices))
+        ≡ soundWritten (now (own .entry)) (partsIn (now (cells .entry)) (now (floats .entry)) .devices)
+        (partsIn (now (cells .entry)) (now (floats .entry)) .devices) clock full word kept)
+        × Only (partsIn (now (cells .entry)) (now (floats .entry))) (partsIn (now (cells .entry))
+        (now (floats .exit)))
+        × Kept (now (cells .entry)) (now (floats .entry)) (now (cells .entry)) (now (floats .exit)) ⌝ }
 {
-    let sounded = sound_after(own, devices.tone, clock, full, word, kept);
+    let tone = state::rests::tone_of(floats);
+    let sounded = sound_after(own, tone, clock, full, word, kept);
     match sounded {
         Sounded::SoundFull => {
-            return Wrote {
+            return Told {
                 refusal: 5,
                 event: false,
-                devices,
             };
         }
         Sounded::Same => {
             registers::own_insert(own, word, kept);
-            return Wrote {
+            return Told {
                 refusal: 0,
                 event: false,
-                devices: next,
             };
         }
-        Sounded::Change(tone) => {
+        Sounded::Change(next) => {
             registers::own_insert(own, word, kept);
-            let mut changed = next;
-            changed.tone = tone;
-            return Wrote {
+            put_tone(floats, next);
+            return Told {
                 refusal: 0,
                 event: true,
-                devices: changed,
             };
         }
     }
 }
 
-fn with_timer(devices: Devices, n: usize, t: Timer) -> Devices
-    requires { ⌜ n < 6 ⌝ }
-    ensures { λ r. ⌜ r ≡ timerSet devices n t ⌝ }
+// Timer 4's control word is stored, and the timer put, unless the event has no room.
+fn sound_timer(
+    own: &mut [u32; 76],
+    cells: &mut Cells,
+    floats: &mut Floats,
+    clock: u32,
+    full: bool,
+    word: u32,
+    kept: u32,
+    timer: Timer,
+) -> Told
+    ensures { λ r. ⌜ (said (now (own .exit)) (wroteOf r (partsIn (now (cells .exit)) (now (floats .exit)) .devices))
+        ≡ soundWritten (now (own .entry)) (partsIn (now (cells .entry)) (now (floats .entry)) .devices)
+        (timerSet (partsIn (now (cells .entry)) (now (floats .entry)) .devices) 4 timer) clock full word kept)
+        × Only (partsIn (now (cells .entry)) (now (floats .entry))) (partsIn (now (cells .exit)) (now (floats .exit)))
+        × Kept (now (cells .entry)) (now (floats .entry)) (now (cells .exit)) (now (floats .exit)) ⌝ }
 {
-    let mut clocks = devices.clocks;
-    let mut timers = clocks.timers;
-    timers[n] = t;
-    clocks.timers = timers;
-    let mut next = devices;
-    next.clocks = clocks;
-    next
+    let tone = state::rests::tone_of(floats);
+    let sounded = sound_after(own, tone, clock, full, word, kept);
+    match sounded {
+        Sounded::SoundFull => {
+            return Told {
+                refusal: 5,
+                event: false,
+            };
+        }
+        Sounded::Same => {
+            registers::own_insert(own, word, kept);
+            put_timer(cells, floats, 4, timer);
+            return Told {
+                refusal: 0,
+                event: false,
+            };
+        }
+        Sounded::Change(next) => {
+            registers::own_insert(own, word, kept);
+            put_timer(cells, floats, 4, timer);
+            put_tone(floats, next);
+            return Told {
+                refusal: 0,
+                event: true,
+            };
+        }
+    }
 }
 
 // The control word of timer n. It is stored without bit 15.
 pub(crate) fn timer_write_ctrl(
     own: &mut [u32; 76],
-    devices: Devices,
+    cells: &mut Cells,
+    floats: &mut Floats,
     clock: u32,
     full: bool,
     n: usize,
     word: u32,
     old: u32,
     new: u32,
-) -> Wrote
-    requires { ⌜ n < 6 ⌝ }
-    ensures { λ r. ⌜ said (now (own .exit)) r ≡ timerWritten (now (own .entry)) devices clock full n word old new ⌝ }
+) -> Told
+    ensures { λ r. ⌜ (said (now (own .exit)) (wroteOf r (partsIn (now (cells .exit)) (now (floats .exit)) .devices))
+        ≡ timerWritten (now (own .entry)) (partsIn (now (cells .entry))
+        (now (floats .entry)) .devices) clock full n word old new)
+        × Only (partsIn (now (cells .entry)) (now (floats .entry))) (partsIn (now (cells .exit)) (now (floats .exit)))
+        × Kept (now (cells .entry)) (now (floats .entry)) (now (cells .exit)) (now (floats .exit)) ⌝ }
 {
-    let clocks = devices.clocks;
-    let timers = clocks.timers;
-    let times = clocks.times;
-    let written = timer::write_ctrl(timers[n], times.now, new, old);
-    let next = with_timer(devices, n, written.timer);
+    let t = state::moments::timer_of(cells, floats, n);
+    let times = state::moments::times_of(floats);
+    let written = timer::write_ctrl(t, times.now, new, old);
     if n == 4 {
-        return sound_write(own, devices, next, clock, full, word, written.control);
+        return sound_timer(
+            own,
+            cells,
+            floats,
+            clock,
+            full,
+            word,
+            written.control,
+            written.timer,
+        );
     }
     registers::own_insert(own, word, written.control);
-    Wrote {
-        refusal: 0,
-        event: false,
-        devices: next,
-    }
+    put_timer(cells, floats, n, written.timer);
+    done()
 }

@@ -1,13 +1,17 @@
 // The words that reach no memory and no array but their own.
 ghost use mathlib.Core.Path.{_≡_};
-ghost use Prim.Native.Nat.{_<_};
+ghost use Rattle.state.specs.Bank.{partsIn};
+ghost use Rattle.state.specs.Packed.{Kept};
+ghost use Rattle.state.specs.Parts.{devicesPut};
+ghost use Rattle.bus.specs.Bank.{Only, wroteOf, toldOf};
+ghost use Rattle.bus.specs.Words.{controlAt, fieldAt, actsOf, spiSent, adcWritten, daySet, poweredBy, wordWritten};
 ghost use Rattle.bus.specs.World.{said, answer};
-ghost use Rattle.bus.specs.Words.{controlAt, fieldAt, actsOf, poweredBy, spiSent, adcWritten, adcSet, daySet, wordWritten};
-use crate::Devices;
-use crate::Wrote;
+use crate::Told;
 use crate::sounds::sound_write;
 use crate::sounds::timer_write_ctrl;
 use clock::Adc;
+use state::Cells;
+use state::Floats;
 
 // The timer whose control word it is, or 6.
 pub fn control_at(word: u32) -> usize
@@ -38,7 +42,7 @@ pub fn field_at(word: u32) -> u32
     }
 }
 
-// Whether a word does more than to be stored. The others go no deeper, so that the devices are not copied for them.
+// Whether a word does more than to be stored.
 pub fn acts(word: u32) -> bool
     ensures { λ r. ⌜ r ≡ actsOf word ⌝ }
 {
@@ -53,32 +57,22 @@ pub fn acts(word: u32) -> bool
         | (word == 0xC002_008C)
 }
 
-pub(crate) fn done(devices: Devices) -> Wrote
-    ensures { λ r. ⌜ r ≡ answer 0 devices ⌝ }
+pub(crate) fn done() -> Told
+    ensures { λ r. ⌜ r ≡ toldOf 0 ⌝ }
 {
-    Wrote {
+    Told {
         refusal: 0,
         event: false,
-        devices,
     }
 }
 
-pub fn refused(refusal: u8, devices: Devices) -> Wrote
-    ensures { λ r. ⌜ r ≡ answer refusal devices ⌝ }
+pub(crate) fn refused(refusal: u8) -> Told
+    ensures { λ r. ⌜ r ≡ toldOf refusal ⌝ }
 {
-    Wrote {
+    Told {
         refusal,
         event: false,
-        devices,
     }
-}
-
-fn power(devices: Devices, new: u32) -> Devices
-    ensures { λ r. ⌜ r ≡ poweredBy devices new ⌝ }
-{
-    let mut next = devices;
-    next.off = devices.off | (new & 1 == 0);
-    next
 }
 
 fn spi_sent(own: &mut [u32; 76], new: u32)
@@ -90,85 +84,96 @@ fn spi_sent(own: &mut [u32; 76], new: u32)
     registers::own_insert(own, 0xC008_000C, c | 1);
 }
 
-fn with_converting(devices: Devices, converting: bool) -> Devices
-    ensures { λ r. ⌜ r ≡ adcSet devices converting ⌝ }
+fn adc_write(own: &mut [u32; 76], cells: &mut Cells, floats: &Floats, old: u32, new: u32)
+    ensures { λ _. ⌜ (said (now (own .exit)) (answer 0 (partsIn (now (cells .exit)) (now (floats .entry)) .devices))
+        ≡ adcWritten (now (own .entry)) (partsIn (now (cells .entry)) (now (floats .entry)) .devices) old new)
+        × Only (partsIn (now (cells .entry)) (now (floats .entry))) (partsIn (now (cells .exit))
+        (now (floats .entry)))
+        × Kept (now (cells .entry)) (now (floats .entry)) (now (cells .exit)) (now (floats .entry)) ⌝ }
 {
-    let mut clocks = devices.clocks;
-    clocks.converting = converting;
-    let mut next = devices;
-    next.clocks = clocks;
-    next
-}
-
-fn adc_write(own: &mut [u32; 76], devices: Devices, old: u32, new: u32) -> Devices
-    ensures { λ r. ⌜ said (now (own .exit)) (answer 0 r) ≡ adcWritten (now (own .entry)) devices old new ⌝ }
-{
-    let clocks = devices.clocks;
     let before = Adc {
-        converting: clocks.converting,
+        converting: state::moments::converting_of(cells),
         control: old,
         result: registers::own_reg(own, 0xC00C_0008),
     };
     let after = clock::convert::adc_write_ctrl(before, new);
     registers::own_insert(own, 0xC00C_0004, after.control);
-    with_converting(devices, after.converting)
+    state::moments::put_converting(cells, after.converting);
 }
 
-fn tod_write(devices: Devices, field: u32, new: u32) -> Devices
-    ensures { λ r. ⌜ r ≡ daySet devices field new ⌝ }
+fn tod_write(cells: &mut Cells, floats: &mut Floats, field: u32, new: u32)
+    ensures { λ _. ⌜ (partsIn (now (cells .exit)) (now (floats .exit))
+        ≡ devicesPut (partsIn (now (cells .entry)) (now (floats .entry)))
+        (daySet (partsIn (now (cells .entry)) (now (floats .entry)) .devices) field new))
+        × Kept (now (cells .entry)) (now (floats .entry)) (now (cells .exit)) (now (floats .exit)) ⌝ }
 {
-    let mut clocks = devices.clocks;
-    let times = clocks.times;
-    let irq = clock::day::tod_write(clocks.irq, times.game, field, new);
-    clocks.irq = irq;
-    let mut next = devices;
-    next.clocks = clocks;
-    next
+    let times = state::moments::times_of(floats);
+    let irq = state::moments::irq_of(cells, floats);
+    let next = clock::day::tod_write(irq, times.game, field, new);
+    state::moments::put_irq(cells, floats, next);
+}
+
+fn power(cells: &mut Cells, floats: &Floats, new: u32)
+    ensures { λ _. ⌜ (partsIn (now (cells .exit)) (now (floats .entry))
+        ≡ devicesPut (partsIn (now (cells .entry)) (now (floats .entry)))
+        (poweredBy (partsIn (now (cells .entry)) (now (floats .entry)) .devices) new))
+        × Kept (now (cells .entry)) (now (floats .entry)) (now (cells .exit)) (now (floats .entry)) ⌝ }
+{
+    let off = state::rests::off_of(cells);
+    state::rests::put_off(cells, off | (new & 1 == 0));
 }
 
 // old is the word, new the merged word, part the bits that were written.
-pub fn word_write(
+pub(crate) fn word_write(
     own: &mut [u32; 76],
-    devices: Devices,
+    cells: &mut Cells,
+    floats: &mut Floats,
     clock: u32,
     full: bool,
     word: u32,
     old: u32,
     new: u32,
     part: u32,
-) -> Wrote
-    ensures { λ r. ⌜ said (now (own .exit)) r ≡ wordWritten (now (own .entry)) devices clock full word old new part ⌝ }
+) -> Told
+    ensures { λ r. ⌜ (said (now (own .exit)) (wroteOf r (partsIn (now (cells .exit)) (now (floats .exit)) .devices))
+        ≡ wordWritten (now (own .entry)) (partsIn (now (cells .entry))
+        (now (floats .entry)) .devices) clock full word old new part)
+        × Only (partsIn (now (cells .entry)) (now (floats .entry))) (partsIn (now (cells .exit)) (now (floats .exit)))
+        × Kept (now (cells .entry)) (now (floats .entry)) (now (cells .exit)) (now (floats .exit)) ⌝ }
 {
     let n = control_at(word);
     if n < 6 {
-        return timer_write_ctrl(own, devices, clock, full, n, word, old, new);
+        return timer_write_ctrl(own, cells, floats, clock, full, n, word, old, new);
     }
     let field = field_at(word);
     if field < 3 {
-        return done(tod_write(devices, field, new));
+        tod_write(cells, floats, field, new);
+        return done();
     }
     match word {
         0xD050_018C => {
             registers::own_insert(own, 0xD050_018C, old & (new ^ 0xFFFF_FFFF));
-            return done(devices);
+            return done();
         }
         0xC00C_0004 => {
-            return done(adc_write(own, devices, old, new));
+            adc_write(own, cells, floats, old, new);
+            return done();
         }
         0xC004_0054 => {
             registers::own_insert(own, 0xC004_0054, old & (part ^ 0xFFFF_FFFF));
-            return done(devices);
+            return done();
         }
         0xD000_0078 => {
             registers::own_insert(own, 0xD000_0078, new);
-            return done(power(devices, new));
+            power(cells, floats, new);
+            return done();
         }
         0xC008_0008 => {
             spi_sent(own, new);
-            return done(devices);
+            return done();
         }
         _ => {
-            return sound_write(own, devices, devices, clock, full, word, new);
+            return sound_write(own, cells, floats, clock, full, word, new);
         }
     }
 }

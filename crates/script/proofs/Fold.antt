@@ -15,7 +15,7 @@ use Rattle.system.specs.Steps.{Outcome, step, after, plainly}
 use Rattle.system.proofs.Unchanged.{refused-unchanged}
 use Rattle.script.specs.declared.Entry.{Entry}
 use Rattle.script.specs.Format.{pressesIn, entriesIn, badScript, entriesFrom, entriesOf}
-use Rattle.script.specs.Answers.{reply, inBits, replyOf, laid, laidAll}
+use Rattle.script.specs.Answers.{reply, inBits, replyOf, answerBytes, laid, laidAll}
 use Rattle.script.specs.Script.{turn, opOf, turnOf, Ran, ran, ranOf, Ended, ended, endOf, badMemory, outTooShort, startOf, runOf, scriptOf}
 use Rattle.script.specs.Fold.{Accepted, start, opsOf, repliesOf, answered, counted, answerAt, fitted}
 use Rattle.script.proofs.Turns.{no-bits}
@@ -33,8 +33,8 @@ pub runner-folds : (t : Ran) (at : ℕ) (es : List Entry) → ranOf t at es ≡ 
 unfolding ranOf after opsOf laidAll repliesOf
 runner-folds t at [] = refl
 runner-folds t at (e ∷ es) =
-    runner-folds (ran (turnOf (t .machine) e .machine) (laid (t .out) at (turnOf (t .machine) e .answer))) (at + 25) es
-    ∙ ap (λ (m : Machine). ran (after m (opsOf es)) (laidAll (laid (t .out) at (turnOf (t .machine) e .answer)) (at + 25) (repliesOf (turnOf (t .machine) e .machine) es))) (turn-step (t .machine) e)
+    runner-folds (ran (turnOf (t .machine) e .machine) (laid (t .out) at (turnOf (t .machine) e .answer))) (at + answerBytes) es
+    ∙ ap (λ (m : Machine). ran (after m (opsOf es)) (laidAll (laid (t .out) at (turnOf (t .machine) e .answer)) (at + answerBytes) (repliesOf (turnOf (t .machine) e .machine) es))) (turn-step (t .machine) e)
 
 answers-count : (m : Machine) (es : List Entry) → length (repliesOf m es) ≡ length es
 unfolding repliesOf
@@ -47,18 +47,18 @@ entries-count s p zero i = refl
 entries-count s p (suc n) i = ap suc (entries-count s p n (i + 1))
 
 -- the answer of one entry, behind those of others
-one-answer : (m : Machine) (before : List Entry) (e : Entry) (later : List Entry) (l : List ℕ) (at : ℕ) → at + 25 * length (before ++ (e ∷ later)) ≤ length l
-    → answerAt (laidAll l at (repliesOf m (before ++ (e ∷ later)))) (at + 25 * length before) ≡ fitted (turnOf (after m (opsOf before)) e .answer)
+one-answer : (m : Machine) (before : List Entry) (e : Entry) (later : List Entry) (l : List ℕ) (at : ℕ) → at + answerBytes * length (before ++ (e ∷ later)) ≤ length l
+    → answerAt (laidAll l at (repliesOf m (before ++ (e ∷ later)))) (at + answerBytes * length before) ≡ fitted (turnOf (after m (opsOf before)) e .answer)
 unfolding repliesOf laidAll after opsOf
 one-answer m [] e later l at h =
-    let z : at + 25 * 0 ≡ at = omega arith in
-    let room : at + 25 ≤ length l = omega arith in
+    let z : at + answerBytes * 0 ≡ at = omega arith in
+    let room : at + answerBytes ≤ length l = omega arith in
     rw z (all-first l at (turnOf m e .answer) (repliesOf (turnOf m e .machine) later) room)
 one-answer m (b ∷ before) e later l at h =
-    let z : at + 25 * suc (length before) ≡ at + 25 + 25 * length before = omega arith in
-    let room : at + 25 + 25 * length (before ++ (e ∷ later)) ≤ length (laid l at (turnOf m b .answer)) =
+    let z : at + answerBytes * suc (length before) ≡ at + answerBytes + answerBytes * length before = omega arith in
+    let room : at + answerBytes + answerBytes * length (before ++ (e ∷ later)) ≤ length (laid l at (turnOf m b .answer)) =
     rw (laid-length l at (turnOf m b .answer)) (omega arith) in
-    rw z (one-answer (turnOf m b .machine) before e later (laid l at (turnOf m b .answer)) (at + 25) room ∙ ap (λ (n : Machine). fitted (turnOf (after n (opsOf before)) e .answer)) (turn-step m b))
+    rw z (one-answer (turnOf m b .machine) before e later (laid l at (turnOf m b .answer)) (at + answerBytes) room ∙ ap (λ (n : Machine). fitted (turnOf (after n (opsOf before)) e .answer)) (turn-step m b))
 
 -- ---- the whole
 
@@ -98,9 +98,9 @@ module _ (m r g f s l : List ℕ) (ok : Accepted m r g f s l) where
   out-is : scriptOf m r g f s l .out ≡ laidAll (counted s l) 4 (answered m r g f s)
   out-is = ap (λ (x : Ended). x .out) script-folds
 
-  room : 4 + 25 * entriesIn s ≤ length l
+  room : 4 + answerBytes * entriesIn s ≤ length l
   unfolding outTooShort
-  room = ltb-false (length l) (4 + 25 * entriesIn s) (ok .room)
+  room = ltb-false (length l) (4 + answerBytes * entriesIn s) (ok .room)
 
   -- the output begins with the count p + s
   pub count-first : loaded (scriptOf m r g f s l .out) 0 4 ≡ entriesIn s
@@ -110,25 +110,25 @@ module _ (m r g f s l : List ℕ) (ok : Accepted m r g f s l) where
       four = omega arith
 
       enough : 4 ≤ length l
-      enough = let h : 4 + 25 * entriesIn s ≤ length l = room in omega arith
+      enough = let h : 4 + answerBytes * entriesIn s ≤ length l = room in omega arith
 
       small : entriesIn s % 2 ^ 32 ≡ entriesIn s
       small = few-entries s (ok .script)
 
   -- EACH ANSWER IS THE BUS'S: that of the entry's operation in the machine after those before it
   pub each-answer : (before later : List Entry) (e : Entry) → entriesOf s ≡ before ++ (e ∷ later)
-      → answerAt (scriptOf m r g f s l .out) (4 + 25 * length before) ≡ fitted (replyOf (inBits (e .kind)) (step (after (start m r g f) (opsOf before)) (opOf e)))
+      → answerAt (scriptOf m r g f s l .out) (4 + answerBytes * length before) ≡ fitted (replyOf (inBits (e .kind)) (step (after (start m r g f) (opsOf before)) (opOf e)))
   unfolding turnOf
   each-answer before later e split =
-      let full : 4 + 25 * length (before ++ (e ∷ later)) ≤ length (counted s l) =
+      let full : 4 + answerBytes * length (before ++ (e ∷ later)) ≤ length (counted s l) =
       rw (← split, entries-count s (pressesIn s) (entriesIn s) 0, store-length l 0 4 (entriesIn s)) room in
       rw (out-is, split) (one-answer (start m r g f) before e later (counted s l) 4 full)
 
   -- later bytes stay, and so does the length
-  pub later-stay : (p : ℕ) → 4 + 25 * entriesIn s ≤ p → getD (scriptOf m r g f s l .out) p 0 ≡ getD l p 0
+  pub later-stay : (p : ℕ) → 4 + answerBytes * entriesIn s ≤ p → getD (scriptOf m r g f s l .out) p 0 ≡ getD l p 0
   later-stay p h =
       let n : length (answered m r g f s) ≡ entriesIn s = answers-count (start m r g f) (entriesOf s) ∙ entries-count s (pressesIn s) (entriesIn s) 0 in
-      let h₁ : 4 + 25 * length (answered m r g f s) ≤ p = rw n h in
+      let h₁ : 4 + answerBytes * length (answered m r g f s) ≤ p = rw n h in
       let h₂ : 0 + 4 ≤ p = omega arith in
       rw out-is (all-behind (counted s l) 4 (answered m r g f s) p h₁ ∙ byte-other l 0 4 (entriesIn s) p (inr h₂))
 

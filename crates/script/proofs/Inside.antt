@@ -11,8 +11,8 @@ use borrow.Rule.Slice.PartMut.{putMid, put-same}
 use Rattle.memory.specs.Bytes.{le, loaded, bytesOf, storedAt}
 use Rattle.memory.proofs.Stored.{store-length}
 use Rattle.script.specs.declared.Answer.{Answer}
-use Rattle.script.specs.Format.{wide, entry, pressAt, stepFrom}
-use Rattle.script.specs.Answers.{storedWide, laid}
+use Rattle.script.specs.Format.{pressBytes, stepBytes, wide, entry, pressAt, stepFrom}
+use Rattle.script.specs.Answers.{answerBytes, storedWide, laid}
 use Rattle.script.proofs.Laid.{wide-length}
 
 -- j bytes from o on, as the code lends them
@@ -48,20 +48,22 @@ module _ (s : List ℕ) where
   pub kind-part : (o : ℕ) → o + 1 ≤ length s → loaded (part s o 1) 0 1 ≡ loaded s o 1
   kind-part o h = load-part s o 1 h 0 1 o (omega arith) (omega arith)
 
-  pub press-part : (i : ℕ) → 4 + 9 * i + 9 ≤ length s → entry 0 0 (loaded (part s (4 + 9 * i) 9) 0 1) (wide (part s (4 + 9 * i) 9) 1) ≡ pressAt s i
+  pub press-part : (i : ℕ) → 4 + pressBytes * i + pressBytes ≤ length s
+      → entry 0 0 (loaded (part s (4 + pressBytes * i) pressBytes) 0 1) (wide (part s (4 + pressBytes * i) pressBytes) 1) ≡ pressAt s i
   unfolding pressAt
   press-part i h =
-      let a : loaded (part s (4 + 9 * i) 9) 0 1 ≡ loaded s (4 + 9 * i) 1 = load-part s (4 + 9 * i) 9 h 0 1 (4 + 9 * i) (omega arith) (omega arith) in
-      let b : wide (part s (4 + 9 * i) 9) 1 ≡ wide s (5 + 9 * i) = wide-part s (4 + 9 * i) 9 h 1 (5 + 9 * i) (omega arith) (omega arith) in
+      let o : ℕ = 4 + pressBytes * i in
+      let a : loaded (part s o pressBytes) 0 1 ≡ loaded s o 1 = load-part s o pressBytes h 0 1 o (omega arith) (omega arith) in
+      let b : wide (part s o pressBytes) 1 ≡ wide s (5 + pressBytes * i) = wide-part s o pressBytes h 1 (5 + pressBytes * i) (omega arith) (omega arith) in
       rw (a, b)
 
-  pub step-part : (o : ℕ) → o + 16 ≤ length s → stepFrom (part s o 16) 0 ≡ stepFrom s o
+  pub step-part : (o : ℕ) → o + stepBytes ≤ length s → stepFrom (part s o stepBytes) 0 ≡ stepFrom s o
   unfolding stepFrom
   step-part o h =
-      let a : loaded (part s o 16) 0 1 ≡ loaded s o 1 = load-part s o 16 h 0 1 o (omega arith) (omega arith) in
-      let b : loaded (part s o 16) 1 1 ≡ loaded s (o + 1) 1 = load-part s o 16 h 1 1 (o + 1) (omega arith) (omega arith) in
-      let c : loaded (part s o 16) 4 4 ≡ loaded s (o + 4) 4 = load-part s o 16 h 4 4 (o + 4) (omega arith) (omega arith) in
-      let d : wide (part s o 16) 8 ≡ wide s (o + 8) = wide-part s o 16 h 8 (o + 8) (omega arith) (omega arith) in
+      let a : loaded (part s o stepBytes) 0 1 ≡ loaded s o 1 = load-part s o stepBytes h 0 1 o (omega arith) (omega arith) in
+      let b : loaded (part s o stepBytes) 1 1 ≡ loaded s (o + 1) 1 = load-part s o stepBytes h 1 1 (o + 1) (omega arith) (omega arith) in
+      let c : loaded (part s o stepBytes) 4 4 ≡ loaded s (o + 4) 4 = load-part s o stepBytes h 4 4 (o + 4) (omega arith) (omega arith) in
+      let d : wide (part s o stepBytes) 8 ≡ wide s (o + 8) = wide-part s o stepBytes h 8 (o + 8) (omega arith) (omega arith) in
       rw (a, b, c, d)
 
 -- ---- stores, between what lies before and what lies behind
@@ -96,7 +98,7 @@ wide-inside a p b k v q e h =
     let l : k + 4 + 4 ≤ length (storedAt p k 4 (v % 2 ^ 32)) = rw store-length (omega arith) in
     rw (store-inside a p b k 4 (v % 2 ^ 32) q e (omega arith)) (store-inside a (storedAt p k 4 (v % 2 ^ 32)) b (k + 4) 4 (v / 2 ^ 32) (q + 4) (omega arith) l)
 
-laid-inside : (a p b : List ℕ) (x : Answer) (q : ℕ) → q ≡ length a → 25 ≤ length p → laid (a ++ (p ++ b)) q x ≡ a ++ (laid p 0 x ++ b)
+laid-inside : (a p b : List ℕ) (x : Answer) (q : ℕ) → q ≡ length a → answerBytes ≤ length p → laid (a ++ (p ++ b)) q x ≡ a ++ (laid p 0 x ++ b)
 unfolding laid
 laid-inside a p b x q e h =
     let p₀ : List ℕ = storedAt p 0 1 (x .refusal) in
@@ -110,9 +112,9 @@ laid-inside a p b x q e h =
     let s₂ : storedWide (a ++ (p₁ ++ b)) (q + 9) (x .b) ≡ a ++ (p₂ ++ b) = wide-inside a p₁ b 9 (x .b) (q + 9) (omega arith) (omega arith) in
     rw (s₀, s₁, s₂) (wide-inside a p₂ b 17 (x .c) (q + 17) (omega arith) (omega arith))
 
--- an answer that was laid in 25 bytes of the output, and these have come back
-pub laid-part : (l ys : List ℕ) (at : ℕ) (x : Answer) → at + 25 ≤ length l → ys ≡ laid (part l at 25) 0 x → putMid at (at + 25 - at) l ys ≡ laid l at x
+-- an answer that was laid into its own bytes of the output, and these have come back
+pub laid-part : (l ys : List ℕ) (at : ℕ) (x : Answer) → at + answerBytes ≤ length l → ys ≡ laid (part l at answerBytes) 0 x → putMid at (at + answerBytes - at) l ys ≡ laid l at x
 laid-part l ys at x h e =
     let b : length (take at l) ≡ at = length-take-le at l (omega arith) in
-    let p : 25 ≤ length (part l at 25) = rw (part-long l at 25 h) (omega arith) in
-    rw e (sym (laid-inside (take at l) (part l at 25) (drop (at + 25 - at) (drop at l)) x at (sym b) p) ∙ ap (λ (k : List ℕ). laid k at x) (put-same at (at + 25 - at) l))
+    let p : answerBytes ≤ length (part l at answerBytes) = rw (part-long l at answerBytes h) (omega arith) in
+    rw e (sym (laid-inside (take at l) (part l at answerBytes) (drop (at + answerBytes - at) (drop at l)) x at (sym b) p) ∙ ap (λ (k : List ℕ). laid k at x) (put-same at (at + answerBytes - at) l))

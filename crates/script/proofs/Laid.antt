@@ -9,7 +9,7 @@ use Rattle.memory.specs.Bytes.{loaded, storedAt}
 use Rattle.memory.proofs.Stored.{store-length, byte-other, load-other, load-store}
 use Rattle.script.specs.declared.Answer.{Answer}
 use Rattle.script.specs.Format.{wide}
-use Rattle.script.specs.Answers.{storedWide, laid, laidAll}
+use Rattle.script.specs.Answers.{answerBytes, storedWide, laid, laidAll}
 use Rattle.script.specs.Fold.{answerAt, fitted}
 
 -- ---- eight bytes
@@ -77,7 +77,7 @@ module _ (l : List ℕ) (at : ℕ) (x : Answer) where
       let c : p + k ≤ at + 1 = omega arith in
       load-before l₂ (at + 17) (x .c) p k a ∙ load-before l₁ (at + 9) (x .b) p k b ∙ load-before l₀ (at + 1) (x .a) p k c ∙ load-other l at 1 (x .refusal) p k (inl h)
 
-  pub laid-behind : (p : ℕ) → at + 25 ≤ p → getD (laid l at x) p 0 ≡ getD l p 0
+  pub laid-behind : (p : ℕ) → at + answerBytes ≤ p → getD (laid l at x) p 0 ≡ getD l p 0
   unfolding laid
   laid-behind p h =
       let a : at + 17 + 8 ≤ p = omega arith in
@@ -86,7 +86,7 @@ module _ (l : List ℕ) (at : ℕ) (x : Answer) where
       let d : at + 1 ≤ p = omega arith in
       wide-byte l₂ (at + 17) (x .c) p a ∙ wide-byte l₁ (at + 9) (x .b) p b ∙ wide-byte l₀ (at + 1) (x .a) p c ∙ byte-other l at 1 (x .refusal) p (inr d)
 
-  pub laid-back : at + 25 ≤ length l → answerAt (laid l at x) at ≡ fitted x
+  pub laid-back : at + answerBytes ≤ length l → answerAt (laid l at x) at ≡ fitted x
   unfolding laid answerAt
   laid-back h = rw (first, second, third, fourth)
     where
@@ -151,36 +151,36 @@ module _ (l : List ℕ) (at : ℕ) (x : Answer) where
 pub all-length : (l : List ℕ) (at : ℕ) (xs : List Answer) → length (laidAll l at xs) ≡ length l
 unfolding laidAll
 all-length l at [] = refl
-all-length l at (x ∷ xs) = all-length (laid l at x) (at + 25) xs ∙ laid-length l at x
+all-length l at (x ∷ xs) = all-length (laid l at x) (at + answerBytes) xs ∙ laid-length l at x
 
 pub all-before : (l : List ℕ) (at : ℕ) (xs : List Answer) (p k : ℕ) → p + k ≤ at → loaded (laidAll l at xs) p k ≡ loaded l p k
 unfolding laidAll
 all-before l at [] p k h = refl
 all-before l at (x ∷ xs) p k h =
-    let h′ : p + k ≤ at + 25 = omega arith in all-before (laid l at x) (at + 25) xs p k h′ ∙ laid-before l at x p k h
+    let h′ : p + k ≤ at + answerBytes = omega arith in all-before (laid l at x) (at + answerBytes) xs p k h′ ∙ laid-before l at x p k h
 
 -- the bytes behind the last
-pub all-behind : (l : List ℕ) (at : ℕ) (xs : List Answer) (p : ℕ) → at + 25 * length xs ≤ p → getD (laidAll l at xs) p 0 ≡ getD l p 0
+pub all-behind : (l : List ℕ) (at : ℕ) (xs : List Answer) (p : ℕ) → at + answerBytes * length xs ≤ p → getD (laidAll l at xs) p 0 ≡ getD l p 0
 unfolding laidAll
 all-behind l at [] p h = refl
 all-behind l at (x ∷ xs) p h =
-    let h₁ : at + 25 + 25 * length xs ≤ p = omega arith in
-    let h₂ : at + 25 ≤ p = omega arith in
-    all-behind (laid l at x) (at + 25) xs p h₁ ∙ laid-behind l at x p h₂
+    let h₁ : at + answerBytes + answerBytes * length xs ≤ p = omega arith in
+    let h₂ : at + answerBytes ≤ p = omega arith in
+    all-behind (laid l at x) (at + answerBytes) xs p h₁ ∙ laid-behind l at x p h₂
 
--- an answer is read off its 25 bytes
-answers-same : (k l : List ℕ) (at : ℕ) → ((p n : ℕ) → p + n ≤ at + 25 → loaded k p n ≡ loaded l p n) → answerAt k at ≡ answerAt l at
+-- an answer is read off its bytes
+answers-same : (k l : List ℕ) (at : ℕ) → ((p n : ℕ) → p + n ≤ at + answerBytes → loaded k p n ≡ loaded l p n) → answerAt k at ≡ answerAt l at
 unfolding answerAt wide
 answers-same k l at same =
-    let a : at + 1 ≤ at + 25 = omega arith in
-    let b : at + 1 + 4 ≤ at + 25 = omega arith in
-    let c : at + 1 + 4 + 4 ≤ at + 25 = omega arith in
-    let d : at + 9 + 4 ≤ at + 25 = omega arith in
-    let e : at + 9 + 4 + 4 ≤ at + 25 = omega arith in
-    let f : at + 17 + 4 ≤ at + 25 = omega arith in
-    let g : at + 17 + 4 + 4 ≤ at + 25 = omega arith in
+    let a : at + 1 ≤ at + answerBytes = omega arith in
+    let b : at + 1 + 4 ≤ at + answerBytes = omega arith in
+    let c : at + 1 + 4 + 4 ≤ at + answerBytes = omega arith in
+    let d : at + 9 + 4 ≤ at + answerBytes = omega arith in
+    let e : at + 9 + 4 + 4 ≤ at + answerBytes = omega arith in
+    let f : at + 17 + 4 ≤ at + answerBytes = omega arith in
+    let g : at + 17 + 4 + 4 ≤ at + answerBytes = omega arith in
     rw (same at 1 a, same (at + 1) 4 b, same (at + 1 + 4) 4 c, same (at + 9) 4 d, same (at + 9 + 4) 4 e, same (at + 17) 4 f, same (at + 17 + 4) 4 g)
 
 -- the first stands as it was laid
-pub all-first : (l : List ℕ) (at : ℕ) (x : Answer) (xs : List Answer) → at + 25 ≤ length l → answerAt (laidAll (laid l at x) (at + 25) xs) at ≡ fitted x
-all-first l at x xs h = answers-same (laidAll (laid l at x) (at + 25) xs) (laid l at x) at (all-before (laid l at x) (at + 25) xs) ∙ laid-back l at x h
+pub all-first : (l : List ℕ) (at : ℕ) (x : Answer) (xs : List Answer) → at + answerBytes ≤ length l → answerAt (laidAll (laid l at x) (at + answerBytes) xs) at ≡ fitted x
+all-first l at x xs h = answers-same (laidAll (laid l at x) (at + answerBytes) xs) (laid l at x) at (all-before (laid l at x) (at + answerBytes) xs) ∙ laid-back l at x h

@@ -1,8 +1,5 @@
 -- What each entry does, laws of the loops and of the output, and the theorems.
 pub mod Turns
-pub mod Starts
-pub mod Direct
-pub mod Light
 pub mod Runs
 pub mod Laid
 pub mod Inside

@@ -13,7 +13,7 @@ use Rattle.system.specs.Lengths.{SameLengths}
 use Rattle.system.proofs.Wiped.{wipe-after}
 use Rattle.script.specs.declared.Entry.{Entry}
 use Rattle.script.specs.Format.{entriesOf}
-use Rattle.script.specs.Answers.{inBits, replyOf}
+use Rattle.script.specs.Answers.{inBits, replyOf, answerBytes}
 use Rattle.script.specs.Script.{opOf, Ended, badMemory, scriptOf}
 use Rattle.script.specs.Fold.{Accepted, start, opsOf, answerAt, fitted}
 use Rattle.script.proofs.Fold.{script-folds, each-answer}
@@ -94,7 +94,7 @@ module _ (m r g f s l m′ r′ g′ f′ s′ l′ : List ℕ) (ok : Accepted m
 
   -- and every answer behind the wipe
   pub wipe-answers : (es fs : List Entry) (x : Entry) → later ≡ es ++ (x ∷ fs)
-      → answerAt (scriptOf m r g f s l .out) (4 + 25 * length (before ++ (e ∷ es))) ≡ answerAt (scriptOf m′ r′ g′ f′ s′ l′ .out) (4 + 25 * length (others ++ (e′ ∷ es)))
+      → answerAt (scriptOf m r g f s l .out) (4 + answerBytes * length (before ++ (e ∷ es))) ≡ answerAt (scriptOf m′ r′ g′ f′ s′ l′ .out) (4 + answerBytes * length (others ++ (e′ ∷ es)))
   wipe-answers es fs x goes =
       each-answer m r g f s l ok (before ++ (e ∷ es)) fs x (split ∙ on before e)
       ∙ ap (λ (n : Machine). fitted (replyOf (inBits (x .kind)) (step n (opOf x)))) (machine-same es)

@@ -43,6 +43,6 @@ counted s l = storedAt l 0 4 (entriesIn s)
 unfoldable pub answerAt : List ℕ → ℕ → Answer
 answerAt l at = reply (loaded l at 1) (wide l (at + 1)) (wide l (at + 9)) (wide l (at + 17))
 
--- what fits into its 25 bytes
+-- what fits into its bytes
 abbrev pub fitted : Answer → Answer
 fitted x = reply (x .refusal % 256) (x .a % 2 ^ 64) (x .b % 2 ^ 64) (x .c % 2 ^ 64)

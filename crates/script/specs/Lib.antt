@@ -2,7 +2,4 @@
 pub mod Format
 pub mod Answers
 pub mod Script
-pub mod Parts
-pub mod Plain
-pub mod Serial
 pub mod Fold

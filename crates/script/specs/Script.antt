@@ -6,13 +6,13 @@ use lib.ListN.{length}
 use lib.Dec.{eqb, ltb}
 use lib.Ieee.{binary64, ofBits}
 use Rattle.memory.specs.Bytes.{storedAt}
-use Rattle.system.specs.System.{Machine, machine, Left, freshSystem}
+use Rattle.system.specs.System.{Machine, machine, freshSystem}
 use Rattle.system.specs.Steps as steps
 use Rattle.system.specs.Steps.{Op, step}
 use Rattle.script.specs.declared.Entry.{Entry}
 use Rattle.script.specs.declared.Answer.{Answer}
 use Rattle.script.specs.Format.{entriesIn, entriesOf, badScript}
-use Rattle.script.specs.Answers.{reply, inBits, replyOf, laid}
+use Rattle.script.specs.Answers.{inBits, replyOf, answerBytes, laid}
 
 -- ---- the operation of an entry, by its kind: 01, Scripts, Kinds. 0 is a press, and 11, the only other one, a pixel
 
@@ -43,10 +43,6 @@ pub record Turn : Type 0 where
 abbrev pub turn : Machine → Answer → Turn
 turn m x = record { machine = m; answer = x }
 
--- what a write leaves
-abbrev pub leftTurn : Left → Turn
-leftTurn x = turn (x .machine) (reply (x .refusal) 0 0 0)
-
 unfoldable pub turnOf : Machine → Entry → Turn
 turnOf m e = turn (step m (opOf e) .machine) (replyOf (inBits (e .kind)) (step m (opOf e)))
 
@@ -61,7 +57,11 @@ ran m l = record { machine = m; out = l }
 
 unfoldable pub ranOf : Ran → ℕ → List Entry → Ran
 ranOf t at [] = t
-ranOf t at (e ∷ es) = ranOf (ran (turnOf (t .machine) e .machine) (laid (t .out) at (turnOf (t .machine) e .answer))) (at + 25) es
+ranOf t at (e ∷ es) =
+    ranOf
+    (ran (turnOf (t .machine) e .machine) (laid (t .out) at (turnOf (t .machine) e .answer)))
+    (at + answerBytes)
+    es
 
 -- ---- the whole
 
@@ -83,11 +83,12 @@ endOf t = ended 0 (t .machine .ram) (t .machine .sram) (t .machine .gpio) (t .ma
 -- 7 BadMemory
 unfoldable pub badMemory : List ℕ → List ℕ → List ℕ → List ℕ → Bool
 badMemory m r g f =
-    not (eqb (length m) 16777216) || (not (eqb (length r) 1048576) || (not (eqb (length g) 4096) || not (eqb (length f) 32768)))
+    not (eqb (length m) 16777216)
+    || (not (eqb (length r) 1048576) || (not (eqb (length g) 4096) || not (eqb (length f) 32768)))
 
--- 11 OutTooShort: below 4 + 25(p + s) bytes
+-- 11 OutTooShort: no room for the count and p + s answers
 unfoldable pub outTooShort : List ℕ → List ℕ → Bool
-outTooShort s l = ltb (length l) (4 + 25 * entriesIn s)
+outTooShort s l = ltb (length l) (4 + answerBytes * entriesIn s)
 
 -- the count p + s, and the answers behind it
 abbrev pub startOf : List ℕ → List ℕ → List ℕ → List ℕ → List ℕ → List ℕ → Ran

@@ -3,8 +3,17 @@ ghost use mathlib.Core.Path.{_≡_};
 ghost use Prim.Native.Nat.{_+_, _-_, _*_, _≤_, _<_};
 ghost use lib.ListN.{length};
 ghost use Rattle.memory.specs.Bytes.{loaded};
-ghost use Rattle.script.specs.Format.{wide, pressesIn, stepsIn, kindIn, kindsFrom, badScript, entry, pressAt, stepFrom, stepAt, entryAt};
+ghost use Rattle.script.specs.Format.{pressBytes, stepBytes, mostOf, wide, pressesIn, stepsIn, kindIn, kindsFrom, behindPresses, badScript, entry, pressAt, stepFrom, stepAt, entryAt};
 use crate::Entry;
+
+// The bytes of a press and of a step, the greatest count of each, and the last kind of a step.
+const PRESS_BYTES: usize = 9;
+
+const STEP_BYTES: usize = 16;
+
+const MOST_OF: usize = 4096;
+
+const LAST_KIND: u32 = 12;
 
 // Eight bytes.
 fn load_wide(script: &[u8], at: usize) -> u64
@@ -23,19 +32,20 @@ pub(crate) fn presses(script: &[u8]) -> usize
 }
 
 pub(crate) fn steps(script: &[u8], p: usize) -> usize
-    requires { ⌜ p ≤ 4096 ⌝ }
+    requires { ⌜ p ≤ mostOf ⌝ }
     ensures { λ r. ⌜ r ≡ stepsIn (now (script .entry)) p ⌝ }
 {
-    memory::load(script, 4 + 9 * p, 4) as usize
+    memory::load(script, 4 + PRESS_BYTES * p, 4) as usize
 }
 
 fn known(kind: u32) -> bool
     ensures { λ r. ⌜ r ≡ kindIn kind ⌝ }
 {
-    (kind > 0) & (kind <= 12)
+    (kind > 0) & (kind <= LAST_KIND)
 }
 
-// The kind of the step at a place. Here and below a part of known length is taken of the script, so that no load tests for the end.
+// The kind of the step at a place. Here and below a part of known length is taken of the script, so that no load
+// tests for the end.
 fn kind_at(script: &[u8], at: usize) -> u32
     requires { ⌜ at + 1 ≤ length (now script) ⌝ }
     ensures { λ r. ⌜ r ≡ loaded (now (script .entry)) at 1 ⌝ }
@@ -44,9 +54,9 @@ fn kind_at(script: &[u8], at: usize) -> u32
     memory::load(&script[at..end], 0, 1)
 }
 
-// Whether the n steps from a place on have kinds from 1 to 12.
+// Whether the n steps from a place on have kinds from 1 to the last.
 fn kinds(script: &[u8], from: usize, n: usize) -> bool
-    requires { ⌜ from + 16 * n ≤ length (now script) ⌝ }
+    requires { ⌜ from + stepBytes * n ≤ length (now script) ⌝ }
     ensures { λ r. ⌜ r ≡ kindsFrom (now (script .entry)) from n ⌝ }
 {
     let mut at = from;
@@ -56,7 +66,7 @@ fn kinds(script: &[u8], from: usize, n: usize) -> bool
         if !known(kind) {
             return false;
         }
-        at += 16;
+        at += STEP_BYTES;
         left -= 1;
     }
     true
@@ -66,20 +76,21 @@ pub(crate) fn bad_script(script: &[u8]) -> bool
     ensures { λ r. ⌜ r ≡ badScript (now (script .entry)) ⌝ }
 {
     let p = presses(script);
-    if p > 4096 {
+    if p > MOST_OF {
         return true;
     }
     let n = steps(script, p);
-    if n > 4096 {
+    if n > MOST_OF {
         return true;
     }
-    if script.len() == 8 + 9 * p + 16 * n {
-        return !kinds(script, 8 + 9 * p, n);
+    let from = 8 + PRESS_BYTES * p;
+    if script.len() == from + STEP_BYTES * n {
+        return !kinds(script, from, n);
     }
     true
 }
 
-// A press, its nine bytes given.
+// A press, its bytes given.
 fn press_in(bytes: &[u8]) -> Entry
     ensures { λ r. ⌜ r ≡ entry 0 0 (loaded (now (bytes .entry)) 0 1) (wide (now (bytes .entry)) 1) ⌝ }
 {
@@ -91,7 +102,7 @@ fn press_in(bytes: &[u8]) -> Entry
     }
 }
 
-// A step, its sixteen bytes given.
+// A step, its bytes given.
 fn step_in(bytes: &[u8]) -> Entry
     ensures { λ r. ⌜ r ≡ stepFrom (now (bytes .entry)) 0 ⌝ }
 {
@@ -104,26 +115,26 @@ fn step_in(bytes: &[u8]) -> Entry
 }
 
 fn press_at(script: &[u8], i: usize) -> Entry
-    requires { ⌜ 4 + 9 * i + 9 ≤ length (now script) ⌝ }
+    requires { ⌜ 4 + pressBytes * i + pressBytes ≤ length (now script) ⌝ }
     ensures { λ r. ⌜ r ≡ pressAt (now (script .entry)) i ⌝ }
 {
-    let at = 4 + 9 * i;
-    let end = at + 9;
+    let at = 4 + PRESS_BYTES * i;
+    let end = at + PRESS_BYTES;
     press_in(&script[at..end])
 }
 
 fn step_at(script: &[u8], p: usize, i: usize) -> Entry
-    requires { ⌜ 8 + 9 * p + 16 * i + 16 ≤ length (now script) ⌝ }
+    requires { ⌜ behindPresses p + stepBytes * i + stepBytes ≤ length (now script) ⌝ }
     ensures { λ r. ⌜ r ≡ stepAt (now (script .entry)) p i ⌝ }
 {
-    let at = 8 + 9 * p + 16 * i;
-    let end = at + 16;
+    let at = 8 + PRESS_BYTES * p + STEP_BYTES * i;
+    let end = at + STEP_BYTES;
     step_in(&script[at..end])
 }
 
 // Entry i, presses first; it lies in the script.
 pub(crate) fn entry_at(script: &[u8], p: usize, i: usize) -> Entry
-    requires { ⌜ 8 + 9 * p + 16 * (i + 1 - p) ≤ length (now script) ⌝ }
+    requires { ⌜ behindPresses p + stepBytes * (i + 1 - p) ≤ length (now script) ⌝ }
     ensures { λ r. ⌜ r ≡ entryAt (now (script .entry)) p i ⌝ }
 {
     if i < p {

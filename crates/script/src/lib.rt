@@ -1,20 +1,12 @@
 // Scripts: presses and steps over lent memories, from the fresh state. 01, Scripts.
 //
-// A host calls tg18_run_script. A Rattle caller whose memories have other lengths calls run::run, which is the same but for refusal 7.
+// A host calls tg18_run_script. A Rattle caller whose memories have other lengths calls run::run, which is the same but
+// for refusal 7.
+mod act;
 mod format;
-mod plain;
 mod replies;
 pub mod run;
-mod serial;
-mod start;
-mod steps;
-mod turn;
 
-use bus::Devices;
-use flash::Chip;
-use keys::Keys;
-use panel::Panel;
-use timer::Ring;
 ghost use mathlib.Core.Path.{_≡_};
 ghost use Rattle.script.specs.Script.{ended, scriptOf};
 
@@ -32,38 +24,6 @@ pub struct Answer {
     pub a: u64,
     pub b: u64,
     pub c: u64,
-}
-
-// What the state holds beside arrays.
-pub struct Parts {
-    pub devices: Devices,
-    pub ring: Ring,
-    pub keys: Keys,
-}
-
-pub struct Turned {
-    pub answer: Answer,
-    pub parts: Parts,
-}
-
-// Where a loop over entries stopped.
-pub struct Paused {
-    pub place: usize,
-    pub parts: Parts,
-}
-
-// What the flash's and the panel's loop leaves, and where it stopped.
-pub struct Stopped {
-    pub place: usize,
-    pub chip: Chip,
-    pub panel: Panel,
-}
-
-// What one of its entries answers and leaves.
-pub struct Served {
-    pub answer: Answer,
-    pub chip: Chip,
-    pub panel: Panel,
 }
 
 // Runs a script over the lent memories as they come, and says by 01's number whether it was refused as a whole.

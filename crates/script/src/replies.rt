@@ -1,9 +1,12 @@
-// Answers, and their 25 bytes in the output.
+// Answers, and their bytes in the output.
 ghost use mathlib.Core.Path.{_≡_};
 ghost use Prim.Native.Nat.{_+_, _≤_, _<_};
 ghost use lib.ListN.{length};
-ghost use Rattle.script.specs.Answers.{reply, storedWide, laid};
+ghost use Rattle.script.specs.Answers.{reply, answerBytes, storedWide, laid};
 use crate::Answer;
+
+// The bytes of an answer: a refusal and three numbers.
+pub(crate) const ANSWER_BYTES: usize = 25;
 
 pub(crate) fn numbers(refusal: u8, a: u64, b: u64, c: u64) -> Answer
     ensures { λ r. ⌜ r ≡ reply refusal a b c ⌝ }
@@ -26,7 +29,7 @@ fn store_wide(out: &mut [u8], at: usize, value: u64)
     memory::store(out, at + 4, 4, (value / 0x1_0000_0000) as u32);
 }
 
-// An answer, into the 25 bytes given.
+// An answer, into the bytes given.
 fn lay_in(bytes: &mut [u8], answer: Answer)
     ensures { λ r. ⌜ now (bytes .exit) ≡ laid (now (bytes .entry)) 0 answer ⌝ }
 {
@@ -36,11 +39,11 @@ fn lay_in(bytes: &mut [u8], answer: Answer)
     store_wide(bytes, 17, answer.c);
 }
 
-// The 25 bytes of an answer, from a place on: a part of known length, so that no store tests for the end.
+// An answer, from a place on: a part of known length, so that no store tests for the end.
 pub(crate) fn lay(out: &mut [u8], at: usize, answer: Answer)
-    requires { ⌜ at + 25 ≤ length (now out) ⌝ }
+    requires { ⌜ at + answerBytes ≤ length (now out) ⌝ }
     ensures { λ r. ⌜ now (out .exit) ≡ laid (now (out .entry)) at answer ⌝ }
 {
-    let end = at + 25;
+    let end = at + ANSWER_BYTES;
     lay_in(&mut out[at..end], answer);
 }

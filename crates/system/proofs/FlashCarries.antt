@@ -23,7 +23,8 @@ use Rattle.bus.specs.World.{World, Out}
 use Rattle.bus.specs.Block.{Plain, plain, pokedAt, pokedOf, laidFrom, laidOf}
 use Rattle.bus.specs.Chip.{Chipped, selectedOver, sentOver, selectWritten, sendWritten}
 use Rattle.bus.specs.Write as bus
-use Rattle.bus.specs.Write.{clockIn, storedWord, wordOf, portWritten, regWritten}
+use Rattle.bus.specs.Write.{storedWord, wordOf, portWritten, regWritten}
+use Rattle.time.specs.Clocks.{clockIn}
 use Rattle.bus.proofs.Branches.{by-port, by-write}
 use Rattle.bus.proofs.Boards.{select-step, send-step, store-past, word-alone}
 use Rattle.system.specs.System.{Machine, worldIn}

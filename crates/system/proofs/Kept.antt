@@ -33,11 +33,11 @@ use Rattle.keys.specs.Live.{heldOf}
 use Rattle.keys.specs.Within as keys
 use Rattle.keys.proofs.Limits as keys-limits
 use Rattle.keys.proofs.Kept.{press-within}
-use Rattle.time.specs.declared.Clocks.{Clocks}
+use Rattle.state.specs.declared.Clocks.{Clocks}
 use Rattle.time.specs.Advance as move
 use Rattle.time.proofs.Limits as time-limits
-use Rattle.bus.specs.declared.Devices.{Devices}
-use Rattle.bus.specs.Write.{clockIn}
+use Rattle.state.specs.declared.Devices.{Devices}
+use Rattle.time.specs.Clocks.{clockIn}
 use Rattle.bus.specs.Read as read
 use Rattle.bus.specs.Read.{ReadOut, afterRead, regRead, readAt}
 use Rattle.system.specs.System.{Machine, machine, freshDevices, freshSystem}

@@ -37,7 +37,8 @@ use Rattle.bus.specs.World.{Out}
 use Rattle.bus.specs.Chip.{boardOf, selectedOver, sentOver, selectWritten, sendWritten}
 use Rattle.bus.specs.Block.{Plain, plain, pokedAt, pokedOf, laidFrom, laidOf, table, blockOf}
 use Rattle.bus.specs.Screen.{Copied, copied, fedWord, dmaDone, acted, controlled}
-use Rattle.bus.specs.Write.{clockIn, storedWord, wordOf, regWritten}
+use Rattle.bus.specs.Write.{storedWord, wordOf, regWritten}
+use Rattle.time.specs.Clocks.{clockIn}
 use Rattle.bus.proofs.Branches.{by-write, by-port}
 use Rattle.system.specs.declared.System.{System}
 use Rattle.system.specs.System.{Machine, worldIn}

@@ -24,11 +24,11 @@ use Rattle.keys.specs.declared.Refusal.the-variants as keys-refusal
 use Rattle.keys.specs.declared.Refusal.the-variants.{Done, BadKey}
 use Rattle.keys.specs.Live as keys
 use Rattle.keys.proofs.Full.{keys-full}
-use Rattle.time.specs.declared.Clocks.{Clocks}
+use Rattle.state.specs.declared.Clocks.{Clocks}
 use Rattle.time.specs.declared.NextTime.{NextTime}
 use Rattle.time.specs.Advance as move
 use Rattle.time.specs.Next as next
-use Rattle.bus.specs.Write.{clockIn}
+use Rattle.time.specs.Clocks.{clockIn}
 use Rattle.bus.specs.Read as reads
 use Rattle.bus.specs.Read.{readAt}
 use Rattle.system.specs.System.{Machine}

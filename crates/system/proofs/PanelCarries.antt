@@ -20,7 +20,8 @@ use Rattle.bus.specs.World.{World, Out}
 use Rattle.bus.specs.Chip.{selectWritten, sendWritten}
 use Rattle.bus.specs.Screen.{fedWord, Copied, dmaDone, acted, withControl, controlled}
 use Rattle.bus.specs.Write as bus
-use Rattle.bus.specs.Write.{clockIn, storedWord, wordOf, portWritten, regWritten}
+use Rattle.bus.specs.Write.{storedWord, wordOf, portWritten, regWritten}
+use Rattle.time.specs.Clocks.{clockIn}
 use Rattle.bus.proofs.Branches.{by-port, by-write}
 use Rattle.bus.proofs.Boards.{word-alone}
 use Rattle.system.specs.System.{Machine, worldIn}

@@ -15,7 +15,8 @@ use Rattle.timer.specs.Events.{waiting, fullOf}
 use Rattle.timer.proofs.Waiting.{waiting-count}
 use Rattle.bus.specs.World.{World, Out}
 use Rattle.bus.specs.Words.{controlAt, fieldAt, actsOf}
-use Rattle.bus.specs.Write.{clockIn, storedWord, portWritten, wordOf, regWritten}
+use Rattle.bus.specs.Write.{storedWord, portWritten, wordOf, regWritten}
+use Rattle.time.specs.Clocks.{clockIn}
 use Rattle.bus.proofs.Branches.{by-write, by-port}
 use Rattle.system.specs.System.{Machine, worldIn}
 use Rattle.system.specs.Calls.{writeOf}

@@ -15,7 +15,7 @@ use Rattle.registers.proofs.Count.{full-exactly}
 use Rattle.timer.specs.declared.Sounded.the-variants.{Same, Change, SoundFull}
 use Rattle.timer.specs.Timers.{writtenOf}
 use Rattle.timer.specs.Sound.{differOf, soundedOf}
-use Rattle.bus.specs.declared.Devices.{Devices}
+use Rattle.state.specs.declared.Devices.{Devices}
 use Rattle.bus.specs.World.{Said}
 use Rattle.bus.specs.Sounds.{soundOf, sounding, soundWritten}
 use Rattle.bus.specs.Words.{controlAt, fieldAt, actsOf, adcWritten, wordWritten}

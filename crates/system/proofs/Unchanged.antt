@@ -29,12 +29,13 @@ use Rattle.keys.proofs.Cases.{press-each}
 use Rattle.time.specs.declared.NextTime.{NextTime}
 use Rattle.time.specs.Advance as move
 use Rattle.time.specs.Next as next
-use Rattle.bus.specs.declared.Devices.{Devices}
+use Rattle.state.specs.declared.Devices.{Devices}
 use Rattle.bus.specs.World.{World, Out, out, Said, said, answer}
 use Rattle.bus.specs.Sounds.{soundWritten}
 use Rattle.bus.specs.Words.{adcWritten, wordWritten}
 use Rattle.bus.specs.Write as bus
-use Rattle.bus.specs.Write.{clockIn, storedWord, wordOf, regWritten}
+use Rattle.bus.specs.Write.{storedWord, wordOf, regWritten}
+use Rattle.time.specs.Clocks.{clockIn}
 use Rattle.bus.specs.Read as reads
 use Rattle.bus.specs.Read.{ReadOut, readAt}
 use Rattle.bus.proofs.Branches.{by-write, by-port, by-word, by-sound, by-timer}

@@ -31,21 +31,23 @@ use Rattle.timer.proofs.Tidy.{put-canonical}
 use Rattle.clock.specs.Within.{Latched}
 use Rattle.clock.specs.Rtc.{rtcOf}
 use Rattle.clock.proofs.RtcLimits.{commands-latched}
-use Rattle.time.specs.declared.Clocks.{Clocks}
+use Rattle.state.specs.declared.Clocks.{Clocks}
 use Rattle.time.specs.Within.{ClocksWithin}
 use Rattle.time.proofs.Limits.{timer-within, day-within, adc-within}
-use Rattle.time.specs.Irq.{none}
-use Rattle.bus.specs.declared.Devices.{Devices}
-use Rattle.bus.specs.World.{World, Out, Said, devicesOf, withClocks}
+use Rattle.state.specs.Parts.{none, devicesOf, withClocks}
+use Rattle.state.specs.declared.Devices.{Devices}
+use Rattle.bus.specs.World.{World, Out, Said}
 use Rattle.bus.specs.Chip.{selectWritten, sendWritten}
 use Rattle.bus.specs.Rtc.{commandWritten}
 use Rattle.bus.specs.Screen.{Copied, copied, dmaDone, acted, controlled}
 use Rattle.bus.specs.Sounds.{timerSet, soundOf, soundWritten, timerWritten}
 use Rattle.bus.specs.Words.{controlAt, spiSent, adcWritten, daySet, wordWritten}
-use Rattle.bus.specs.Write.{clockIn, storedWord, wordOf, regWritten}
+use Rattle.bus.specs.Write.{storedWord, wordOf, regWritten}
+use Rattle.time.specs.Clocks.{clockIn}
 use Rattle.bus.specs.Write as write
 use Rattle.bus.proofs.Branches.{by-write, by-port, by-word, by-sound, by-timer}
-use Rattle.system.specs.System.{Machine, worldIn, soundNow, noted}
+use Rattle.bus.specs.Sounds.{soundNow, noted}
+use Rattle.system.specs.System.{Machine, worldIn}
 use Rattle.system.specs.Calls.{writeOf}
 use Rattle.system.specs.Limits.{WithinLimits}
 use Rattle.system.proofs.Kept.{own-tidy}

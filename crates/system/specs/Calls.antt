@@ -19,7 +19,7 @@ use Rattle.time.specs.Advance as move
 use Rattle.time.specs.Next as next
 use Rattle.bus.specs.World.{Out}
 use Rattle.bus.specs.Write as write
-use Rattle.bus.specs.Write.{clockIn}
+use Rattle.time.specs.Clocks.{clockIn}
 use Rattle.bus.specs.Read as read
 use Rattle.bus.specs.Read.{ReadOut}
 use Rattle.system.specs.declared.System.{System}
@@ -27,7 +27,8 @@ use Rattle.system.specs.declared.Changed.{Changed}
 use Rattle.system.specs.declared.Read.{Read}
 use Rattle.system.specs.declared.Taken.{Taken}
 use Rattle.system.specs.declared.Counters.{Counters}
-use Rattle.system.specs.System.{Machine, machine, Left, left, presses, withOwn, withClocks, withTimes, withKeys, withPresses, withQueue, worldIn, withWorld, noted, freshSystem}
+use Rattle.bus.specs.Sounds.{noted}
+use Rattle.system.specs.System.{Machine, machine, Left, left, presses, withOwn, withClocks, withTimes, withKeys, withPresses, withQueue, worldIn, withWorld, freshSystem}
 
 abbrev pub changed : ℕ → System → Changed
 changed n s = record { refusal = n; system = s }

@@ -2,6 +2,7 @@
 pub mod System
 pub mod Calls
 pub mod Steps
+pub mod Bank
 pub mod Table
 pub mod Starred
 pub mod Limits

@@ -23,7 +23,8 @@ use Rattle.clock.specs.declared.Times.{Times}
 use Rattle.clock.specs.Times.{gameAfter}
 use Rattle.keys.specs.Script.{placesOf, waitingIn}
 use Rattle.time.specs.Next.{finite, eventOf}
-use Rattle.bus.specs.Write.{clockIn, wordOf}
+use Rattle.bus.specs.Write.{wordOf}
+use Rattle.time.specs.Clocks.{clockIn}
 use Rattle.system.specs.declared.System.{System}
 use Rattle.system.specs.System.{Machine}
 use Rattle.system.specs.Steps.{Op, read, write, advance, nextEvent, pending, turbo, live, hold, press, takeEvent, counters, pixel, wipe}

@@ -1,6 +1,6 @@
 -- The whole state beside the four lent memories; the state with a part replaced; and the state after a wipe.
 use Prim.Native.Nat.{ℕ}
-use mathlib.Core.Bool.{Bool, true, false}
+use mathlib.Core.Bool.{false}
 use mathlib.Core.List.{List}
 use lib.Ieee.{Float}
 use Rattle.registers.specs.declared.Registers.{Registers}
@@ -10,18 +10,18 @@ use Rattle.flash.specs.Flash.{madeIn}
 use Rattle.panel.specs.Lcd.{freshPanel}
 use Rattle.clock.specs.declared.Times.{Times}
 use Rattle.clock.specs.Rtc.{freshRtc}
-use Rattle.timer.specs.declared.Event.{Event}
 use Rattle.timer.specs.declared.Queue.{Queue}
 use Rattle.timer.specs.Sound.{silence}
-use Rattle.timer.specs.Events.{emptyQueue, putOf}
+use Rattle.timer.specs.Events.{emptyQueue}
 use Rattle.keys.specs.declared.Keys.{Keys}
 use Rattle.keys.specs.Keys.{freshButtons}
-use Rattle.time.specs.declared.Clocks.{Clocks}
+use Rattle.state.specs.declared.Clocks.{Clocks}
 use Rattle.time.specs.Clocks.{freshClocks}
-use Rattle.time.specs.Within.{timesWith}
-use Rattle.bus.specs.declared.Devices.{Devices}
+use Rattle.state.specs.Parts.{timesWith, devicesOf}
+use Rattle.state.specs.declared.Devices.{Devices}
+use Rattle.state.specs.Parts as part
 use Rattle.bus.specs.World as world
-use Rattle.bus.specs.World.{World, devicesOf}
+use Rattle.bus.specs.World.{World}
 use Rattle.system.specs.declared.Presses.{Presses}
 use Rattle.system.specs.declared.System.{System}
 
@@ -56,7 +56,7 @@ withOwn s own =
     systemOf (registersOf own (s .registers .addresses) (s .registers .values)) (s .rtc) (s .page) (s .devices) (s .queue) (s .presses) (s .keys)
 
 abbrev pub withClocks : System → Clocks → System
-withClocks s c = systemOf (s .registers) (s .rtc) (s .page) (world.withClocks (s .devices) c) (s .queue) (s .presses) (s .keys)
+withClocks s c = systemOf (s .registers) (s .rtc) (s .page) (part.withClocks (s .devices) c) (s .queue) (s .presses) (s .keys)
 
 abbrev pub withTimes : System → Times → System
 withTimes s t = withClocks s (timesWith (s .devices .clocks) t)
@@ -78,15 +78,6 @@ worldIn m = world.world (m .system .registers) (m .system .rtc) (m .system .page
 abbrev pub withWorld : Machine → World → Queue → Machine
 withWorld m w q =
     machine (systemOf (w .registers) (w .rtc) (w .page) (w .devices) q (m .system .presses) (m .system .keys)) (w .ram) (w .sram) (w .gpio) (w .fb)
-
--- the event of a change: from the devices' time on, their tone
-abbrev pub soundNow : Devices → Event
-soundNow d = record { time = d .clocks .times .now; frequency = d .tone .frequency; duty = d .tone .duty }
-
--- the queue after a write that made an event, or none
-abbrev pub noted : Queue → Devices → Bool → Queue
-noted q d true = putOf q (soundNow d) .queue
-noted q d false = q
 
 -- ---- after a wipe; the flash is in the Rust's mode
 

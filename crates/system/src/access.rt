@@ -5,7 +5,7 @@ ghost use Rattle.system.specs.Calls.{readOf, writeOf};
 use crate::Changed;
 use crate::Read;
 use crate::System;
-use crate::parts::note;
+use crate::parts::parts_of;
 use crate::parts::with_own;
 use registers::Registers;
 use timer::Queue;
@@ -17,15 +17,18 @@ pub fn read(s: System, ram: &[u8], sram: &[u8], gpio: &[u8], addr: u32, size: u3
     let mut own = registers.own;
     let addresses = registers.addresses;
     let values = registers.values;
-    let devices = s.devices;
+    let mut cells = [0; 51];
+    let mut floats = [0.0; 16];
+    state::wholes::put_parts(&mut cells, &mut floats, parts_of(s));
     let got = bus::read::read(
         &mut own,
         &addresses,
         &values,
+        &cells,
+        &floats,
         ram,
         sram,
         gpio,
-        devices,
         addr,
         size,
     );
@@ -60,35 +63,35 @@ pub fn write(
     let mut times = queue.times;
     let mut frequencies = queue.frequencies;
     let mut duties = queue.duties;
-    let wrote = bus::write::write(
+    let mut cells = [0; 51];
+    let mut floats = [0.0; 16];
+    state::wholes::put_parts(&mut cells, &mut floats, parts_of(s));
+    let told = bus::write::write(
         &mut own,
         &mut addresses,
         &mut values,
         &mut rtc,
         &mut page,
+        &mut times,
+        &mut frequencies,
+        &mut duties,
+        &mut cells,
+        &mut floats,
         ram,
         sram,
         gpio,
         fb,
-        s.devices,
-        timer::events::full(queue.ring),
         addr,
         size,
         value,
     );
-    let devices = wrote.devices;
-    let ring = note(
-        &mut times,
-        &mut frequencies,
-        &mut duties,
-        queue.ring,
-        devices,
-        wrote.event,
-    );
+    let parts = state::wholes::parts_of(&cells, &floats);
+    let devices = parts.devices;
+    let ring = parts.ring;
+    let keys = parts.keys;
     let presses = s.presses;
-    let keys = s.keys;
     Changed {
-        refusal: wrote.refusal,
+        refusal: told.refusal,
         system: System {
             registers: Registers {
                 own,

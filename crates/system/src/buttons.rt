@@ -4,30 +4,30 @@ ghost use Rattle.system.specs.Calls.{liveOf, holdOf, pressOf, heldOf};
 use crate::Changed;
 use crate::Presses;
 use crate::System;
-use crate::parts::key_number;
-use crate::parts::with_keys;
+use crate::parts::parts_of;
+use crate::parts::with_parts;
 use keys::Held;
 
 pub fn set_live(s: System, key: u32, down: bool) -> Changed
     ensures { λ r. ⌜ r ≡ liveOf s key down ⌝ }
 {
-    let changed = keys::live::set_live(s.keys, key, down);
-    let refusal = changed.refusal;
-    Changed {
-        refusal: key_number(refusal),
-        system: with_keys(s, changed.keys),
-    }
+    let mut cells = [0; 51];
+    let mut floats = [0.0; 16];
+    state::wholes::put_parts(&mut cells, &mut floats, parts_of(s));
+    let refusal = time::buttons::set_live(&mut cells, &mut floats, key, down);
+    let system = with_parts(s, state::wholes::parts_of(&cells, &floats));
+    Changed { refusal, system }
 }
 
 pub fn hold_until(s: System, key: u32, until: f64) -> Changed
     ensures { λ r. ⌜ r ≡ holdOf s key until ⌝ }
 {
-    let changed = keys::live::hold_until(s.keys, key, until);
-    let refusal = changed.refusal;
-    Changed {
-        refusal: key_number(refusal),
-        system: with_keys(s, changed.keys),
-    }
+    let mut cells = [0; 51];
+    let mut floats = [0.0; 16];
+    state::wholes::put_parts(&mut cells, &mut floats, parts_of(s));
+    let refusal = time::buttons::hold_until(&mut cells, &mut floats, key, until);
+    let system = with_parts(s, state::wholes::parts_of(&cells, &floats));
+    Changed { refusal, system }
 }
 
 pub fn press(s: System, key: u32, at: f64) -> Changed
@@ -36,20 +36,14 @@ pub fn press(s: System, key: u32, at: f64) -> Changed
     let presses = s.presses;
     let mut times = presses.times;
     let mut codes = presses.codes;
-    let mut keys = s.keys;
-    let devices = s.devices;
-    let clocks = devices.clocks;
-    let moment = clocks.times;
-    let pressed = keys::script::press(&mut times, &mut codes, keys.count, key, at, moment.now);
-    let refusal = pressed.refusal;
-    keys.count = pressed.count;
-    let mut next = with_keys(s, keys);
-    let presses = Presses { times, codes };
-    next.presses = presses;
-    Changed {
-        refusal: key_number(refusal),
-        system: next,
-    }
+    let mut cells = [0; 51];
+    let mut floats = [0.0; 16];
+    state::wholes::put_parts(&mut cells, &mut floats, parts_of(s));
+    let refusal = time::buttons::press(&mut times, &mut codes, &mut cells, &floats, key, at);
+    let mut system = with_parts(s, state::wholes::parts_of(&cells, &floats));
+    let later = Presses { times, codes };
+    system.presses = later;
+    Changed { refusal, system }
 }
 
 pub fn keys_held(s: System) -> Held

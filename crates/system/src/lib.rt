@@ -9,9 +9,9 @@ pub mod moment;
 pub mod parts;
 pub mod wipe;
 
-use bus::Devices;
 use keys::Keys;
 use registers::Registers;
+use state::Devices;
 use timer::Event;
 use timer::Queue;
 

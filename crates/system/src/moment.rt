@@ -4,13 +4,11 @@ ghost use Rattle.system.specs.Calls.{moved, advanceOf, turboOf, nextOf, 
 use crate::Changed;
 use crate::System;
 use crate::Taken;
-use crate::parts::event_number;
-use crate::parts::with_clocks;
-use crate::parts::with_keys;
+use crate::parts::parts_of;
 use crate::parts::with_own;
-use crate::parts::with_times;
-use clock::Paced;
+use crate::parts::with_parts;
 use time::NextTime;
+use timer::Queue;
 
 pub fn advance(s: System, sram: &[u8], gpio: &mut [u8], to: f64) -> Changed
     ensures { λ r. ⌜ moved r (now (gpio .exit)) ≡ advanceOf s (now (sram .entry)) (now (gpio .entry)) to ⌝ }
@@ -20,17 +18,21 @@ pub fn advance(s: System, sram: &[u8], gpio: &mut [u8], to: f64) -> Changed
     let presses = s.presses;
     let times = presses.times;
     let codes = presses.codes;
-    let devices = s.devices;
-    let clocks = devices.clocks;
-    let mut keys = s.keys;
-    let clock = memory::load(sram, 0x90A4, 4);
-    let a = time::moves::advance(&mut own, gpio, &times, &codes, clocks, keys, clock, to);
-    keys.applied = a.applied;
-    let system = with_keys(with_clocks(with_own(s, own), a.clocks), keys);
-    Changed {
-        refusal: a.refusal,
-        system,
-    }
+    let mut cells = [0; 51];
+    let mut floats = [0.0; 16];
+    state::wholes::put_parts(&mut cells, &mut floats, parts_of(s));
+    let refusal = time::moves::advance(
+        &mut own,
+        &mut cells,
+        &mut floats,
+        sram,
+        gpio,
+        &times,
+        &codes,
+        to,
+    );
+    let system = with_parts(with_own(s, own), state::wholes::parts_of(&cells, &floats));
+    Changed { refusal, system }
 }
 
 pub fn next_event(s: System, sram: &[u8]) -> NextTime
@@ -40,27 +42,21 @@ pub fn next_event(s: System, sram: &[u8]) -> NextTime
     let own = registers.own;
     let presses = s.presses;
     let times = presses.times;
-    let devices = s.devices;
-    let clock = memory::load(sram, 0x90A4, 4);
-    time::next::next_event(&own, &times, devices.clocks, s.keys, clock)
+    let mut cells = [0; 51];
+    let mut floats = [0.0; 16];
+    state::wholes::put_parts(&mut cells, &mut floats, parts_of(s));
+    time::next::next_event(&own, &cells, &floats, sram, &times)
 }
 
 pub fn set_turbo(s: System, to: f64) -> Changed
     ensures { λ r. ⌜ r ≡ turboOf s to ⌝ }
 {
-    let devices = s.devices;
-    let clocks = devices.clocks;
-    let paced = clock::time::set_turbo(clocks.times, to);
-    match paced {
-        Paced::By(times) => Changed {
-            refusal: 0,
-            system: with_times(s, times),
-        },
-        Paced::BadTurbo => Changed {
-            refusal: 2,
-            system: s,
-        },
-    }
+    let mut cells = [0; 51];
+    let mut floats = [0.0; 16];
+    state::wholes::put_parts(&mut cells, &mut floats, parts_of(s));
+    let refusal = time::pace::set_turbo(&mut floats, to);
+    let system = with_parts(s, state::wholes::parts_of(&cells, &floats));
+    Changed { refusal, system }
 }
 
 pub fn pending_irq(s: System) -> u32
@@ -68,10 +64,10 @@ pub fn pending_irq(s: System) -> u32
 {
     let registers = s.registers;
     let own = registers.own;
-    let devices = s.devices;
-    let clocks = devices.clocks;
-    let timers = clocks.timers;
-    time::irq::pending_irq(&own, timers)
+    let mut cells = [0; 51];
+    let mut floats = [0.0; 16];
+    state::wholes::put_parts(&mut cells, &mut floats, parts_of(s));
+    time::irq::pending_irq(&own, &cells)
 }
 
 pub fn irq_wanted(s: System) -> bool
@@ -79,10 +75,10 @@ pub fn irq_wanted(s: System) -> bool
 {
     let registers = s.registers;
     let own = registers.own;
-    let devices = s.devices;
-    let clocks = devices.clocks;
-    let timers = clocks.timers;
-    time::irq::irq_wanted(&own, timers)
+    let mut cells = [0; 51];
+    let mut floats = [0.0; 16];
+    state::wholes::put_parts(&mut cells, &mut floats, parts_of(s));
+    time::irq::irq_wanted(&own, &cells)
 }
 
 // The oldest sound event.
@@ -90,14 +86,26 @@ pub fn take_event(s: System) -> Taken
     ensures { λ r. ⌜ r ≡ takeOf s ⌝ }
 {
     let before = s.queue;
-    let taken = timer::events::take(before);
-    let refusal = taken.refusal;
-    let event = taken.event;
-    let queue = taken.queue;
-    let mut next = s;
+    let mut times = before.times;
+    let mut frequencies = before.frequencies;
+    let mut duties = before.duties;
+    let mut cells = [0; 51];
+    let mut floats = [0.0; 16];
+    state::wholes::put_parts(&mut cells, &mut floats, parts_of(s));
+    let waited = time::tones::take_event(&mut times, &mut frequencies, &mut duties, &mut cells);
+    let event = waited.event;
+    let parts = state::wholes::parts_of(&cells, &floats);
+    let ring = parts.ring;
+    let queue = Queue {
+        times,
+        frequencies,
+        duties,
+        ring,
+    };
+    let mut next = with_parts(s, parts);
     next.queue = queue;
     Taken {
-        refusal: event_number(refusal),
+        refusal: waited.refusal,
         event,
         system: next,
     }

@@ -2,7 +2,7 @@
 use Prim.Native.Nat.{ℕ}
 use mathlib.Core.Path.{_≡_}
 use mathlib.Core.Bool.{Bool, true, false, cond, _&&_, _||_}
-use mathlib.Core.List.{List, [], _∷_}
+use mathlib.Core.List.{List}
 use lib.ListN.{getD}
 use lib.Ieee.{Float, binary64, ofBits}
 use Rattle.registers.specs.Words.{ownAt, ownWith}
@@ -13,9 +13,6 @@ use Rattle.clock.specs.declared.RtcIrq.{RtcIrq}
 use Rattle.clock.specs.declared.Signal.{Signal}
 use Rattle.clock.specs.declared.Ticked.{Ticked}
 use Rattle.clock.specs.declared.Adc.{Adc}
-use Rattle.clock.specs.declared.Moved.{Moved}
-use Rattle.clock.specs.declared.Moved.the-variants.{To, BadTime}
-use Rattle.clock.specs.Times.{movedOf}
 use Rattle.clock.specs.Sources.{vsyncOf, tickedOf}
 use Rattle.clock.specs.Adc.{convertedOf}
 use Rattle.keys.specs.declared.Held.{Held}
@@ -23,11 +20,12 @@ use Rattle.keys.specs.declared.Keys.{Keys}
 use Rattle.keys.specs.Live.{heldOf}
 use Rattle.keys.specs.Lines.{lines, syncOf}
 use Rattle.keys.specs.Edges.{minOf}
-use Rattle.time.specs.declared.Clocks.{Clocks}
+use Rattle.state.specs.declared.Clocks.{Clocks}
 use Rattle.time.specs.Clocks.{controlAt, reloadAt}
-use Rattle.time.specs.Irq.{none, rtcLine, timerLine, lcdLine, adcLine, heard, pendingOf, wantedOf}
-use Rattle.time.specs.Advance.{timerAfter, timersAfter, synced, syncedOf, converted, convertedIn, ticked, tickedIn, devices, devicesOf}
-use Rattle.time.specs.Advance.{Outcome, outcome, movedTo, moved, advanceOf}
+use Rattle.time.specs.Irq.{rtcLine, timerLine, lcdLine, adcLine, heard, pendingOf, wantedOf}
+use Rattle.state.specs.Parts.{none}
+use Rattle.time.specs.Advance.{timerAfter, synced, syncedOf, converted, convertedIn, ticked, tickedIn, devices, devicesOf}
+use Rattle.time.specs.Advance.{outcome, movedTo}
 use Rattle.time.specs.Next.{timerNext, runs, anyPends, withTimer, withTimers, earliest, eventOf, finite, answered}
 
 -- ---- interrupts
@@ -45,13 +43,6 @@ module _ (own : List ℕ) where
   unfolding timerAfter
   timer-after n t now clock control reload r h k e = rw (← h, ← k) e
 
-  pub timers-after : (ts : List Timer) (now : Float) (clock : ℕ) (a b c d e f : Timer) → a ≡ timerAfter own 0 (getD ts 0 none) now clock
-      → b ≡ timerAfter own 1 (getD ts 1 none) now clock → c ≡ timerAfter own 2 (getD ts 2 none) now clock
-      → d ≡ timerAfter own 3 (getD ts 3 none) now clock → e ≡ timerAfter own 4 (getD ts 4 none) now clock
-      → f ≡ timerAfter own 5 (getD ts 5 none) now clock → (a ∷ b ∷ c ∷ d ∷ e ∷ f ∷ []) ≡ timersAfter own ts now clock
-  unfolding timersAfter
-  timers-after ts now clock a b c d e f g h i j k l = rw (g, h, i, j, k, l)
-
   pub synced-after : (last : ℕ) (now : Float) (status : ℕ) (s : Signal) (out : List ℕ) → status ≡ ownAt own 0xD050018C → s ≡ vsyncOf last now status
       → out ≡ ownWith own 0xD050018C (s .status) → synced out (s .seen) ≡ syncedOf own last now
   unfolding syncedOf
@@ -68,13 +59,6 @@ module _ (own : List ℕ) where
   unfolding tickedIn
   ticked-after irq game status t out h e o = rw (o, e, h)
 
-  pub devices-after : (c : Clocks) (clock : ℕ) (t : Times) (timers : List Timer) (vsync : ℕ) (converting : Bool) (irq : RtcIrq) (o₁ o₂ o₃ : List ℕ)
-      → timers ≡ timersAfter own (c .timers) (t .now) clock → synced o₁ vsync ≡ syncedOf own (c .vsync) (t .now)
-      → converted o₂ converting ≡ convertedIn o₁ (c .converting) → ticked o₃ irq ≡ tickedIn o₂ (c .irq) (t .game)
-      → devices o₃ (record { times = t; timers = timers; irq = irq; vsync = vsync; converting = converting }) ≡ devicesOf own c clock t
-  unfolding devicesOf
-  devices-after c clock t timers vsync converting irq o₁ o₂ o₃ h s a k = rw (← s, ← a, ← k, ← h)
-
 -- ---- advance
 module _ (own gpio : List ℕ) (times : List Float) (codes : List ℕ) (c : Clocks) (k : Keys) (clock : ℕ) where
   pub moved-to : (t : Times) (o g : List ℕ) (clocks : Clocks) (held : Held) (applied : ℕ) → devices o clocks ≡ devicesOf own c clock t
@@ -82,20 +66,6 @@ module _ (own gpio : List ℕ) (times : List Float) (codes : List ℕ) (c : Cloc
       → outcome o g 0 clocks applied ≡ movedTo own gpio times codes c k clock t
   unfolding movedTo
   moved-to t o g clocks held applied d h l = rw (← d, ← h, ← l)
-
-  module _ (m : Moved) where
-    pub moves-on : (t : Times) (o : Outcome) → m ≡ To t → o ≡ movedTo own gpio times codes c k clock t → o ≡ moved own gpio times codes c k clock m
-    unfolding moved
-    moves-on t o h n = rw h n
-
-    pub stays : m ≡ BadTime → outcome own gpio 1 c (k .applied) ≡ moved own gpio times codes c k clock m
-    unfolding moved
-    stays h = rw h
-
-    pub moved-by : (to : Float) (o : Outcome) → m ≡ movedOf (c .times) to → o ≡ moved own gpio times codes c k clock m
-        → o ≡ advanceOf own gpio times codes c k clock to
-    unfolding advanceOf
-    moved-by to o e h = rw (← e) h
 
 -- ---- the next event
 module _ (own : List ℕ) (n : ℕ) (t : Timer) (clock : ℕ) (so : Float) (control : ℕ) (b : Bool) (h : control ≡ controlAt own n) (e : b ≡ runs control) where

@@ -1,4 +1,6 @@
 -- Laws that several proofs cite, and the theorems.
 pub mod Cases
+pub mod Clockwork
+pub mod Asks
 pub mod Limits
 pub mod Unique

@@ -25,11 +25,11 @@ use Rattle.clock.proofs.TimeLimits.{moves-within, paces-within}
 use Rattle.clock.proofs.DayLimits.{later-day, sets-day, fresh-day}
 use Rattle.clock.proofs.SourceLimits.{ticks-seconds, vsyncs-seen, fresh-seconds, fresh-syncs}
 use Rattle.keys.specs.declared.Keys.{Keys}
-use Rattle.time.specs.declared.Clocks.{Clocks}
+use Rattle.state.specs.declared.Clocks.{Clocks}
 use Rattle.time.specs.Clocks.{freshClocks, controlAt, reloadAt}
-use Rattle.time.specs.Irq.{none}
+use Rattle.state.specs.Parts.{none, timesWith, timerWith, irqWith, convertingWith}
 use Rattle.time.specs.Advance.{timerAfter, timersAfter, syncedOf, convertedIn, tickedIn, devicesOf, movedTo, moved, advanceOf}
-use Rattle.time.specs.Within.{ClocksWithin, timesWith, timerWith, irqWith, convertingWith}
+use Rattle.time.specs.Within.{ClocksWithin}
 
 -- ---- what holds of each of six timers
 six : (P : Timer → Type 0) (a b c d e f : Timer) → P a → P b → P c → P d → P e → P f → (n : ℕ) → n < 6

@@ -21,10 +21,9 @@ use Rattle.clock.specs.Adc.{convertedOf}
 use Rattle.keys.specs.declared.Keys.{Keys}
 use Rattle.keys.specs.Live.{heldOf}
 use Rattle.keys.specs.Lines.{syncOf}
-use Rattle.time.specs.declared.Clocks.{Clocks}
-use Rattle.time.specs.declared.Advanced.{Advanced}
+use Rattle.state.specs.declared.Clocks.{Clocks}
 use Rattle.time.specs.Clocks.{controlAt, reloadAt}
-use Rattle.time.specs.Irq.{none}
+use Rattle.state.specs.Parts.{none}
 
 -- ---- the timers
 
@@ -121,9 +120,6 @@ pub record Outcome : Type 0 where
 
 abbrev pub outcome : List ℕ → List ℕ → ℕ → Clocks → ℕ → Outcome
 outcome own gpio refusal clocks applied = record { own = own; gpio = gpio; refusal = refusal; clocks = clocks; applied = applied }
-
-abbrev pub advanced : List ℕ → List ℕ → Advanced → Outcome
-advanced own gpio r = outcome own gpio (r .refusal) (r .clocks) (r .applied)
 
 -- the devices, and the keys that are down at the new time
 unfoldable pub movedTo : List ℕ → List ℕ → List Float → List ℕ → Clocks → Keys → ℕ → Times → Outcome

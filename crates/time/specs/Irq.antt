@@ -1,18 +1,14 @@
 -- Interrupts: irq_lines, pending_irq, irq_wanted.
 use Prim.Native.Nat.{ℕ, _-_, _/_, _%_, _^_}
-use mathlib.Core.Bool.{Bool, false, cond, not, _&&_, _||_}
+use mathlib.Core.Bool.{Bool, cond, not, _&&_, _||_}
 use mathlib.Core.List.{List}
 use lib.ListN.{getD}
 use lib.Dec.{eqb}
-use lib.Ieee.{nan}
 use Rattle.whole.specs.Words.{has, lacks}
 use Rattle.registers.specs.Words.{ownAt}
 use Rattle.timer.specs.declared.Timer.{Timer}
 use Rattle.clock.specs.Adc.{lineOf}
-
--- stands for a timer past the sixth, which there is none of
-abbrev pub none : Timer
-none = record { start = nan; seen = 0; pending = false }
+use Rattle.state.specs.Parts.{none}
 
 abbrev pub pendingAt : List Timer → ℕ → Bool
 pendingAt ts n = getD ts n none .pending

@@ -3,3 +3,4 @@ pub mod Irq
 pub mod Advance
 pub mod Next
 pub mod Within
+pub mod Bank

@@ -12,10 +12,11 @@ use Rattle.timer.specs.Timers.{periodOf, rateOf}
 use Rattle.clock.specs.declared.Times.{Times}
 use Rattle.keys.specs.declared.Keys.{Keys}
 use Rattle.keys.specs.Edges.{minOf, nextEdge}
-use Rattle.time.specs.declared.Clocks.{Clocks}
+use Rattle.state.specs.declared.Clocks.{Clocks}
 use Rattle.time.specs.declared.NextTime.{NextTime}
 use Rattle.time.specs.Clocks.{controlAt, reloadAt}
-use Rattle.time.specs.Irq.{none, wantedOf}
+use Rattle.time.specs.Irq.{wantedOf}
+use Rattle.state.specs.Parts.{none}
 
 -- ---- the parts
 

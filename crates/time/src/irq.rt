@@ -1,8 +1,12 @@
 // Interrupts: irq_lines, pending_irq, irq_wanted.
 ghost use mathlib.Core.Path.{_≡_};
 ghost use mathlib.Core.Bool.{cond};
+ghost use mathlib.Core.List.{List};
+ghost use lib.Ieee.{Float};
+ghost use Rattle.state.specs.Bank.{timersIn};
 ghost use Rattle.time.specs.Irq.{timerLine, lcdLine, rtcLine, adcLine, firstOf, pendingOf, wantedOf};
-use timer::Timer;
+use state::Cells;
+use state::moments::pending_of;
 
 fn keep(here: bool, a: u32, b: u32) -> u32
     ensures { λ r. ⌜ r ≡ cond here a b ⌝ }
@@ -10,16 +14,16 @@ fn keep(here: bool, a: u32, b: u32) -> u32
     if here { a } else { b }
 }
 
-fn timer_irq_line(timers: [Timer; 6]) -> bool
-    ensures { λ r. ⌜ r ≡ timerLine timers ⌝ }
+fn timer_irq_line(cells: &Cells) -> bool
+    ensures { λ r. ⌜ ((f : List Float) → r ≡ timerLine (timersIn (now (cells .entry)) f)) ⌝ }
 {
-    let a = timers[0];
-    let b = timers[1];
-    let c = timers[2];
-    let d = timers[3];
-    let e = timers[4];
-    let f = timers[5];
-    a.pending | (b.pending | (c.pending | (d.pending | (e.pending | f.pending))))
+    let a = pending_of(cells, 0);
+    let b = pending_of(cells, 1);
+    let c = pending_of(cells, 2);
+    let d = pending_of(cells, 3);
+    let e = pending_of(cells, 4);
+    let f = pending_of(cells, 5);
+    a | (b | (c | (d | (e | f))))
 }
 
 fn rtc_irq_line(own: &[u32; 76]) -> bool
@@ -52,20 +56,20 @@ fn first(mask: u32, rtc: bool, timer: bool, lcd: bool, adc: bool) -> u32
     keep(rtc & (mask / 2147483648 % 2 == 0), 1, second)
 }
 
-pub fn pending_irq(own: &[u32; 76], timers: [Timer; 6]) -> u32
-    ensures { λ r. ⌜ r ≡ pendingOf (now (own .entry)) timers ⌝ }
+pub fn pending_irq(own: &[u32; 76], cells: &Cells) -> u32
+    ensures { λ r. ⌜ ((f : List Float) → r ≡ pendingOf (now (own .entry)) (timersIn (now (cells .entry)) f)) ⌝ }
 {
     let mask = registers::own_reg(own, 0xD010_0030);
     let rtc = rtc_irq_line(own);
-    let timer = timer_irq_line(timers);
+    let timer = timer_irq_line(cells);
     let lcd = lcd_irq_line(own);
     let adc = adc_irq_line(own);
     first(mask, rtc, timer, lcd, adc)
 }
 
-pub fn irq_wanted(own: &[u32; 76], timers: [Timer; 6]) -> bool
-    ensures { λ r. ⌜ r ≡ wantedOf (now (own .entry)) timers ⌝ }
+pub fn irq_wanted(own: &[u32; 76], cells: &Cells) -> bool
+    ensures { λ r. ⌜ ((f : List Float) → r ≡ wantedOf (now (own .entry)) (timersIn (now (cells .entry)) f)) ⌝ }
 {
     let off = registers::own_reg(own, 0xD010_0038);
-    (off & 1 == 0) & (pending_irq(own, timers) != 0)
+    (off & 1 == 0) & (pending_irq(own, cells) != 0)
 }

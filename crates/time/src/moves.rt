@@ -2,56 +2,83 @@
 //
 // Where the Rust leaves a word alone the same value is put back, which changes nothing.
 ghost use mathlib.Core.Path.{_≡_};
+ghost use mathlib.Core.List.{List};
 ghost use Prim.Native.Nat.{_<_};
-ghost use Rattle.time.specs.Advance.{timerAfter, timersAfter, synced, syncedOf, converted, convertedIn, ticked, tickedIn};
-ghost use lib.Ieee.{binary64, ofBits};
-ghost use Rattle.time.specs.Advance.{devices, devicesOf, advanced, movedTo, moved, advanceOf};
-use crate::Advanced;
-use crate::Clocks;
+ghost use lib.Ieee.{Float, binary64, ofBits};
+ghost use lib.ListN.{getD};
+ghost use Rattle.state.specs.Parts.{none, timerPut, timersPut};
+ghost use Rattle.state.specs.Bank.{timersIn, irqIn, clocksIn, keysIn, partsIn};
+ghost use Rattle.state.specs.Packed.{Kept};
+ghost use Rattle.time.specs.Clocks.{clockIn};
+ghost use Rattle.time.specs.Advance.{timerAfter, timersAfter, syncedOf, convertedIn, tickedIn, devicesOf, movedTo, moved, advanceOf};
+ghost use Rattle.time.specs.Bank.{went, syncedPut, convertedPut, tickedPut, wentOf, moves, movesOf};
+use crate::sysclk_var;
 use clock::Adc;
 use clock::Moved;
-use clock::RtcIrq;
 use clock::Times;
-use keys::Keys;
-use timer::Timer;
+use state::Cells;
+use state::Floats;
 
 // Timer n of the six.
-fn timer_advance(own: &[u32; 76], n: u32, t: Timer, time: f64, clock: u32) -> Timer
+fn timer_advance(
+    own: &[u32; 76],
+    cells: &mut Cells,
+    floats: &mut Floats,
+    n: u32,
+    time: f64,
+    clock: u32,
+)
     requires { ⌜ n < 6 ⌝ }
-    ensures { λ r. ⌜ r ≡ timerAfter (now (own .entry)) n t time clock ⌝ }
+    ensures { λ _. ⌜ (partsIn (now (cells .exit)) (now (floats .exit))
+        ≡ timerPut (partsIn (now (cells .entry)) (now (floats .entry))) n
+        (timerAfter (now (own .entry)) n (getD (timersIn (now (cells .entry))
+        (now (floats .entry))) n none) time clock))
+        × Kept (now (cells .entry)) (now (floats .entry)) (now (cells .exit)) (now (floats .exit)) ⌝ }
 {
     let control = registers::own_reg(own, 0xC002_0000 + 0x20 * n);
     let reload = registers::own_reg(own, 0xC002_0008 + 0x20 * n);
-    timer::advance(t, time, clock, control, reload)
+    let t = state::moments::timer_of(cells, floats, n as usize);
+    let next = timer::advance(t, time, clock, control, reload);
+    state::moments::put_timer(cells, floats, n as usize, next);
 }
 
-fn timers_advance(own: &[u32; 76], timers: [Timer; 6], time: f64, clock: u32) -> [Timer; 6]
-    ensures { λ r. ⌜ r ≡ timersAfter (now (own .entry)) timers time clock ⌝ }
+fn timers_advance(own: &[u32; 76], cells: &mut Cells, floats: &mut Floats, time: f64, clock: u32)
+    ensures { λ _. ⌜ (partsIn (now (cells .exit)) (now (floats .exit))
+        ≡ timersPut (partsIn (now (cells .entry)) (now (floats .entry)))
+        (timersAfter (now (own .entry)) (timersIn (now (cells .entry)) (now (floats .entry))) time clock))
+        × Kept (now (cells .entry)) (now (floats .entry)) (now (cells .exit)) (now (floats .exit)) ⌝ }
 {
-    let a = timer_advance(own, 0, timers[0], time, clock);
-    let b = timer_advance(own, 1, timers[1], time, clock);
-    let c = timer_advance(own, 2, timers[2], time, clock);
-    let d = timer_advance(own, 3, timers[3], time, clock);
-    let e = timer_advance(own, 4, timers[4], time, clock);
-    let f = timer_advance(own, 5, timers[5], time, clock);
-    [a, b, c, d, e, f]
+    timer_advance(own, cells, floats, 0, time, clock);
+    timer_advance(own, cells, floats, 1, time, clock);
+    timer_advance(own, cells, floats, 2, time, clock);
+    timer_advance(own, cells, floats, 3, time, clock);
+    timer_advance(own, cells, floats, 4, time, clock);
+    timer_advance(own, cells, floats, 5, time, clock);
 }
 
-// The panel's vertical sync; the answer is the last one seen.
-fn vsync(own: &mut [u32; 76], last: u64, time: f64) -> u64
-    ensures { λ r. ⌜ synced (now (own .exit)) r ≡ syncedOf (now (own .entry)) last time ⌝ }
+// The panel's vertical sync.
+fn vsync(own: &mut [u32; 76], cells: &mut Cells, time: f64)
+    ensures { λ _. ⌜ ((f : List Float) → (went (now (own .exit)) (partsIn (now (cells .exit)) f)
+        ≡ syncedPut (partsIn (now (cells .entry)) f) (syncedOf (now (own .entry))
+        (clocksIn (now (cells .entry)) f .vsync) time))
+        × Kept (now (cells .entry)) f (now (cells .exit)) f) ⌝ }
 {
-    let status = registers::own_reg(&*own, 0xD050_018C);
+    let status = registers::own_reg(own, 0xD050_018C);
+    let last = state::moments::vsync_of(cells);
     let s = clock::sources::vsync(last, time, status);
     registers::own_insert(own, 0xD050_018C, s.status);
-    s.seen
+    state::moments::put_vsync(cells, s.seen);
 }
 
-fn adc_advance(own: &mut [u32; 76], converting: bool) -> bool
-    ensures { λ r. ⌜ converted (now (own .exit)) r ≡ convertedIn (now (own .entry)) converting ⌝ }
+fn adc_advance(own: &mut [u32; 76], cells: &mut Cells)
+    ensures { λ _. ⌜ ((f : List Float) → (went (now (own .exit)) (partsIn (now (cells .exit)) f)
+        ≡ convertedPut (partsIn (now (cells .entry)) f) (convertedIn (now (own .entry))
+        (clocksIn (now (cells .entry)) f .converting)))
+        × Kept (now (cells .entry)) f (now (cells .exit)) f) ⌝ }
 {
-    let control = registers::own_reg(&*own, 0xC00C_0004);
-    let result = registers::own_reg(&*own, 0xC00C_0008);
+    let control = registers::own_reg(own, 0xC00C_0004);
+    let result = registers::own_reg(own, 0xC00C_0008);
+    let converting = state::moments::converting_of(cells);
     let adc = clock::convert::adc_advance(Adc {
         converting,
         control,
@@ -59,116 +86,139 @@ fn adc_advance(own: &mut [u32; 76], converting: bool) -> bool
     });
     registers::own_insert(own, 0xC00C_0008, adc.result);
     registers::own_insert(own, 0xC00C_0004, adc.control);
-    adc.converting
+    state::moments::put_converting(cells, adc.converting);
 }
 
-fn rtc_irq_advance(own: &mut [u32; 76], irq: RtcIrq, game: f64) -> RtcIrq
-    ensures { λ r. ⌜ ticked (now (own .exit)) r ≡ tickedIn (now (own .entry)) irq game ⌝ }
+fn rtc_irq_advance(own: &mut [u32; 76], cells: &mut Cells, floats: &mut Floats, game: f64)
+    ensures { λ _. ⌜ (went (now (own .exit)) (partsIn (now (cells .exit)) (now (floats .exit)))
+        ≡ tickedPut (partsIn (now (cells .entry)) (now (floats .entry)))
+        (tickedIn (now (own .entry)) (irqIn (now (cells .entry)) (now (floats .entry))) game))
+        × Kept (now (cells .entry)) (now (floats .entry)) (now (cells .exit)) (now (floats .exit)) ⌝ }
 {
-    let status = registers::own_reg(&*own, 0xC004_0054);
+    let status = registers::own_reg(own, 0xC004_0054);
+    let irq = state::moments::irq_of(cells, floats);
     let t = clock::sources::rtc_irq_advance(irq, game, status);
     registers::own_insert(own, 0xC004_0054, t.status);
-    t.irq
+    state::moments::put_irq(cells, floats, t.irq);
 }
 
 // All devices, at the times t.
-fn devices_advance(own: &mut [u32; 76], c: Clocks, clock: u32, t: Times) -> Clocks
-    ensures { λ r. ⌜ devices (now (own .exit)) r ≡ devicesOf (now (own .entry)) c clock t ⌝ }
+fn devices_advance(
+    own: &mut [u32; 76],
+    cells: &mut Cells,
+    floats: &mut Floats,
+    clock: u32,
+    t: Times,
+)
+    ensures { λ _. ⌜ (went (now (own .exit)) (partsIn (now (cells .exit)) (now (floats .exit)))
+        ≡ wentOf (partsIn (now (cells .entry)) (now (floats .entry)))
+        (devicesOf (now (own .entry)) (clocksIn (now (cells .entry)) (now (floats .entry))) clock t))
+        × Kept (now (cells .entry)) (now (floats .entry)) (now (cells .exit)) (now (floats .exit)) ⌝ }
 {
-    let before = c.timers;
-    let timers = timers_advance(&*own, before, t.now, clock);
-    let vsync = vsync(own, c.vsync, t.now);
-    let converting = adc_advance(own, c.converting);
-    let irq = rtc_irq_advance(own, c.irq, t.game);
-    Clocks {
-        times: t,
-        timers,
-        irq,
-        vsync,
-        converting,
-    }
+    timers_advance(own, cells, floats, t.now, clock);
+    vsync(own, cells, t.now);
+    adc_advance(own, cells);
+    rtc_irq_advance(own, cells, floats, t.game);
+    state::moments::put_times(floats, t);
 }
 
 // The devices, and then the keys.
 fn move_to(
     own: &mut [u32; 76],
+    cells: &mut Cells,
+    floats: &mut Floats,
     gpio: &mut [u8],
     times: &[f64; 64],
     codes: &[u8; 64],
-    c: Clocks,
-    k: Keys,
     clock: u32,
     t: Times,
-) -> Advanced
-    ensures { λ r. ⌜ advanced (now (own .exit)) (now (gpio .exit)) r
-        ≡ movedTo (now (own .entry)) (now (gpio .entry)) (now (times .entry)) (now (codes .entry)) c k clock t ⌝ }
+)
+    ensures { λ _. ⌜ (moves (now (own .exit)) (now (gpio .exit)) 0 (partsIn (now (cells .exit)) (now (floats .exit)))
+        ≡ movesOf (partsIn (now (cells .entry)) (now (floats .entry)))
+        (movedTo (now (own .entry)) (now (gpio .entry)) (now (times .entry)) (now (codes .entry))
+        (clocksIn (now (cells .entry)) (now (floats .entry)))
+        (keysIn (now (cells .entry)) (now (floats .entry))) clock t))
+        × Kept (now (cells .entry)) (now (floats .entry)) (now (cells .exit)) (now (floats .exit)) ⌝ }
 {
-    let clocks = devices_advance(own, c, clock, t);
+    devices_advance(own, cells, floats, clock, t);
+    let k = state::rests::keys_of(cells, floats);
     let held = keys::live::keys_held(times, codes, k, t.now);
     let applied = keys::lines::sync_gpio(gpio, k.applied, held);
-    Advanced {
-        refusal: 0,
-        clocks,
-        applied,
-    }
+    state::rests::put_applied(cells, applied);
 }
 
 // What follows once game time and now have moved, or were refused.
 fn go(
     own: &mut [u32; 76],
+    cells: &mut Cells,
+    floats: &mut Floats,
+    sram: &[u8],
     gpio: &mut [u8],
     times: &[f64; 64],
     codes: &[u8; 64],
-    c: Clocks,
-    k: Keys,
-    clock: u32,
     to: Moved,
-) -> Advanced
-    ensures { λ r. ⌜ advanced (now (own .exit)) (now (gpio .exit)) r
-        ≡ moved (now (own .entry)) (now (gpio .entry)) (now (times .entry)) (now (codes .entry)) c k clock to ⌝ }
+) -> u8
+    ensures { λ r. ⌜ (moves (now (own .exit)) (now (gpio .exit)) r (partsIn (now (cells .exit)) (now (floats .exit)))
+        ≡ movesOf (partsIn (now (cells .entry)) (now (floats .entry)))
+        (moved (now (own .entry)) (now (gpio .entry)) (now (times .entry)) (now (codes .entry))
+        (clocksIn (now (cells .entry)) (now (floats .entry)))
+        (keysIn (now (cells .entry)) (now (floats .entry))) (clockIn (now (sram .entry))) to))
+        × Kept (now (cells .entry)) (now (floats .entry)) (now (cells .exit)) (now (floats .exit)) ⌝ }
 {
     match to {
-        Moved::To(t) => move_to(own, gpio, times, codes, c, k, clock, t),
-        Moved::BadTime => Advanced {
-            refusal: 1,
-            clocks: c,
-            applied: k.applied,
-        },
+        Moved::To(t) => {
+            let clock = sysclk_var(sram);
+            move_to(own, cells, floats, gpio, times, codes, clock, t);
+            return 0;
+        }
+        Moved::BadTime => {
+            return 1;
+        }
     }
 }
 
-// Bring the hardware up to emulated time `to`. `times` and `codes` are the presses', `clock` the SRAM word at 0xF80090A4.
+// Bring the hardware up to emulated time `to`: 0, or refusal 1. `times` and `codes` are the presses'.
 pub fn advance(
     own: &mut [u32; 76],
+    cells: &mut Cells,
+    floats: &mut Floats,
+    sram: &[u8],
     gpio: &mut [u8],
     times: &[f64; 64],
     codes: &[u8; 64],
-    c: Clocks,
-    k: Keys,
-    clock: u32,
     to: f64,
-) -> Advanced
-    ensures { λ r. ⌜ advanced (now (own .exit)) (now (gpio .exit)) r
-        ≡ advanceOf (now (own .entry)) (now (gpio .entry)) (now (times .entry)) (now (codes .entry)) c k clock to ⌝ }
+) -> u8
+    ensures { λ r. ⌜ (moves (now (own .exit)) (now (gpio .exit)) r (partsIn (now (cells .exit)) (now (floats .exit)))
+        ≡ movesOf (partsIn (now (cells .entry)) (now (floats .entry)))
+        (advanceOf (now (own .entry)) (now (gpio .entry)) (now (times .entry)) (now (codes .entry))
+        (clocksIn (now (cells .entry)) (now (floats .entry)))
+        (keysIn (now (cells .entry)) (now (floats .entry))) (clockIn (now (sram .entry))) to))
+        × Kept (now (cells .entry)) (now (floats .entry)) (now (cells .exit)) (now (floats .exit)) ⌝ }
 {
-    let moved = clock::time::advance(c.times, to);
-    go(own, gpio, times, codes, c, k, clock, moved)
+    let before = state::moments::times_of(floats);
+    let moved = clock::time::advance(before, to);
+    go(own, cells, floats, sram, gpio, times, codes, moved)
 }
 
 // The same from the bits of `to`, which become a float only where they are a good time.
 pub fn advance_bits(
     own: &mut [u32; 76],
+    cells: &mut Cells,
+    floats: &mut Floats,
+    sram: &[u8],
     gpio: &mut [u8],
     times: &[f64; 64],
     codes: &[u8; 64],
-    c: Clocks,
-    k: Keys,
-    clock: u32,
     bits: u64,
-) -> Advanced
-    ensures { λ r. ⌜ advanced (now (own .exit)) (now (gpio .exit)) r
-        ≡ advanceOf (now (own .entry)) (now (gpio .entry)) (now (times .entry)) (now (codes .entry)) c k clock (ofBits binary64 bits) ⌝ }
+) -> u8
+    ensures { λ r. ⌜ (moves (now (own .exit)) (now (gpio .exit)) r (partsIn (now (cells .exit)) (now (floats .exit)))
+        ≡ movesOf (partsIn (now (cells .entry)) (now (floats .entry)))
+        (advanceOf (now (own .entry)) (now (gpio .entry)) (now (times .entry)) (now (codes .entry))
+        (clocksIn (now (cells .entry)) (now (floats .entry)))
+        (keysIn (now (cells .entry)) (now (floats .entry))) (clockIn (now (sram .entry))) (ofBits binary64 bits)))
+        × Kept (now (cells .entry)) (now (floats .entry)) (now (cells .exit)) (now (floats .exit)) ⌝ }
 {
-    let moved = clock::time::advance_bits(c.times, bits);
-    go(own, gpio, times, codes, c, k, clock, moved)
+    let before = state::moments::times_of(floats);
+    let moved = clock::time::advance_bits(before, bits);
+    go(own, cells, floats, sram, gpio, times, codes, moved)
 }

@@ -2,13 +2,19 @@
 ghost use mathlib.Core.Path.{_≡_};
 ghost use Prim.Native.Nat.{_<_};
 ghost use Rattle.time.specs.Next.{oneMore, vsyncNext, timerNext, gameNext, runs, pends, anyPends, withTimer, withTimers};
+ghost use Rattle.state.specs.Bank.{clocksIn, keysIn};
+ghost use Rattle.time.specs.Clocks.{clockIn};
+ghost use Rattle.time.specs.Irq.{wantedOf};
 ghost use Rattle.time.specs.Next.{earliest, eventOf, finite, answered, nextOf};
-use crate::Clocks;
 use crate::NextTime;
 use crate::irq::irq_wanted;
+use crate::sysclk_var;
 use clock::Times;
 use keys::Keys;
 use keys::edges::min;
+use state::Cells;
+use state::Clocks;
+use state::Floats;
 use timer::Timer;
 
 // (n + 1) as f64, of a release build.
@@ -99,11 +105,18 @@ fn earliest(own: &[u32; 76], times: &[f64; 64], c: Clocks, k: Keys, clock: u32) 
 }
 
 // The Rust returns at the first timer that is pending, whatever the timers before it wait for; so all are asked first.
-fn event_time(own: &[u32; 76], times: &[f64; 64], c: Clocks, k: Keys, clock: u32) -> f64
+fn event_time(
+    own: &[u32; 76],
+    times: &[f64; 64],
+    c: Clocks,
+    k: Keys,
+    clock: u32,
+    wanted: bool,
+) -> f64
+    requires { ⌜ wanted ≡ wantedOf (now own) (c .timers) ⌝ }
     ensures { λ r. ⌜ r ≡ eventOf (now (own .entry)) (now (times .entry)) c k clock ⌝ }
 {
     let timers = c.timers;
-    let wanted = irq_wanted(own, timers);
     if c.converting | wanted {
         return c.times.now;
     }
@@ -135,9 +148,21 @@ fn answered(t: f64) -> NextTime
     }
 }
 
-// `times` are the presses', `clock` the SRAM word at 0xF80090A4.
-pub fn next_event(own: &[u32; 76], times: &[f64; 64], c: Clocks, k: Keys, clock: u32) -> NextTime
-    ensures { λ r. ⌜ r ≡ nextOf (now (own .entry)) (now (times .entry)) c k clock ⌝ }
+// `times` are the presses'.
+pub fn next_event(
+    own: &[u32; 76],
+    cells: &Cells,
+    floats: &Floats,
+    sram: &[u8],
+    times: &[f64; 64],
+) -> NextTime
+    ensures { λ r. ⌜ r ≡ nextOf (now (own .entry)) (now (times .entry)) (clocksIn (now (cells .entry))
+        (now (floats .entry)))
+        (keysIn (now (cells .entry)) (now (floats .entry))) (clockIn (now (sram .entry))) ⌝ }
 {
-    answered(event_time(own, times, c, k, clock))
+    let wanted = irq_wanted(own, cells);
+    let clock = sysclk_var(sram);
+    let c = state::moments::clocks_of(cells, floats);
+    let k = state::rests::keys_of(cells, floats);
+    answered(event_time(own, times, c, k, clock, wanted))
 }

@@ -1,4 +1,5 @@
 use Rattle.bus.proofs.Cases.{read-size, read-ram, read-sram, read-gpio, read-register, read-stray}
+use Rattle.state.specs.Bank.{partsIn}
 use Rattle.registers.specs.Words.{registersOf}
 use borrow.Author.Needs.{needs}
 use Rattle.bus.proofs.read.read.Statement.{statement}
@@ -11,7 +12,8 @@ returns : tie.Need-returns
 returns c =
     let a = (c .before .before .before .before .before .args) in
     let r = registersOf (a .own .now) (a .addresses .now) (a .values .now) in
-    read-size r (a .ram .now) (a .sram .now) (a .gpio .now) (a .devices) (a .addr) (a .size) (c .before .good-size .ensures) (c .if1 .taken)
+    let d = partsIn (a .cells .now) (a .floats .now) .devices in
+    read-size r (a .ram .now) (a .sram .now) (a .gpio .now) d (a .addr) (a .size) (c .before .good-size .ensures) (c .if1 .taken)
 
 locate-requires : tie.Need-locate-requires
 locate-requires c κs = search needs
@@ -26,7 +28,8 @@ returns-2 : tie.Need-returns-2
 returns-2 c =
     let a = (c .before .before .before .before .before .before .before .before .before .before .args) in
     let r = registersOf (a .own .now) (a .addresses .now) (a .values .now) in
-    read-ram r (a .ram .now) (a .sram .now) (a .gpio .now) (a .devices) (a .addr) (a .size)
+    let d = partsIn (a .cells .now) (a .floats .now) .devices in
+    read-ram r (a .ram .now) (a .sram .now) (a .gpio .now) d (a .addr) (a .size)
     (c .before .before .before .before .before .before .good-size .ensures) (c .before .before .before .before .before .if1 .left)
     (c .before .before .before .before .locate .ensures) (c .before .before .place .given .1) (c .load .ensures)
 
@@ -40,7 +43,8 @@ returns-3 : tie.Need-returns-3
 returns-3 c =
     let a = (c .before .before .before .before .before .before .before .before .before .before .args) in
     let r = registersOf (a .own .now) (a .addresses .now) (a .values .now) in
-    read-sram r (a .ram .now) (a .sram .now) (a .gpio .now) (a .devices) (a .addr) (a .size)
+    let d = partsIn (a .cells .now) (a .floats .now) .devices in
+    read-sram r (a .ram .now) (a .sram .now) (a .gpio .now) d (a .addr) (a .size)
     (c .before .before .before .before .before .before .good-size .ensures) (c .before .before .before .before .before .if1 .left)
     (c .before .before .before .before .locate .ensures) (c .before .before .place2 .given .1) (c .load2 .ensures)
 
@@ -54,7 +58,8 @@ returns-4 : tie.Need-returns-4
 returns-4 c =
     let a = (c .before .before .before .before .before .before .before .before .before .before .args) in
     let r = registersOf (a .own .now) (a .addresses .now) (a .values .now) in
-    read-gpio r (a .ram .now) (a .sram .now) (a .gpio .now) (a .devices) (a .addr) (a .size)
+    let d = partsIn (a .cells .now) (a .floats .now) .devices in
+    read-gpio r (a .ram .now) (a .sram .now) (a .gpio .now) d (a .addr) (a .size)
     (c .before .before .before .before .before .before .good-size .ensures) (c .before .before .before .before .before .if1 .left)
     (c .before .before .before .before .locate .ensures) (c .before .before .place3 .given .1) (c .load3 .ensures)
 
@@ -68,7 +73,8 @@ returns-5 : tie.Need-returns-5
 returns-5 c =
     let a = (c .before .before .before .before .before .before .before .before .before .before .args) in
     let r = registersOf (a .own .now) (a .addresses .now) (a .values .now) in
-    read-register r (a .ram .now) (a .sram .now) (a .gpio .now) (a .devices) (a .addr) (a .size)
+    let d = partsIn (a .cells .now) (a .floats .now) .devices in
+    read-register r (a .ram .now) (a .sram .now) (a .gpio .now) d (a .addr) (a .size)
     (c .before .before .before .before .before .before .good-size .ensures) (c .before .before .before .before .before .if1 .left)
     (c .before .before .before .before .locate .ensures) (c .before .before .enum-told .given .1) (c .mmio-read .ensures)
 
@@ -79,7 +85,8 @@ returns-6 : tie.Need-returns-6
 returns-6 c =
     let a = (c .before .before .before .before .before .before .before .before .args) in
     let r = registersOf (a .own .now) (a .addresses .now) (a .values .now) in
-    read-stray r (a .ram .now) (a .sram .now) (a .gpio .now) (a .devices) (a .addr) (a .size) (c .before .before .before .before .good-size .ensures)
+    let d = partsIn (a .cells .now) (a .floats .now) .devices in
+    read-stray r (a .ram .now) (a .sram .now) (a .gpio .now) d (a .addr) (a .size) (c .before .before .before .before .good-size .ensures)
     (c .before .before .before .if1 .left) (c .before .before .locate .ensures) (c .enum-told2 .given .1)
 
 pub read-spec : {M : Type 1} → statement M

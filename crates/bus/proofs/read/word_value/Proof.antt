@@ -1,5 +1,6 @@
-use Rattle.bus.specs.Read.{valueOf}
+use Rattle.state.specs.Bank.{latchIn}
 use borrow.Author.Tests.{ne-eqb}
+use Rattle.bus.specs.Read.{valueOf}
 use borrow.Author.Needs.{needs}
 use Rattle.bus.proofs.read.word_value.Statement.{statement}
 use Rattle.bus.proofs.read.word_value.Tie as tie
@@ -15,19 +16,22 @@ returns-2 : tie.Need-returns-2
 unfolding valueOf
 returns-2 c = rw (c .match .keys2)
 
+rx-of-requires : tie.Need-rx-of-requires
+rx-of-requires c κs = search needs
+
 cast-result : tie.Need-cast-result
 cast-result c = search needs
 
 returns-3 : tie.Need-returns-3
 unfolding valueOf
-returns-3 c = rw (c .before .before .match .keys3)
+returns-3 c = rw (c .before .match .keys3) (c .rx-of .ensures)
 
 pending-irq-requires : tie.Need-pending-irq-requires
 pending-irq-requires c κs = search needs
 
 returns-4 : tie.Need-returns-4
 unfolding valueOf
-returns-4 c = rw (c .before .before .before .match .keys4) (c .pending-irq .ensures)
+returns-4 c = rw (c .before .match .keys4) (c .pending-irq .ensures ((c .before .before .args .floats .now)))
 
 returns-5 : tie.Need-returns-5
 unfolding valueOf
@@ -37,9 +41,12 @@ returns-6 : tie.Need-returns-6
 unfolding valueOf
 returns-6 c = rw (c .match .keys6)
 
+out-of-requires : tie.Need-out-of-requires
+out-of-requires c κs = search needs
+
 returns-7 : tie.Need-returns-7
-unfolding valueOf
-returns-7 c = rw (c .before .match .keys7)
+unfolding valueOf latchIn
+returns-7 c = rw (c .before .match .keys7) (c .out-of .ensures)
 
 clock-value-requires : tie.Need-clock-value-requires
 clock-value-requires c κs = search needs
@@ -47,8 +54,17 @@ clock-value-requires c κs = search needs
 returns-8 : tie.Need-returns-8
 unfolding valueOf
 returns-8 c =
-    rw
-    (ne-eqb _ _ (c .before .match .rest .0 .0 .0 .0 .0 .0 .1), ne-eqb _ _ (c .before .match .rest .0 .0 .0 .0 .0 .1), ne-eqb _ _ (c .before .match .rest .0 .0 .0 .0 .1), ne-eqb _ _ (c .before .match .rest .0 .0 .0 .1), ne-eqb _ _ (c .before .match .rest .0 .0 .1), ne-eqb _ _ (c .before .match .rest .0 .1), ne-eqb _ _ (c .before .match .rest .1))
+    rw (
+      ne-eqb _ _ (c .before .match .rest .0 .0 .0 .0 .0 .0 .1),
+      ne-eqb _ _ (c .before .match .rest .0 .0 .0 .0 .0 .1),
+      ne-eqb _ _
+          (c .before .match .rest .0 .0 .0 .0 .1),
+      ne-eqb _ _ (c .before .match .rest .0 .0 .0 .1),
+      ne-eqb _ _ (c .before .match .rest .0 .0 .1),
+      ne-eqb _ _
+          (c .before .match .rest .0 .1),
+      ne-eqb _ _ (c .before .match .rest .1),
+    )
     (c .clock-value .ensures)
 
 pub word-value-spec : {M : Type 1} → statement M
@@ -58,12 +74,14 @@ word-value-spec =
     clock-status-requires
     returns
     returns-2
+    rx-of-requires
     cast-result
     returns-3
     pending-irq-requires
     returns-4
     returns-5
     returns-6
+    out-of-requires
     returns-7
     clock-value-requires
     returns-8)

@@ -1,4 +1,5 @@
-use Rattle.bus.proofs.Cases.{word-timer, word-day, word-lcd, word-adc, word-tick, word-power, word-spi, word-sound}
+use Rattle.bus.proofs.BankedWords.{keeping, timer-told, day-told, lcd-told, adc-worded, tick-told, power-told, spi-told, sound-told}
+use Rattle.state.specs.Bank.{partsIn}
 use borrow.Author.Needs.{needs}
 use Rattle.bus.proofs.words.word_write.Statement.{statement}
 use Rattle.bus.proofs.words.word_write.Tie as tie
@@ -11,9 +12,10 @@ timer-write-ctrl-requires c κs = search needs
 
 returns : tie.Need-returns
 returns c =
-    let a = (c .before .before .before .before .args) in
-    word-timer (a .own .now) (a .devices) (a .clock) (a .full) (a .word) (a .old) (a .new) (a .part) (c .before .before .before .control-at .ensures)
-    (c .before .before .if1 .taken) (c .timer-write-ctrl .ensures)
+    let a = (c .before .before .before .before .before .before .args) in
+    let x = partsIn (a .cells .now) (a .floats .now) in
+    timer-told (a .own .now) x (a .clock) (a .full) (a .word) (a .old) (a .new) (a .part)
+    (c .before .before .before .before .before .control-at .ensures) (c .before .before .before .before .if1 .taken) (c .timer-write-ctrl .ensures)
 
 field-at-requires : tie.Need-field-at-requires
 field-at-requires c κs = search needs
@@ -26,10 +28,12 @@ done-requires c κs = search needs
 
 returns-2 : tie.Need-returns-2
 returns-2 c =
-    let a = (c .before .before .before .before .before .before .args) in
-    word-day (a .own .now) (a .devices) (a .clock) (a .full) (a .word) (a .old) (a .new) (a .part)
-    (c .before .before .before .before .before .control-at .ensures) (c .before .before .before .before .if1 .left)
-    (c .before .before .before .field-at .ensures) (c .before .before .if2 .taken) (c .before .tod-write .ensures) (c .done .ensures)
+    let a = (c .before .before .before .before .before .before .before .before .args) in
+    let x = partsIn (a .cells .now) (a .floats .now) in
+    day-told (a .own .now) x (a .clock) (a .full) (a .word) (a .old) (a .new) (a .part)
+    (c .before .before .before .before .before .before .before .control-at .ensures) (c .before .before .before .before .before .before .if1 .left)
+    (c .before .before .before .before .before .field-at .ensures) (c .before .before .before .before .if2 .taken) (c .before .tod-write .ensures)
+    (c .done .ensures)
 
 own-insert-requires : tie.Need-own-insert-requires
 own-insert-requires c κs = search needs
@@ -40,10 +44,13 @@ done-requires-2 c κs = search needs
 returns-3 : tie.Need-returns-3
 returns-3 c =
     let a = (c .before .before .before .before .before .before .before .before .args) in
-    word-lcd (a .own .now) (a .devices) (a .clock) (a .full) (a .word) (a .old) (a .new) (a .part)
+    let x = partsIn (a .cells .now) (a .floats .now) in
+    keeping
+    (lcd-told (a .own .now) x (a .clock) (a .full) (a .word) (a .old) (a .new) (a .part)
     (c .before .before .before .before .before .before .before .control-at .ensures) (c .before .before .before .before .before .before .if1 .left)
-    (c .before .before .before .before .before .field-at .ensures) (c .before .before .before .before .if2 .left)
-    (c .before .before .before .match .keys1) (c .before .own-insert .ensures) (c .done2 .ensures)
+    (c .before .before .before .before .before .field-at .ensures) (c .before .before .before .before .if2 .left) (c .done2 .ensures)
+    (c .before .before .before .match .keys1) (c .before .own-insert .ensures))
+    (λ k. k)
 
 adc-write-requires : tie.Need-adc-write-requires
 adc-write-requires c κs = search needs
@@ -53,11 +60,13 @@ done-requires-3 c κs = search needs
 
 returns-4 : tie.Need-returns-4
 returns-4 c =
-    let a = (c .before .before .before .before .before .before .before .before .args) in
-    word-adc (a .own .now) (a .devices) (a .clock) (a .full) (a .word) (a .old) (a .new) (a .part)
-    (c .before .before .before .before .before .before .before .control-at .ensures) (c .before .before .before .before .before .before .if1 .left)
-    (c .before .before .before .before .before .field-at .ensures) (c .before .before .before .before .if2 .left)
-    (c .before .before .before .match .keys2) (c .before .adc-write .ensures) (c .done3 .ensures)
+    let a = (c .before .before .before .before .before .before .before .before .before .before .args) in
+    let x = partsIn (a .cells .now) (a .floats .now) in
+    adc-worded (a .own .now) x (a .clock) (a .full) (a .word) (a .old) (a .new) (a .part)
+    (c .before .before .before .before .before .before .before .before .before .control-at .ensures)
+    (c .before .before .before .before .before .before .before .before .if1 .left)
+    (c .before .before .before .before .before .before .before .field-at .ensures) (c .before .before .before .before .before .before .if2 .left)
+    (c .done3 .ensures) (c .before .before .before .before .before .match .keys2) (c .before .adc-write .ensures)
 
 own-insert-requires-2 : tie.Need-own-insert-requires-2
 own-insert-requires-2 c κs = search needs
@@ -68,10 +77,13 @@ done-requires-4 c κs = search needs
 returns-5 : tie.Need-returns-5
 returns-5 c =
     let a = (c .before .before .before .before .before .before .before .before .args) in
-    word-tick (a .own .now) (a .devices) (a .clock) (a .full) (a .word) (a .old) (a .new) (a .part)
+    let x = partsIn (a .cells .now) (a .floats .now) in
+    keeping
+    (tick-told (a .own .now) x (a .clock) (a .full) (a .word) (a .old) (a .new) (a .part)
     (c .before .before .before .before .before .before .before .control-at .ensures) (c .before .before .before .before .before .before .if1 .left)
-    (c .before .before .before .before .before .field-at .ensures) (c .before .before .before .before .if2 .left)
-    (c .before .before .before .match .keys3) (c .before .own-insert2 .ensures) (c .done4 .ensures)
+    (c .before .before .before .before .before .field-at .ensures) (c .before .before .before .before .if2 .left) (c .done4 .ensures)
+    (c .before .before .before .match .keys3) (c .before .own-insert2 .ensures))
+    (λ k. k)
 
 own-insert-requires-3 : tie.Need-own-insert-requires-3
 own-insert-requires-3 c κs = search needs
@@ -84,12 +96,15 @@ done-requires-5 c κs = search needs
 
 returns-6 : tie.Need-returns-6
 returns-6 c =
-    let a = (c .before .before .before .before .before .before .before .before .before .args) in
-    word-power (a .own .now) (a .devices) (a .clock) (a .full) (a .word) (a .old) (a .new) (a .part)
-    (c .before .before .before .before .before .before .before .before .control-at .ensures)
-    (c .before .before .before .before .before .before .before .if1 .left) (c .before .before .before .before .before .before .field-at .ensures)
-    (c .before .before .before .before .before .if2 .left) (c .before .before .before .before .match .keys4) (c .before .before .own-insert3 .ensures)
-    (c .before .power .ensures) (c .done5 .ensures)
+    let a = (c .before .before .before .before .before .before .before .before .before .before .before .args) in
+    let x = partsIn (a .cells .now) (a .floats .now) in
+    power-told (a .own .now) x (a .clock) (a .full) (a .word) (a .old) (a .new) (a .part)
+    (c .before .before .before .before .before .before .before .before .before .before .control-at .ensures)
+    (c .before .before .before .before .before .before .before .before .before .if1 .left)
+    (c .before .before .before .before .before .before .before .before .field-at .ensures)
+    (c .before .before .before .before .before .before .before .if2 .left) (c .done5 .ensures)
+    (c .before .before .before .before .before .before .match .keys4) (c .before .before .before .before .own-insert3 .ensures)
+    (c .before .power .ensures)
 
 spi-sent-requires : tie.Need-spi-sent-requires
 spi-sent-requires c κs = search needs
@@ -100,22 +115,27 @@ done-requires-6 c κs = search needs
 returns-7 : tie.Need-returns-7
 returns-7 c =
     let a = (c .before .before .before .before .before .before .before .before .args) in
-    word-spi (a .own .now) (a .devices) (a .clock) (a .full) (a .word) (a .old) (a .new) (a .part)
+    let x = partsIn (a .cells .now) (a .floats .now) in
+    keeping
+    (spi-told (a .own .now) x (a .clock) (a .full) (a .word) (a .old) (a .new) (a .part)
     (c .before .before .before .before .before .before .before .control-at .ensures) (c .before .before .before .before .before .before .if1 .left)
-    (c .before .before .before .before .before .field-at .ensures) (c .before .before .before .before .if2 .left)
-    (c .before .before .before .match .keys5) (c .before .spi-sent .ensures) (c .done6 .ensures)
+    (c .before .before .before .before .before .field-at .ensures) (c .before .before .before .before .if2 .left) (c .done6 .ensures)
+    (c .before .before .before .match .keys5) (c .before .spi-sent .ensures))
+    (λ k. k)
 
 sound-write-requires : tie.Need-sound-write-requires
 sound-write-requires c κs = search needs
 
 returns-8 : tie.Need-returns-8
 returns-8 c =
-    let a = (c .before .before .before .before .before .before .before .args) in
-    word-sound (a .own .now) (a .devices) (a .clock) (a .full) (a .word) (a .old) (a .new) (a .part)
-    (c .before .before .before .before .before .before .control-at .ensures) (c .before .before .before .before .before .if1 .left)
-    (c .before .before .before .before .field-at .ensures) (c .before .before .before .if2 .left) (c .before .before .match .rest .0 .0 .0 .0 .1)
-    (c .before .before .match .rest .0 .0 .0 .1) (c .before .before .match .rest .0 .0 .1) (c .before .before .match .rest .0 .1)
-    (c .before .before .match .rest .1) (c .sound-write .ensures)
+    let a = (c .before .before .before .before .before .before .before .before .before .args) in
+    let x = partsIn (a .cells .now) (a .floats .now) in
+    sound-told (a .own .now) x (a .clock) (a .full) (a .word) (a .old) (a .new) (a .part)
+    (c .before .before .before .before .before .before .before .before .control-at .ensures)
+    (c .before .before .before .before .before .before .before .if1 .left) (c .before .before .before .before .before .before .field-at .ensures)
+    (c .before .before .before .before .before .if2 .left) (c .before .before .before .before .match .rest .0 .0 .0 .0 .1)
+    (c .before .before .before .before .match .rest .0 .0 .0 .1) (c .before .before .before .before .match .rest .0 .0 .1)
+    (c .before .before .before .before .match .rest .0 .1) (c .before .before .before .before .match .rest .1) (c .sound-write .ensures)
 
 pub word-write-spec : {M : Type 1} → statement M
 word-write-spec =

@@ -1,6 +1,7 @@
-use Rattle.bus.proofs.Cases.{reg-merged}
-use Rattle.bus.specs.World.{world}
+use Rattle.bus.proofs.BankedWrites.{merged-told}
+use Rattle.state.specs.Bank.{partsIn}
 use Rattle.registers.specs.Words.{registersOf}
+use Rattle.bus.specs.World.{world}
 use borrow.Author.Needs.{needs}
 use Rattle.bus.proofs.write.mmio_write.Statement.{statement}
 use Rattle.bus.proofs.write.mmio_write.Tie as tie
@@ -28,12 +29,17 @@ same-length-2 c = search needs
 
 returns : tie.Need-returns
 returns c =
-    let a = (c .before .before .before .before .before .before .before .before .before .before .before .before .before .before .before .before .before .before .before .before .before .before .args) in
-    let w = world (registersOf (a .own .now) (a .addresses .now) (a .values .now)) (a .rtc .now) (a .page .now) (a .ram .now) (a .sram .now) (a .gpio .now) (a .fb .now) (a .devices) in
-    reg-merged w (a .full) (a .addr) (a .size) (a .value)
-    (c .before .before .before .before .before .before .before .before .before .before .before .before .before .before .reg .ensures)
-    (c .before .before .before .before .before .before .before .before .before .before .before .before .before .merged .ensures)
-    (c .before .before .before .before .before .before .before .before .before .before .before .before .written .ensures)
+    let a =
+    (c .before .before .before .before .before .before .before .before .before .before .before .before .before .before .before .before .before .before
+    .before .before .before .before .before .before .args)
+    in
+    let r = registersOf (a .own .now) (a .addresses .now) (a .values .now) in
+    let x = partsIn (a .cells .now) (a .floats .now) in
+    merged-told (world r (a .rtc .now) (a .page .now) (a .ram .now) (a .sram .now) (a .gpio .now) (a .fb .now) (x .devices)) x (a .full) (a .addr)
+    (a .size) (a .value)
+    (c .before .before .before .before .before .before .before .before .before .before .before .before .before .before .before .before .reg .ensures)
+    (c .before .before .before .before .before .before .before .before .before .before .before .before .before .before .before .merged .ensures)
+    (c .before .before .before .before .before .before .before .before .before .before .before .before .before .before .written .ensures)
     (c .before .before .before .before .port-write .ensures)
 
 pub mmio-write-spec : {M : Type 1} → statement M

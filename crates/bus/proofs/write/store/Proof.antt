@@ -1,4 +1,4 @@
-use Rattle.bus.proofs.Cases.{store-done, store-full}
+use Rattle.bus.proofs.BankedWrites.{store-told, full-stored}
 use Rattle.registers.specs.Words.{registersOf}
 use borrow.Author.Needs.{needs}
 use Rattle.bus.proofs.write.store.Statement.{statement}
@@ -22,14 +22,14 @@ refused-requires c κs = search needs
 returns : tie.Need-returns
 returns c =
     let a = (c .before .before .before .before .before .before .before .args) in
-    let r = registersOf (a .own .now) (a .addresses .now) (a .values .now) in
-    store-done r (a .devices) (a .word) (a .new) (c .before .before .before .insert .ensures) (c .before .enum-told .given .1) (c .done .ensures)
+    store-told (registersOf (a .own .now) (a .addresses .now) (a .values .now)) (a .word) (a .new) (c .before .before .before .insert .ensures)
+    (c .before .enum-told .given .1) (c .done .ensures)
 
 returns-2 : tie.Need-returns-2
 returns-2 c =
     let a = (c .before .before .before .before .before .before .before .args) in
-    let r = registersOf (a .own .now) (a .addresses .now) (a .values .now) in
-    store-full r (a .devices) (a .word) (a .new) (c .before .before .before .insert .ensures) (c .before .enum-told2 .given .1) (c .refused .ensures)
+    full-stored (registersOf (a .own .now) (a .addresses .now) (a .values .now)) (a .word) (a .new) (c .before .before .before .insert .ensures)
+    (c .before .enum-told2 .given .1) (c .refused .ensures)
 
 pub store-spec : {M : Type 1} → statement M
 store-spec =

@@ -15,23 +15,17 @@ steps-requires c κs = search needs
 returns-2 : tie.Need-returns-2
 returns-2 c = bad-steps _ _ (c .before .before .before .presses .ensures) (c .before .before .if1 .left) _ (c .before .steps .ensures) (c .if2 .taken)
 
+mul-from : tie.Need-mul-from
+mul-from c = search needs
+
+add-from : tie.Need-add-from
+add-from c = search needs
+
 mul-if3 : tie.Need-mul-if3
 mul-if3 c = search needs
 
 add-if3 : tie.Need-add-if3
 add-if3 c = search needs
-
-mul-if3-2 : tie.Need-mul-if3-2
-mul-if3-2 c = search needs
-
-add-if3-2 : tie.Need-add-if3-2
-add-if3-2 c = search needs
-
-mul-kinds : tie.Need-mul-kinds
-mul-kinds c = search needs
-
-add-kinds : tie.Need-add-kinds
-add-kinds c = search needs
 
 kinds-requires : tie.Need-kinds-requires
 kinds-requires c κs = search needs
@@ -54,12 +48,10 @@ bad-script-spec =
     returns
     steps-requires
     returns-2
+    mul-from
+    add-from
     mul-if3
     add-if3
-    mul-if3-2
-    add-if3-2
-    mul-kinds
-    add-kinds
     kinds-requires
     returns-3
     returns-4)

@@ -1,6 +1,6 @@
-use Rattle.script.proofs.Runs.{few-presses, few, long, run-bad, run-short, run-done}
-use native.Mathlib.Omega.{arith}
 use mathlib.Core.Path.{_∙_}
+use native.Mathlib.Omega.{arith}
+use Rattle.script.proofs.Runs.{few-presses, few, long, known, run-bad, run-short, run-done}
 use borrow.Author.Needs.{needs}
 use Rattle.script.proofs.run.run.Statement.{statement}
 use Rattle.script.proofs.run.run.Tie as tie
@@ -18,44 +18,29 @@ steps-requires : tie.Need-steps-requires
 steps-requires c κs = few-presses _ (c .before .before .bad-script .ensures) (c .before .if1 .left) (c .presses .ensures)
 
 add-n : tie.Need-add-n
-add-n c =
-    let f = few _ (c .before .before .before .bad-script .ensures) (c .before .before .if1 .left) (c .before .presses .ensures) (c .steps .ensures) in
-    omega arith
+add-n c = let f = few _ (c .before .before .before .bad-script .ensures) (c .before .before .if1 .left) (c .before .presses .ensures) (c .steps .ensures) in omega arith
 
 mul-if2 : tie.Need-mul-if2
-mul-if2 c =
-    let f = few _ (c .before .before .before .bad-script .ensures) (c .before .before .if1 .left) (c .before .presses .ensures) (c .steps .ensures) in
-    omega arith
+mul-if2 c = let f = few _ (c .before .before .before .bad-script .ensures) (c .before .before .if1 .left) (c .before .presses .ensures) (c .steps .ensures) in omega arith
 
 add-if2 : tie.Need-add-if2
-add-if2 c =
-    let f = few _ (c .before .before .before .bad-script .ensures) (c .before .before .if1 .left) (c .before .presses .ensures) (c .steps .ensures) in
-    omega arith
+add-if2 c = let f = few _ (c .before .before .before .bad-script .ensures) (c .before .before .if1 .left) (c .before .presses .ensures) (c .steps .ensures) in omega arith
 
 returns-2 : tie.Need-returns-2
-returns-2 c =
-    run-short _ _ _ _ _ _ (c .before .before .before .before .bad-script .ensures) (c .before .before .before .if1 .left)
-    (c .before .before .presses .ensures) (c .before .steps .ensures) (c .if2 .taken)
+returns-2 c = run-short _ _ _ _ _ _ (c .before .before .before .before .bad-script .ensures) (c .before .before .before .if1 .left) (c .before .before .presses .ensures) (c .before .steps .ensures) (c .if2 .taken)
 
 cast-store : tie.Need-cast-store
-cast-store c =
-    let u = c .before .before in
-    let f = few _ (u .before .before .before .bad-script .ensures) (u .before .before .if1 .left) (u .before .presses .ensures) (u .steps .ensures) in
-    omega arith
+cast-store c = let f = few _ (c .before .before .before .before .before .bad-script .ensures) (c .before .before .before .before .if1 .left) (c .before .before .before .presses .ensures) (c .before .before .steps .ensures) in omega arith
 
 store-requires : tie.Need-store-requires
 store-requires c κs = search needs
 
-reset-requires : tie.Need-reset-requires
-reset-requires c κs = search needs
-
-run-all-requires : tie.Need-run-all-requires
-run-all-requires c κs =
-    let w = c .before .before .before .before .before .before .before .before .before .before .before .before .before .before .before .before .before .before .before .before .before .before .before .before .before .before .before .before in
-    let u = w .before .before .before in
-    let f = few _ (u .before .before .before .bad-script .ensures) (u .before .before .if1 .left) (u .before .presses .ensures) (u .steps .ensures) in
-    let l = long _ (u .before .before .before .bad-script .ensures) (u .before .before .if1 .left) (u .before .presses .ensures) (u .steps .ensures) in
-    (f .0, omega (arith, f .1), omega (arith, l), omega (arith, (w .before .before .if2 .left), (w .store .kept .0)))
+run-fresh-requires : tie.Need-run-fresh-requires
+run-fresh-requires c κs =
+    let f = few _ (c .before .before .before .before .before .before .before .before .before .before .before .before .before .bad-script .ensures) (c .before .before .before .before .before .before .before .before .before .before .before .before .if1 .left) (c .before .before .before .before .before .before .before .before .before .before .before .presses .ensures) (c .before .before .before .before .before .before .before .before .before .before .steps .ensures) in
+    let l = long _ (c .before .before .before .before .before .before .before .before .before .before .before .before .before .bad-script .ensures) (c .before .before .before .before .before .before .before .before .before .before .before .before .if1 .left) (c .before .before .before .before .before .before .before .before .before .before .before .presses .ensures) (c .before .before .before .before .before .before .before .before .before .before .steps .ensures) in
+    let k = known _ (c .before .before .before .before .before .before .before .before .before .before .before .before .before .bad-script .ensures) (c .before .before .before .before .before .before .before .before .before .before .before .before .if1 .left) (c .before .before .before .before .before .before .before .before .before .before .before .presses .ensures) (c .before .before .before .before .before .before .before .before .before .before .steps .ensures) in
+    (f .0, omega (arith, f .1), omega (arith, l), omega (arith, (c .before .before .before .before .before .before .before .before .before .if2 .left), (c .before .before .before .before .before .before .before .store .kept .0)), k)
 
 same-length : tie.Need-same-length
 same-length c = search needs
@@ -70,26 +55,10 @@ same-length-4 : tie.Need-same-length-4
 same-length-4 c = search needs
 
 same-length-5 : tie.Need-same-length-5
-same-length-5 c =
-    let u = c .before .before .before .before .before .before .before .before .before .before in
-    let v = u .before .before .before .before .before .before .before .before .before .before .before .before .before .before .before .before .before .before .before .before .before .before .before .before .before .before .before .before .before in
-    (u .run-all .kept .1 .1 .1 .1 .1 .1 .1 .1 .1 .1 .1 .1 .1 .1 .1 .1 .1 .1 .0) ∙ (v .store .kept .0)
+same-length-5 c = (c .before .before .before .before .before .before .before .before .before .before .run-fresh .kept .1 .1 .1 .1 .1 .1 .1 .0) ∙ (c .before .before .before .before .before .before .before .before .before .before .before .before .before .before .before .before .before .before .store .kept .0)
 
 returns-3 : tie.Need-returns-3
-returns-3 c =
-    let u = c .before .before .before .before .before .before .before .before .before .before in
-    let v = u .before .before .before .before .before .before .before .before .before .before .before .before .before .before .before .before in
-    let w = v .before .before .before .before .before .before .before .before .before .before .before .before .before in
-    let x = w .before .before .before .before in
-    run-done _ _ _ _ _ _
-    (x .before .before .bad-script .ensures)
-    (x .before .if1 .left)
-    (x .presses .ensures)
-    (w .before .before .before .steps .ensures)
-    (w .before .before .if2 .left)
-    (w .store .ensures)
-    (v .reset .ensures)
-    (u .run-all .ensures)
+returns-3 c = run-done _ _ _ _ _ _ (c .before .before .before .before .before .before .before .before .before .before .before .before .before .before .before .before .before .before .before .before .before .before .before .before .bad-script .ensures) (c .before .before .before .before .before .before .before .before .before .before .before .before .before .before .before .before .before .before .before .before .before .before .before .if1 .left) (c .before .before .before .before .before .before .before .before .before .before .before .before .before .before .before .before .before .before .before .before .before .before .presses .ensures) (c .before .before .before .before .before .before .before .before .before .before .before .before .before .before .before .before .before .before .before .before .before .steps .ensures) (c .before .before .before .before .before .before .before .before .before .before .before .before .before .before .before .before .before .before .before .before .if2 .left) (c .before .before .before .before .before .before .before .before .before .before .before .before .before .before .before .before .before .before .store .ensures) (c .before .before .before .before .before .before .before .before .before .before .run-fresh .ensures)
 
 pub run-spec : {M : Type 1} → statement M
 run-spec =
@@ -105,8 +74,7 @@ run-spec =
     returns-2
     cast-store
     store-requires
-    reset-requires
-    run-all-requires
+    run-fresh-requires
     same-length
     same-length-2
     same-length-3

@@ -1,24 +1,34 @@
-use Rattle.system.proofs.Cases.{press-done}
+use Rattle.system.proofs.Banks.{press-done}
+use mathlib.Core.Path.{_∙_}
 use borrow.Author.Needs.{needs}
 use Rattle.system.proofs.buttons.press.Statement.{statement}
 use Rattle.system.proofs.buttons.press.Tie as tie
 
+parts-of-requires : tie.Need-parts-of-requires
+parts-of-requires c κs = search needs
+
+put-parts-requires : tie.Need-put-parts-requires
+put-parts-requires c κs = search needs
+
 press-requires : tie.Need-press-requires
 press-requires c κs = search needs
 
-with-keys-requires : tie.Need-with-keys-requires
-with-keys-requires c κs = search needs
+parts-of-requires-2 : tie.Need-parts-of-requires-2
+parts-of-requires-2 c κs = search needs
 
-key-number-requires : tie.Need-key-number-requires
-key-number-requires c κs = search needs
+with-parts-requires : tie.Need-with-parts-requires
+with-parts-requires c κs = search needs
 
 returns : tie.Need-returns
-returns c =
-    press-done ((c .before .before .before .before .before .before .before .before .before .before .before .before .args) .s)
-    ((c .before .before .press .result) .refusal) (c .key-number .ensures)
-    ((c .before .before .before .before .before .before .before .before .before .before .before .before .args) .key)
-    ((c .before .before .before .before .before .before .before .before .before .before .before .before .args) .at)
-    (c .before .before .press .ensures) (c .before .with-keys .ensures)
+returns c = let a = (c .before .before .before .before .before .before .before .before .before .before .before .before .before .before .before .before .args) in rw ((c .with-parts .ensures), (c .before .parts-of2 .ensures)) (press-done (a .s) (a .key) (a .at) ((c .before .before .before .before .before .before .before .before .before .put-parts .ensures .2) ∙ (c .before .before .before .before .before .before .before .before .before .before .parts-of .ensures)) ((c .before .before .before .before .press .ensures .0)))
 
 pub press-spec : {M : Type 1} → statement M
-press-spec = tie.close (tie.spec press-requires with-keys-requires key-number-requires returns)
+press-spec =
+    tie.close
+    (tie.spec
+    parts-of-requires
+    put-parts-requires
+    press-requires
+    parts-of-requires-2
+    with-parts-requires
+    returns)

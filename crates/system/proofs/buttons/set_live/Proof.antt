@@ -1,22 +1,34 @@
-use Rattle.system.proofs.Cases.{live-done}
+use Rattle.system.proofs.Banks.{live-done}
+use mathlib.Core.Path.{_∙_}
 use borrow.Author.Needs.{needs}
 use Rattle.system.proofs.buttons.set_live.Statement.{statement}
 use Rattle.system.proofs.buttons.set_live.Tie as tie
 
+parts-of-requires : tie.Need-parts-of-requires
+parts-of-requires c κs = search needs
+
+put-parts-requires : tie.Need-put-parts-requires
+put-parts-requires c κs = search needs
+
 set-live-requires : tie.Need-set-live-requires
 set-live-requires c κs = search needs
 
-key-number-requires : tie.Need-key-number-requires
-key-number-requires c κs = search needs
+parts-of-requires-2 : tie.Need-parts-of-requires-2
+parts-of-requires-2 c κs = search needs
 
-with-keys-requires : tie.Need-with-keys-requires
-with-keys-requires c κs = search needs
+with-parts-requires : tie.Need-with-parts-requires
+with-parts-requires c κs = search needs
 
 returns : tie.Need-returns
-returns c =
-    live-done ((c .before .before .before .args) .s) ((c .before .before .set-live .result) .refusal) (c .before .key-number .ensures)
-    ((c .before .before .before .args) .key) ((c .before .before .before .args) .down) (c .before .before .set-live .ensures) (c .with-keys .ensures)
+returns c = let a = (c .before .before .before .before .before .before .before .before .before .before .before .args) in rw ((c .with-parts .ensures), (c .before .parts-of2 .ensures)) (live-done (a .s) ((c .before .before .before .before .before .before .before .put-parts .ensures .2) ∙ (c .before .before .before .before .before .before .before .before .parts-of .ensures)) (a .key) (a .down) ((c .before .before .before .before .set-live .ensures .0)))
 
 pub set-live-spec : {M : Type 1} → statement M
 set-live-spec =
-    tie.close (tie.spec set-live-requires key-number-requires with-keys-requires returns)
+    tie.close
+    (tie.spec
+    parts-of-requires
+    put-parts-requires
+    set-live-requires
+    parts-of-requires-2
+    with-parts-requires
+    returns)

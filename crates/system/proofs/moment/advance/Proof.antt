@@ -1,10 +1,14 @@
-use Rattle.system.proofs.Cases.{advance-done}
+use Rattle.system.proofs.Banks.{advance-done}
+use mathlib.Core.Path.{_∙_}
 use borrow.Author.Needs.{needs}
 use Rattle.system.proofs.moment.advance.Statement.{statement}
 use Rattle.system.proofs.moment.advance.Tie as tie
 
-load-requires : tie.Need-load-requires
-load-requires c κs = search needs
+parts-of-requires : tie.Need-parts-of-requires
+parts-of-requires c κs = search needs
+
+put-parts-requires : tie.Need-put-parts-requires
+put-parts-requires c κs = search needs
 
 advance-requires : tie.Need-advance-requires
 advance-requires c κs = search needs
@@ -12,31 +16,27 @@ advance-requires c κs = search needs
 with-own-requires : tie.Need-with-own-requires
 with-own-requires c κs = search needs
 
-with-clocks-requires : tie.Need-with-clocks-requires
-with-clocks-requires c κs = search needs
+parts-of-requires-2 : tie.Need-parts-of-requires-2
+parts-of-requires-2 c κs = search needs
 
-with-keys-requires : tie.Need-with-keys-requires
-with-keys-requires c κs = search needs
+with-parts-requires : tie.Need-with-parts-requires
+with-parts-requires c κs = search needs
 
 same-length : tie.Need-same-length
 same-length c = search needs
 
 returns : tie.Need-returns
-returns c =
-    let a = (c .before .before .before .before .before .before .before .before .before .before .before .before .before .before .before .before .before .before .before .before .before .args) in
-    advance-done (a .s) (a .sram .now) (a .gpio .now) (a .to)
-    (c .before .before .before .before .before .before .before .before .before .before .load .ensures)
-    (c .before .before .before .before .before .advance .ensures) (c .before .before .with-own .ensures) (c .before .with-clocks .ensures)
-    (c .with-keys .ensures)
+returns c = let a = (c .before .before .before .before .before .before .before .before .before .before .before .before .before .before .before .before .before .before .before .before .before .before .before .before .before .args) in rw ((c .with-parts .ensures), (c .before .before .before .before .with-own .ensures), (c .before .parts-of2 .ensures)) (advance-done (a .s) (a .sram .now) (a .gpio .now) (a .to) ((c .before .before .before .before .before .before .before .before .before .before .before .before .before .before .put-parts .ensures .2) ∙ (c .before .before .before .before .before .before .before .before .before .before .before .before .before .before .before .parts-of .ensures)) ((c .before .before .before .before .before .before .before .advance .ensures .0)))
 
 pub advance-spec : {M : Type 1} → statement M
 advance-spec =
     tie.close
     (tie.spec
-    load-requires
+    parts-of-requires
+    put-parts-requires
     advance-requires
     with-own-requires
-    with-clocks-requires
-    with-keys-requires
+    parts-of-requires-2
+    with-parts-requires
     same-length
     returns)

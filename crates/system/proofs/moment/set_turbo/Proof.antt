@@ -1,32 +1,34 @@
-use Rattle.system.proofs.Cases.{turbo-set, turbo-bad}
+use Rattle.system.proofs.Banks.{turbo-done}
+use mathlib.Core.Path.{_∙_}
 use borrow.Author.Needs.{needs}
 use Rattle.system.proofs.moment.set_turbo.Statement.{statement}
 use Rattle.system.proofs.moment.set_turbo.Tie as tie
 
+parts-of-requires : tie.Need-parts-of-requires
+parts-of-requires c κs = search needs
+
+put-parts-requires : tie.Need-put-parts-requires
+put-parts-requires c κs = search needs
+
 set-turbo-requires : tie.Need-set-turbo-requires
 set-turbo-requires c κs = search needs
 
-enum-known-paced : tie.Need-enum-known-paced
-enum-known-paced c = search needs
+parts-of-requires-2 : tie.Need-parts-of-requires-2
+parts-of-requires-2 c κs = search needs
 
-with-times-requires : tie.Need-with-times-requires
-with-times-requires c κs = search needs
-
-enum-told : tie.Need-enum-told
-enum-told c = search needs
+with-parts-requires : tie.Need-with-parts-requires
+with-parts-requires c κs = search needs
 
 returns : tie.Need-returns
-returns c =
-    turbo-set ((c .before .before .before .before .before .before .before .args) .s)
-    ((c .before .before .before .before .before .before .before .args) .to) (c .before .before .before .before .set-turbo .ensures)
-    (c .before .before .paced .given .1) (c .with-times .ensures)
-
-returns-2 : tie.Need-returns-2
-returns-2 c =
-    turbo-bad ((c .before .before .before .before .before .args) .s) ((c .before .before .before .before .before .args) .to)
-    (c .before .before .set-turbo .ensures) (c .enum-told .given .1)
+returns c = let a = (c .before .before .before .before .before .before .before .before .before .before .args) in rw ((c .with-parts .ensures), (c .before .parts-of2 .ensures)) (turbo-done (a .s) (a .to) ((c .before .before .before .before .before .before .put-parts .ensures .2) ∙ (c .before .before .before .before .before .before .before .parts-of .ensures)) ((c .before .before .before .before .set-turbo .ensures) _ .0))
 
 pub set-turbo-spec : {M : Type 1} → statement M
 set-turbo-spec =
     tie.close
-    (tie.spec set-turbo-requires enum-known-paced with-times-requires enum-told returns returns-2)
+    (tie.spec
+    parts-of-requires
+    put-parts-requires
+    set-turbo-requires
+    parts-of-requires-2
+    with-parts-requires
+    returns)

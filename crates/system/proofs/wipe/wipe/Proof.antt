@@ -1,4 +1,4 @@
-use Rattle.system.specs.Calls.{wipedOf}
+use Rattle.system.proofs.Banks.{wiped-by}
 use borrow.Author.Needs.{needs}
 use Rattle.system.proofs.wipe.wipe.Statement.{statement}
 use Rattle.system.proofs.wipe.wipe.Tie as tie
@@ -19,8 +19,7 @@ fresh-requires : tie.Need-fresh-requires
 fresh-requires c κs = search needs
 
 same-length : tie.Need-same-length
-same-length c =
-    (c .before .before .before .before .before .before .before .before .before .before .before .before .before .before .before .clear .kept .0)
+same-length c = ((c .before .before .before .before .before .before .before .before .before .before .before .before .before .before .before .clear .kept .0))
 
 same-length-2 : tie.Need-same-length-2
 same-length-2 c = search needs
@@ -32,10 +31,7 @@ same-length-4 : tie.Need-same-length-4
 same-length-4 c = search needs
 
 returns : tie.Need-returns
-unfolding wipedOf
-returns c =
-    rw
-    ((c .before .before .before .before .before .before .before .before .before .before .before .before .before .before .before .clear .ensures), (c .before .before .before .before .before .before .before .before .before .before .before .clear2 .ensures), (c .before .before .before .before .before .before .before .clear3 .ensures), (c .before .before .before .clear4 .ensures), (c .fresh .ensures))
+returns c = let a = (c .before .before .before .before .before .before .before .before .before .before .before .before .before .before .before .before .before .before .before .before .before .args) in wiped-by (a .ram .now) (a .sram .now) (a .gpio .now) (a .fb .now) ((c .before .before .before .before .before .before .before .before .before .before .before .before .before .before .before .clear .ensures)) ((c .before .before .before .before .before .before .before .before .before .before .before .clear2 .ensures)) ((c .before .before .before .before .before .before .before .clear3 .ensures)) ((c .before .before .before .clear4 .ensures)) ((c .fresh .ensures))
 
 pub wipe-spec : {M : Type 1} → statement M
 wipe-spec =

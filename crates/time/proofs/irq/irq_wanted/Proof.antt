@@ -11,7 +11,7 @@ pending-irq-requires c κs = search needs
 
 returns : tie.Need-returns
 unfolding wantedOf
-returns c = rw (c .before .own-reg .ensures, c .pending-irq .ensures)
+returns c = λ f. rw ((c .before .own-reg .ensures), (c .pending-irq .ensures) f)
 
 pub irq-wanted-spec : {M : Type 1} → statement M
 irq-wanted-spec = tie.close (tie.spec own-reg-requires pending-irq-requires returns)

@@ -23,18 +23,7 @@ first-requires c κs = search needs
 
 returns : tie.Need-returns
 unfolding pendingOf
-returns c =
-    let at-lcd = c .before .before in
-    let at-timer = at-lcd .before in
-    let at-rtc = at-timer .before in
-    rw (
-      c .first .ensures,
-      at-rtc .before .own-reg .ensures,
-      at-rtc .rtc-irq-line .ensures,
-      at-timer .timer-irq-line .ensures,
-      at-lcd .lcd-irq-line .ensures,
-      c .before .adc-irq-line .ensures,
-    )
+returns c = λ f. rw ((c .first .ensures), (c .before .before .before .before .before .own-reg .ensures), (c .before .before .before .before .rtc-irq-line .ensures), (c .before .before .before .timer-irq-line .ensures) f, (c .before .before .lcd-irq-line .ensures), (c .before .adc-irq-line .ensures))
 
 pub pending-irq-spec : {M : Type 1} → statement M
 pending-irq-spec =

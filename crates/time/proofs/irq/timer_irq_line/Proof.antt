@@ -3,36 +3,36 @@ use borrow.Author.Needs.{needs}
 use Rattle.time.proofs.irq.timer_irq_line.Statement.{statement}
 use Rattle.time.proofs.irq.timer_irq_line.Tie as tie
 
-array-copy-out-a : tie.Need-array-copy-out-a
-array-copy-out-a c = search needs
+pending-of-requires : tie.Need-pending-of-requires
+pending-of-requires c κs = search needs
 
-array-copy-out-b : tie.Need-array-copy-out-b
-array-copy-out-b c = search needs
+pending-of-requires-2 : tie.Need-pending-of-requires-2
+pending-of-requires-2 c κs = search needs
 
-array-copy-out-c : tie.Need-array-copy-out-c
-array-copy-out-c c = search needs
+pending-of-requires-3 : tie.Need-pending-of-requires-3
+pending-of-requires-3 c κs = search needs
 
-array-copy-out-d : tie.Need-array-copy-out-d
-array-copy-out-d c = search needs
+pending-of-requires-4 : tie.Need-pending-of-requires-4
+pending-of-requires-4 c κs = search needs
 
-array-copy-out-e : tie.Need-array-copy-out-e
-array-copy-out-e c = search needs
+pending-of-requires-5 : tie.Need-pending-of-requires-5
+pending-of-requires-5 c κs = search needs
 
-array-copy-out-f : tie.Need-array-copy-out-f
-array-copy-out-f c = search needs
+pending-of-requires-6 : tie.Need-pending-of-requires-6
+pending-of-requires-6 c κs = search needs
 
 returns : tie.Need-returns
 unfolding timerLine
-returns c = search needs
+returns c = λ f. rw ((c .before .before .before .before .before .pending-of .ensures) f, (c .before .before .before .before .pending-of2 .ensures) f, (c .before .before .before .pending-of3 .ensures) f, (c .before .before .pending-of4 .ensures) f, (c .before .pending-of5 .ensures) f, (c .pending-of6 .ensures) f)
 
 pub timer-irq-line-spec : {M : Type 1} → statement M
 timer-irq-line-spec =
     tie.close
     (tie.spec
-    array-copy-out-a
-    array-copy-out-b
-    array-copy-out-c
-    array-copy-out-d
-    array-copy-out-e
-    array-copy-out-f
+    pending-of-requires
+    pending-of-requires-2
+    pending-of-requires-3
+    pending-of-requires-4
+    pending-of-requires-5
+    pending-of-requires-6
     returns)

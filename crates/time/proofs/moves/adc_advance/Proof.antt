@@ -1,4 +1,5 @@
-use Rattle.time.proofs.Cases.{converted-after}
+use Rattle.time.proofs.Clockwork.{adc-went}
+use Rattle.state.specs.Bank.{partsIn}
 use borrow.Author.Needs.{needs}
 use Rattle.time.proofs.moves.adc_advance.Statement.{statement}
 use Rattle.time.proofs.moves.adc_advance.Tie as tie
@@ -9,6 +10,9 @@ own-reg-requires c κs = search needs
 own-reg-requires-2 : tie.Need-own-reg-requires-2
 own-reg-requires-2 c κs = search needs
 
+converting-of-requires : tie.Need-converting-of-requires
+converting-of-requires c κs = search needs
+
 adc-advance-requires : tie.Need-adc-advance-requires
 adc-advance-requires c κs = search needs
 
@@ -18,14 +22,11 @@ own-insert-requires c κs = search needs
 own-insert-requires-2 : tie.Need-own-insert-requires-2
 own-insert-requires-2 c κs = search needs
 
+put-converting-requires : tie.Need-put-converting-requires
+put-converting-requires c κs = search needs
+
 returns : tie.Need-returns
-returns c =
-    let at-insert = c .before .before in
-    let at-adc = at-insert .before .before in
-    let at-result = at-adc .before in
-    let at-control = at-result .before .before in
-    converted-after _ _ _ _ _ _ _ (at-control .own-reg .ensures) (at-result .own-reg2 .ensures) (at-adc .adc-advance .ensures)
-    (at-insert .own-insert .ensures) (c .own-insert2 .ensures)
+returns c = λ f. let a = (c .before .before .before .before .before .before .before .before .before .before .before .before .before .args) in (adc-went (a .own .now) (partsIn (a .cells .now) f) ((c .before .before .before .before .before .before .before .before .before .before .before .own-reg .ensures)) ((c .before .before .before .before .before .before .before .before .before .own-reg2 .ensures)) ((c .before .before .before .before .before .before .before .converting-of .ensures)) ((c .before .before .before .before .before .before .adc-advance .ensures)) ((c .before .before .before .before .own-insert .ensures)) ((c .before .before .own-insert2 .ensures)) ((c .put-converting .ensures) f .parts), (c .put-converting .ensures) f .kept)
 
 pub adc-advance-spec : {M : Type 1} → statement M
 adc-advance-spec =
@@ -33,7 +34,9 @@ adc-advance-spec =
     (tie.spec
     own-reg-requires
     own-reg-requires-2
+    converting-of-requires
     adc-advance-requires
     own-insert-requires
     own-insert-requires-2
+    put-converting-requires
     returns)

@@ -1,4 +1,5 @@
-use Rattle.time.proofs.Cases.{devices-after}
+use Rattle.time.proofs.Clockwork.{devices-went}
+use Rattle.state.specs.Bank.{partsIn}
 use borrow.Author.Needs.{needs}
 use Rattle.time.proofs.moves.devices_advance.Statement.{statement}
 use Rattle.time.proofs.moves.devices_advance.Tie as tie
@@ -15,13 +16,11 @@ adc-advance-requires c κs = search needs
 rtc-irq-advance-requires : tie.Need-rtc-irq-advance-requires
 rtc-irq-advance-requires c κs = search needs
 
+put-times-requires : tie.Need-put-times-requires
+put-times-requires c κs = search needs
+
 returns : tie.Need-returns
-returns c =
-    let at-adc = c .before .before in
-    let at-vsync = at-adc .before .before in
-    let at-timers = at-vsync .before .before in
-    devices-after _ _ _ _ _ _ _ _ _ _ _ (at-timers .timers-advance .ensures) (at-vsync .vsync .ensures) (at-adc .adc-advance .ensures)
-    (c .rtc-irq-advance .ensures)
+returns c = let a = (c .before .before .before .before .before .before .before .before .before .before .before .before .before .before .before .before .args) in let x = partsIn (a .cells .now) (a .floats .now) in (devices-went (a .own .now) x (a .clock) (a .t) ((c .before .before .before .before .before .before .before .before .before .before .before .before .timers-advance .ensures .0)) ((c .before .before .before .before .before .before .before .before .before .vsync .ensures) _ .0) ((c .before .before .before .before .before .before .adc-advance .ensures) _ .0) ((c .before .before .rtc-irq-advance .ensures .0)) ((c .put-times .ensures) _ .parts), λ k. (c .put-times .ensures) _ .kept ((c .before .before .rtc-irq-advance .ensures .1) ((c .before .before .before .before .before .before .adc-advance .ensures) _ .1 ((c .before .before .before .before .before .before .before .before .before .vsync .ensures) _ .1 ((c .before .before .before .before .before .before .before .before .before .before .before .before .timers-advance .ensures .1) k)))))
 
 pub devices-advance-spec : {M : Type 1} → statement M
 devices-advance-spec =
@@ -31,4 +30,5 @@ devices-advance-spec =
     vsync-requires
     adc-advance-requires
     rtc-irq-advance-requires
+    put-times-requires
     returns)

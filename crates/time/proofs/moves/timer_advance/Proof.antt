@@ -1,4 +1,4 @@
-use Rattle.time.proofs.Cases.{timer-after}
+use Rattle.time.proofs.Clockwork.{timer-stepped}
 use borrow.Author.Needs.{needs}
 use Rattle.time.proofs.moves.timer_advance.Statement.{statement}
 use Rattle.time.proofs.moves.timer_advance.Tie as tie
@@ -21,11 +21,17 @@ add-own-reg-2 c = search needs
 own-reg-requires-2 : tie.Need-own-reg-requires-2
 own-reg-requires-2 c κs = search needs
 
+timer-of-requires : tie.Need-timer-of-requires
+timer-of-requires c κs = search needs
+
 advance-requires : tie.Need-advance-requires
 advance-requires c κs = search needs
 
+put-timer-requires : tie.Need-put-timer-requires
+put-timer-requires c κs = search needs
+
 returns : tie.Need-returns
-returns c = timer-after _ _ _ _ _ _ _ _ (c .before .before .own-reg .ensures) (c .before .own-reg2 .ensures) (c .advance .ensures)
+returns c = let a = (c .before .before .before .before .before .before .before .before .before .args) in (timer-stepped (a .own .now) (a .cells .now) (a .floats .now) (a .n) (a .time) (a .clock) ((c .before .before .before .before .before .before .before .before .own-reg .ensures)) ((c .before .before .before .before .before .before .before .own-reg2 .ensures)) ((c .before .before .before .before .timer-of .ensures)) ((c .before .before .before .advance .ensures)) ((c .put-timer .ensures .parts)), (c .put-timer .ensures .kept))
 
 pub timer-advance-spec : {M : Type 1} → statement M
 timer-advance-spec =
@@ -37,5 +43,7 @@ timer-advance-spec =
     mul-own-reg-2
     add-own-reg-2
     own-reg-requires-2
+    timer-of-requires
     advance-requires
+    put-timer-requires
     returns)

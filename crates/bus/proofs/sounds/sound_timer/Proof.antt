@@ -1,0 +1,92 @@
+use Rattle.bus.proofs.BankedWords.{keeping, full-told, same-told, change-told}
+use Rattle.state.specs.Bank.{partsIn}
+use Rattle.bus.specs.Sounds.{timerSet}
+use borrow.Author.Needs.{needs}
+use Rattle.bus.proofs.sounds.sound_timer.Statement.{statement}
+use Rattle.bus.proofs.sounds.sound_timer.Tie as tie
+
+tone-of-requires : tie.Need-tone-of-requires
+tone-of-requires c κs = search needs
+
+sound-after-requires : tie.Need-sound-after-requires
+sound-after-requires c κs = search needs
+
+enum-told : tie.Need-enum-told
+enum-told c = search needs
+
+returns : tie.Need-returns
+returns c =
+    let a = (c .before .before .before .before .before .before .args) in
+    let x = partsIn (a .cells .now) (a .floats .now) in
+    let d = timerSet (x .devices) 4 (a .timer) in
+    keeping
+    (full-told (a .own .now) x d (a .clock) (a .full) (a .word) (a .kept) (c .before .before .before .before .tone-of .ensures)
+    (c .before .before .sound-after .ensures) (c .enum-told .given .1))
+    (λ k. k)
+
+enum-told-2 : tie.Need-enum-told-2
+enum-told-2 c = search needs
+
+own-insert-requires : tie.Need-own-insert-requires
+own-insert-requires c κs = search needs
+
+put-timer-requires : tie.Need-put-timer-requires
+put-timer-requires c κs = search needs
+
+returns-2 : tie.Need-returns-2
+returns-2 c =
+    let a = (c .before .before .before .before .before .before .before .before .before .before .before .args) in
+    let x = partsIn (a .cells .now) (a .floats .now) in
+    let d = timerSet (x .devices) 4 (a .timer) in
+    let p = (c .put-timer .ensures) in
+    keeping
+    (same-told (a .own .now) x d (a .clock) (a .full) (a .word) (a .kept)
+    (c .before .before .before .before .before .before .before .before .before .tone-of .ensures)
+    (c .before .before .before .before .before .before .before .sound-after .ensures)
+    (c .before .before .before .before .before .enum-told2 .given .1) (c .before .before .before .own-insert .ensures) (p .parts))
+    (p .kept)
+
+enum-known-sounded : tie.Need-enum-known-sounded
+enum-known-sounded c = search needs
+
+own-insert-requires-2 : tie.Need-own-insert-requires-2
+own-insert-requires-2 c κs = search needs
+
+put-timer-requires-2 : tie.Need-put-timer-requires-2
+put-timer-requires-2 c κs = search needs
+
+put-tone-requires : tie.Need-put-tone-requires
+put-tone-requires c κs = search needs
+
+returns-3 : tie.Need-returns-3
+returns-3 c =
+    let a = (c .before .before .before .before .before .before .before .before .before .before .before .before .before .before .args) in
+    let x = partsIn (a .cells .now) (a .floats .now) in
+    let d = timerSet (x .devices) 4 (a .timer) in
+    let p = (c .before .before .put-timer2 .ensures) in
+    let q = (c .put-tone .ensures) _ in
+    keeping
+    (change-told (a .own .now) x d (a .clock) (a .full) (a .word) (a .kept)
+    (c .before .before .before .before .before .before .before .before .before .before .before .before .tone-of .ensures)
+    (c .before .before .before .before .before .before .before .before .before .before .sound-after .ensures)
+    (c .before .before .before .before .before .before .before .before .sounded .given .1)
+    (c .before .before .before .before .before .own-insert2 .ensures) (p .parts) (q .parts))
+    (λ k. q .kept (p .kept k))
+
+pub sound-timer-spec : {M : Type 1} → statement M
+sound-timer-spec =
+    tie.close
+    (tie.spec
+    tone-of-requires
+    sound-after-requires
+    enum-told
+    returns
+    enum-told-2
+    own-insert-requires
+    put-timer-requires
+    returns-2
+    enum-known-sounded
+    own-insert-requires-2
+    put-timer-requires-2
+    put-tone-requires
+    returns-3)

@@ -1,0 +1,32 @@
+-- The bus's world and a write's answer over the lent lists and the bank's parts; and what is left beside the devices.
+use Prim.Native.Nat.{ℕ}
+use mathlib.Core.Path.{_≡_}
+use mathlib.Core.Bool.{false}
+use mathlib.Core.List.{List}
+use Rattle.registers.specs.Words.{registersOf}
+use Rattle.state.specs.declared.Devices.{Devices}
+use Rattle.state.specs.declared.Parts.{Parts}
+use Rattle.bus.specs.declared.Told.{Told}
+use Rattle.bus.specs.World.{World, world, Out, out, Wrote}
+
+-- of the parts nothing but the devices differs
+pub record Only (x y : Parts) : Type 0 where
+  pub ring : y .ring ≡ x .ring
+  pub keys : y .keys ≡ x .keys
+
+-- the registers' three lists, the RTC's registers, the page's running AND, the four memories, the bank's parts
+abbrev pub worldOf : List ℕ → List ℕ → List ℕ → List ℕ → List ℕ → List ℕ → List ℕ → List ℕ → List ℕ → Parts → World
+worldOf own addresses values rtc page ram sram gpio fb x =
+    world (registersOf own addresses values) rtc page ram sram gpio fb (x .devices)
+
+-- an answer, with the devices that are then in the bank
+abbrev pub wroteOf : Told → Devices → Wrote
+wroteOf r d = record { refusal = r .refusal; event = r .event; devices = d }
+
+-- an answer without an event
+abbrev pub toldOf : ℕ → Told
+toldOf n = record { refusal = n; event = false }
+
+-- an answer, with the world that it leaves
+abbrev pub outOf : World → Told → Out
+outOf w r = out w (r .refusal) (r .event)

@@ -1,3 +1,0 @@
--- The branches of the definitions, and that the lanes do what the bus does.
-pub mod Cases
-pub mod Lanes

@@ -1,3 +1,0 @@
--- What the crate's contracts cite.
-pub mod Lanes
-pub mod Ways

@@ -1,0 +1,4 @@
+pub mod Spread
+pub mod Words
+pub mod Puts
+pub mod Packs

@@ -1,0 +1,264 @@
+-- What a put of one part leaves: the words it says and no others, and so the parts with this one replaced; and a packed bank packed.
+use Prim.Native.Nat.{ℕ, zero, suc, _+_, _^_, _<_, _≤_}
+use mathlib.Core.Path.{_≡_, refl, sym, ap, _∙_}
+use mathlib.Core.Bool.{Bool}
+use mathlib.Core.List.{List, [], _∷_}
+use native.Mathlib.Omega.{arith}
+use native.Mathlib.Nat.{mod-eq-of-lt}
+use lib.ListN.{length, getD, set}
+use borrow.Author.Tests.{lt-ltb, le-ltb}
+use lib.Ieee.{Float, nan}
+use Rattle.whole.specs.Forms.{bit}
+use Rattle.flash.specs.declared.Chip.{Chip}
+use Rattle.panel.specs.declared.Panel.{Panel}
+use Rattle.clock.specs.declared.Times.{Times}
+use Rattle.clock.specs.declared.Latch.{Latch}
+use Rattle.clock.specs.declared.RtcIrq.{RtcIrq}
+use Rattle.timer.specs.declared.Timer.{Timer}
+use Rattle.timer.specs.declared.Tone.{Tone}
+use Rattle.timer.specs.declared.Ring.{Ring}
+use Rattle.keys.specs.declared.Keys.{Keys}
+use Rattle.state.specs.declared.Parts.{Parts}
+use Rattle.state.specs.Parts.{none, flashPut, panelPut, timesPut, timerPut, irqPut, vsyncPut, convertingPut, latchPut, tonePut, offPut, ringPut, keysPut, countPut, appliedPut}
+use Rattle.state.specs.Bank.{heldIn, chipIn, panelIn, timesIn, timerIn, timersIn, irqIn, latchIn, toneIn, ringIn, keysIn, partsIn}
+use Rattle.state.specs.Packed.{modeNumber, heldNumber, chipCells, panelCells, clockCells, keyCells, cellsOf, timesFloats, floatsOf, laidAt, Put, timerCells, timerFloats}
+use Rattle.state.proofs.Spread.{spread, spread-is}
+use Rattle.state.proofs.Words.{flag-bit, mode-number}
+
+-- later words W and U, which make the parts g of those before: packed words give packed ones where W and U do the same to the words of parts
+pub put-of : (g : Parts → Parts) (W : List ℕ → List ℕ) (U : List Float → List Float) (l : List ℕ) (f : List Float) {l′ : List ℕ} {f′ : List Float}
+    → l′ ≡ W l → f′ ≡ U f → partsIn (W l) (U f) ≡ g (partsIn l f) → cellsOf (g (partsIn l f)) ≡ W (cellsOf (partsIn l f))
+    → floatsOf (g (partsIn l f)) ≡ U (floatsOf (partsIn l f)) → Put l f l′ f′ (W l) (U f) (g (partsIn l f))
+put-of g W U l f {l′} {f′} a b p s t =
+    let q : partsIn l′ f′ ≡ g (partsIn l f) = ap (λ (m : List ℕ). partsIn m f′) a ∙ ap (λ (v : List Float). partsIn (W l) v) b ∙ p in
+    record {
+      cells = a;
+      floats = b;
+      parts = q;
+      kept = λ k.
+          record {
+            cells = ap (λ (x : Parts). cellsOf x) q ∙ s ∙ ap W (k .cells) ∙ sym a;
+            floats = ap (λ (x : Parts). floatsOf x) q ∙ t ∙ ap U (k .floats) ∙ sym b;
+          };
+    }
+
+module _ (l : List ℕ) (long : length l ≡ 51) (f : List Float) where
+  pub chip-put : (x : Chip) (a b c d : ℕ) → a ≡ modeNumber (x .mode) → b ≡ bit (x .cs) → c ≡ bit (x .wel) → d ≡ bit (x .tx .long)
+      → x .rx < 256 → x .tx .cmd < 256 → x .tx .a1 < 256 → x .tx .a2 < 256 → x .tx .a3 < 256
+      → Put l f
+      (set (set (set (set (set (set (set (set (set (set (set l 0 a) 1 b) 2 c) 3 (x .writes)) 4 (x .rx)) 5 (x .tx .cmd)) 6 (x .tx .a1)) 7 (x .tx .a2)) 8 (x .tx .a3)) 9 (x .tx .pos)) 10 d)
+      f (laidAt l 0 (chipCells x)) f (flashPut (partsIn l f) x)
+  unfolding chipIn panelIn timesIn timerIn irqIn latchIn toneIn ringIn keysIn spread laidAt chipCells panelCells clockCells keyCells cellsOf floatsOf timesFloats
+  chip-put x a b c d h i j k m n o p q =
+      put-of (λ y. flashPut y x) (λ m. laidAt m 0 (chipCells x)) (λ v. v) l f
+      (rw (spread-is 0 l 51 long, h, i, j, k))
+      refl
+      (rw (spread-is 0 l 51 long, mode-number, flag-bit, flag-bit, flag-bit, mod-eq-of-lt m, mod-eq-of-lt n, mod-eq-of-lt o, mod-eq-of-lt p, mod-eq-of-lt q))
+      refl
+      refl
+
+  panel-laid : (x : Panel) (a b c d e g : ℕ) → heldIn a ≡ x .cmd → length (x .args) ≡ 4 → b ≡ getD (x .args) 0 0 → c ≡ getD (x .args) 1 0 → d ≡ getD (x .args) 2 0 → e ≡ getD (x .args) 3 0
+      → b < 256 → c < 256 → d < 256 → e < 256 → heldIn g ≡ x .pen .half → x .count < 256
+      → x .window .x0 < 65536 → x .window .x1 < 65536 → x .window .y0 < 65536 → x .window .y1 < 65536 → x .pen .x < 65536 → x .pen .y < 65536
+      → partsIn
+      (set (set (set (set (set (set (set (set (set (set (set (set (set (set l 11 a) 12 b) 13 c) 14 d) 15 e) 16 (x .count)) 17 (x .window .x0)) 18 (x .window .x1)) 19 (x .window .y0)) 20 (x .window .y1)) 21 (x .pen .x)) 22 (x .pen .y)) 23 g) 24 (x .pen .frames))
+      f ≡ panelPut (partsIn l f) x
+  unfolding chipIn panelIn timesIn timerIn irqIn latchIn toneIn ringIn keysIn spread
+  panel-laid x a b c d e g h four i j k m n o p q r s t u v w y z =
+      rw (
+        spread-is 0 l 51 long,
+        h,
+        mod-eq-of-lt n,
+        mod-eq-of-lt o,
+        mod-eq-of-lt p,
+        mod-eq-of-lt q,
+        i,
+        j,
+        k,
+        m,
+        ← spread-is 0 (x .args) 4 four,
+        r,
+        mod-eq-of-lt s,
+        mod-eq-of-lt t,
+        mod-eq-of-lt u,
+        mod-eq-of-lt v,
+        mod-eq-of-lt w,
+        mod-eq-of-lt y,
+        mod-eq-of-lt z,
+      )
+
+  panel-words : (x : Panel) (a b c d e g : ℕ) → a ≡ heldNumber (x .cmd) → b ≡ getD (x .args) 0 0 → c ≡ getD (x .args) 1 0 → d ≡ getD (x .args) 2 0 → e ≡ getD (x .args) 3 0 → g ≡ heldNumber (x .pen .half)
+      → (set (set (set (set (set (set (set (set (set (set (set (set (set (set l 11 a) 12 b) 13 c) 14 d) 15 e) 16 (x .count)) 17 (x .window .x0)) 18 (x .window .x1)) 19 (x .window .y0)) 20 (x .window .y1)) 21 (x .pen .x)) 22 (x .pen .y)) 23 g) 24 (x .pen .frames))
+      ≡ laidAt l 11 (panelCells x)
+  unfolding spread laidAt panelCells
+  panel-words x a b c d e g h i j k m n = rw (spread-is 0 l 51 long, h, i, j, k, m, n)
+
+  pub panel-put : (x : Panel) (a b c d e g : ℕ) → (a ≡ heldNumber (x .cmd)) × (heldIn a ≡ x .cmd) → length (x .args) ≡ 4
+      → (b ≡ getD (x .args) 0 0) × (b < 256) → (c ≡ getD (x .args) 1 0) × (c < 256) → (d ≡ getD (x .args) 2 0) × (d < 256) → (e ≡ getD (x .args) 3 0) × (e < 256)
+      → (g ≡ heldNumber (x .pen .half)) × (heldIn g ≡ x .pen .half) → x .count < 256
+      → x .window .x0 < 65536 → x .window .x1 < 65536 → x .window .y0 < 65536 → x .window .y1 < 65536 → x .pen .x < 65536 → x .pen .y < 65536
+      → Put l f
+      (set (set (set (set (set (set (set (set (set (set (set (set (set (set l 11 a) 12 b) 13 c) 14 d) 15 e) 16 (x .count)) 17 (x .window .x0)) 18 (x .window .x1)) 19 (x .window .y0)) 20 (x .window .y1)) 21 (x .pen .x)) 22 (x .pen .y)) 23 g) 24 (x .pen .frames))
+      f (laidAt l 11 (panelCells x)) f (panelPut (partsIn l f) x)
+  unfolding laidAt chipCells panelCells clockCells keyCells cellsOf floatsOf timesFloats
+  panel-put x a b c d e g h four i j k m n o p q r s t u =
+      let words = panel-words x a b c d e g (h .0) (i .0) (j .0) (k .0) (m .0) (n .0) in
+      put-of (λ y. panelPut y x) (λ z. laidAt z 11 (panelCells x)) (λ v. v) l f
+      words
+      refl
+      (ap (λ (z : List ℕ). partsIn z f) (sym words)
+      ∙ panel-laid x a b c d e g (h .1) four (i .0) (j .0) (k .0) (m .0) (i .1) (j .1) (k .1) (m .1) (n .1) o p q r s t u)
+      refl
+      refl
+
+  pub vsync-put : (n : ℕ) → Put l f (set l 39 n) f (set l 39 n) f (vsyncPut (partsIn l f) n)
+  unfolding chipIn panelIn timesIn timerIn irqIn latchIn toneIn ringIn keysIn spread laidAt chipCells panelCells clockCells keyCells cellsOf floatsOf timesFloats
+  vsync-put n = put-of (λ y. vsyncPut y n) (λ m. set m 39 n) (λ v. v) l f refl refl (rw (spread-is 0 l 51 long)) refl refl
+
+  pub converting-put : (on : Bool) (n : ℕ) → n ≡ bit on → Put l f (set l 40 n) f (set l 40 (bit on)) f (convertingPut (partsIn l f) on)
+  unfolding chipIn panelIn timesIn timerIn irqIn latchIn toneIn ringIn keysIn spread laidAt chipCells panelCells clockCells keyCells cellsOf floatsOf timesFloats
+  converting-put on n e =
+      put-of (λ y. convertingPut y on) (λ m. set m 40 (bit on)) (λ v. v) l f (rw e) refl (rw (spread-is 0 l 51 long, flag-bit)) refl refl
+
+  pub off-put : (on : Bool) (n : ℕ) → n ≡ bit on → Put l f (set l 43 n) f (set l 43 (bit on)) f (offPut (partsIn l f) on)
+  unfolding chipIn panelIn timesIn timerIn irqIn latchIn toneIn ringIn keysIn spread laidAt chipCells panelCells clockCells keyCells cellsOf floatsOf timesFloats
+  off-put on n e = put-of (λ y. offPut y on) (λ m. set m 43 (bit on)) (λ v. v) l f (rw e) refl (rw (spread-is 0 l 51 long, flag-bit)) refl refl
+
+  pub ring-put : (x : Ring) → x .head < 256
+      → Put l f (set (set l 44 (x .head)) 45 (x .count)) f (laidAt l 44 (x .head ∷ x .count ∷ [])) f (ringPut (partsIn l f) x)
+  unfolding chipIn panelIn timesIn timerIn irqIn latchIn toneIn ringIn keysIn spread laidAt chipCells panelCells clockCells keyCells cellsOf floatsOf timesFloats
+  ring-put x e =
+      put-of (λ y. ringPut y x) (λ m. laidAt m 44 (x .head ∷ x .count ∷ [])) (λ v. v) l f
+      (rw (spread-is 0 l 51 long))
+      refl
+      (rw (spread-is 0 l 51 long, mod-eq-of-lt e))
+      refl
+      refl
+
+  pub count-put : (n : ℕ) → Put l f (set l 46 n) f (set l 46 n) f (countPut (partsIn l f) n)
+  unfolding chipIn panelIn timesIn timerIn irqIn latchIn toneIn ringIn keysIn spread laidAt chipCells panelCells clockCells keyCells cellsOf floatsOf timesFloats
+  count-put n = put-of (λ y. countPut y n) (λ m. set m 46 n) (λ v. v) l f refl refl (rw (spread-is 0 l 51 long)) refl refl
+
+  pub applied-put : (n : ℕ) → n < 2 ^ 32 → Put l f (set l 50 n) f (set l 50 n) f (appliedPut (partsIn l f) n)
+  unfolding chipIn panelIn timesIn timerIn irqIn latchIn toneIn ringIn keysIn spread laidAt chipCells panelCells clockCells keyCells cellsOf floatsOf timesFloats
+  applied-put n e = put-of (λ y. appliedPut y n) (λ m. set m 50 n) (λ v. v) l f refl refl (rw (spread-is 0 l 51 long, mod-eq-of-lt e)) refl refl
+
+module _ (f : List Float) (wide : length f ≡ 16) (l : List ℕ) where
+  pub times-put : (x : Times) → Put l f l (set (set (set f 0 (x .now)) 1 (x .game)) 2 (x .turbo)) l (laidAt f 0 (timesFloats x)) (timesPut (partsIn l f) x)
+  unfolding chipIn panelIn timesIn timerIn irqIn latchIn toneIn ringIn keysIn spread laidAt chipCells panelCells clockCells keyCells cellsOf floatsOf timesFloats
+  times-put x =
+      put-of (λ y. timesPut y x) (λ m. m) (λ v. laidAt v 0 (timesFloats x)) l f refl (rw (spread-is nan f 16 wide)) (rw (spread-is nan f 16 wide)) refl refl
+
+  pub tone-put : (x : Tone)
+      → Put l f l (set (set f 11 (x .frequency)) 12 (x .duty)) l (laidAt f 11 (x .frequency ∷ x .duty ∷ [])) (tonePut (partsIn l f) x)
+  unfolding chipIn panelIn timesIn timerIn irqIn latchIn toneIn ringIn keysIn spread laidAt chipCells panelCells clockCells keyCells cellsOf floatsOf timesFloats
+  tone-put x =
+      put-of (λ y. tonePut y x) (λ m. m) (λ v. laidAt v 11 (x .frequency ∷ x .duty ∷ [])) l f
+      refl
+      (rw (spread-is nan f 16 wide))
+      (rw (spread-is nan f 16 wide))
+      refl
+      refl
+
+module _ (l : List ℕ) (f : List Float) (long : length l ≡ 51) (wide : length f ≡ 16) where
+  pub irq-put : (x : RtcIrq) → x .base < 2 ^ 32
+      → Put l f (set (set l 37 (x .fired)) 38 (x .base)) (set f 9 (x .set)) (laidAt l 37 (x .fired ∷ x .base ∷ [])) (set f 9 (x .set)) (irqPut (partsIn l f) x)
+  unfolding chipIn panelIn timesIn timerIn irqIn latchIn toneIn ringIn keysIn spread laidAt chipCells panelCells clockCells keyCells cellsOf floatsOf timesFloats
+  irq-put x e =
+      put-of (λ y. irqPut y x) (λ m. laidAt m 37 (x .fired ∷ x .base ∷ [])) (λ v. set v 9 (x .set)) l f
+      (rw (spread-is 0 l 51 long))
+      refl
+      (rw (spread-is 0 l 51 long, spread-is nan f 16 wide, mod-eq-of-lt e))
+      refl
+      refl
+
+  pub latch-put : (x : Latch) → x .out < 2 ^ 32
+      → Put l f (set (set l 41 (x .base)) 42 (x .out)) (set f 10 (x .since)) (laidAt l 41 (x .base ∷ x .out ∷ [])) (set f 10 (x .since)) (latchPut (partsIn l f) x)
+  unfolding chipIn panelIn timesIn timerIn irqIn latchIn toneIn ringIn keysIn spread laidAt chipCells panelCells clockCells keyCells cellsOf floatsOf timesFloats
+  latch-put x e =
+      put-of (λ y. latchPut y x) (λ m. laidAt m 41 (x .base ∷ x .out ∷ [])) (λ v. set v 10 (x .since)) l f
+      (rw (spread-is 0 l 51 long))
+      refl
+      (rw (spread-is 0 l 51 long, spread-is nan f 16 wide, mod-eq-of-lt e))
+      refl
+      refl
+
+  pub keys-put : (x : Keys) (a b c : ℕ) → a ≡ bit (x .live .a) → b ≡ bit (x .live .b) → c ≡ bit (x .live .c) → x .applied < 2 ^ 32
+      → Put l f (set (set (set (set (set l 46 (x .count)) 47 a) 48 b) 49 c) 50 (x .applied)) (set (set (set f 13 (x .holds .a)) 14 (x .holds .b)) 15 (x .holds .c))
+      (laidAt l 46 (keyCells x)) (laidAt f 13 (x .holds .a ∷ x .holds .b ∷ x .holds .c ∷ [])) (keysPut (partsIn l f) x)
+  unfolding chipIn panelIn timesIn timerIn irqIn latchIn toneIn ringIn keysIn spread laidAt chipCells panelCells clockCells keyCells cellsOf floatsOf timesFloats
+  keys-put x a b c h i j e =
+      put-of (λ y. keysPut y x) (λ m. laidAt m 46 (keyCells x)) (λ v. laidAt v 13 (x .holds .a ∷ x .holds .b ∷ x .holds .c ∷ [])) l f
+      (rw (spread-is 0 l 51 long, h, i, j))
+      (rw (spread-is nan f 16 wide))
+      (rw (spread-is 0 l 51 long, spread-is nan f 16 wide, flag-bit, flag-bit, flag-bit, mod-eq-of-lt e))
+      refl
+      refl
+
+  -- the parts that a timer's words make
+  timer-laid : (x : Timer) (n : ℕ) → n < 6 → partsIn (timerCells l n x) (timerFloats f n x) ≡ timerPut (partsIn l f) n x
+  unfolding chipIn panelIn timesIn timerIn irqIn latchIn toneIn ringIn keysIn spread timerCells timerFloats
+  timer-laid x zero h = rw (spread-is 0 l 51 long, spread-is nan f 16 wide, flag-bit)
+  timer-laid x (suc zero) h = rw (spread-is 0 l 51 long, spread-is nan f 16 wide, flag-bit)
+  timer-laid x (suc (suc zero)) h = rw (spread-is 0 l 51 long, spread-is nan f 16 wide, flag-bit)
+  timer-laid x (suc (suc (suc zero))) h = rw (spread-is 0 l 51 long, spread-is nan f 16 wide, flag-bit)
+  timer-laid x (suc (suc (suc (suc zero)))) h = rw (spread-is 0 l 51 long, spread-is nan f 16 wide, flag-bit)
+  timer-laid x (suc (suc (suc (suc (suc zero))))) h = rw (spread-is 0 l 51 long, spread-is nan f 16 wide, flag-bit)
+  timer-laid x (suc (suc (suc (suc (suc (suc n)))))) h = absurd (omega arith)
+
+-- the words of the parts with a timer put
+timer-words : (l : List ℕ) (f : List Float) (x : Timer) (n : ℕ) → n < 6
+    → (cellsOf (timerPut (partsIn l f) n x) ≡ timerCells (cellsOf (partsIn l f)) n x) × (floatsOf (timerPut (partsIn l f) n x) ≡ timerFloats (floatsOf (partsIn l f)) n x)
+unfolding chipCells panelCells clockCells keyCells cellsOf floatsOf timesFloats timerCells timerFloats
+timer-words l f x zero h = (refl, refl)
+timer-words l f x (suc zero) h = (refl, refl)
+timer-words l f x (suc (suc zero)) h = (refl, refl)
+timer-words l f x (suc (suc (suc zero))) h = (refl, refl)
+timer-words l f x (suc (suc (suc (suc zero)))) h = (refl, refl)
+timer-words l f x (suc (suc (suc (suc (suc zero))))) h = (refl, refl)
+timer-words l f x (suc (suc (suc (suc (suc (suc n)))))) h = absurd (omega arith)
+
+pub timer-put : (l : List ℕ) (f : List Float) → length l ≡ 51 → length f ≡ 16 → (x : Timer) (a : ℕ) → a ≡ bit (x .pending) → (n : ℕ) → n < 6
+    → Put l f (set (set l (25 + n) (x .seen)) (31 + n) a) (set f (3 + n) (x .start)) (timerCells l n x) (timerFloats f n x) (timerPut (partsIn l f) n x)
+unfolding timerCells timerFloats
+timer-put l f long wide x a e n h =
+    put-of (λ y. timerPut y n x) (λ m. timerCells m n x) (λ v. timerFloats v n x) l f
+    (rw (e, lt-ltb n 6 h))
+    (rw (lt-ltb n 6 h))
+    (timer-laid l f long wide x n h)
+    (timer-words l f x n h .0)
+    (timer-words l f x n h .1)
+
+timer-past : (l : List ℕ) (f : List Float) (x : Timer) (n : ℕ) → 6 ≤ n → partsIn l f ≡ timerPut (partsIn l f) n x
+timer-past l f x (suc (suc (suc (suc (suc (suc n)))))) h = refl
+timer-past l f x zero h = absurd (omega arith)
+timer-past l f x (suc zero) h = absurd (omega arith)
+timer-past l f x (suc (suc zero)) h = absurd (omega arith)
+timer-past l f x (suc (suc (suc zero))) h = absurd (omega arith)
+timer-past l f x (suc (suc (suc (suc zero)))) h = absurd (omega arith)
+timer-past l f x (suc (suc (suc (suc (suc zero))))) h = absurd (omega arith)
+
+pub no-timer : (l : List ℕ) (f : List Float) (x : Timer) (n : ℕ) → 6 ≤ n
+    → Put l f l f (timerCells l n x) (timerFloats f n x) (timerPut (partsIn l f) n x)
+unfolding timerCells timerFloats
+no-timer l f x n h =
+    record { cells = rw (le-ltb n 6 h); floats = rw (le-ltb n 6 h); parts = timer-past l f x n h; kept = λ k. k }
+
+-- a timer of the six, by its words; past them there is none
+pub timer-got : (l : List ℕ) (f : List Float) (n : ℕ) → n < 6 → timerIn l f n ≡ getD (timersIn l f) n none
+timer-got l f zero h = refl
+timer-got l f (suc zero) h = refl
+timer-got l f (suc (suc zero)) h = refl
+timer-got l f (suc (suc (suc zero))) h = refl
+timer-got l f (suc (suc (suc (suc zero)))) h = refl
+timer-got l f (suc (suc (suc (suc (suc zero))))) h = refl
+timer-got l f (suc (suc (suc (suc (suc (suc n)))))) h = absurd (omega arith)
+
+pub timer-none : (l : List ℕ) (f : List Float) (n : ℕ) → 6 ≤ n → none ≡ getD (timersIn l f) n none
+timer-none l f (suc (suc (suc (suc (suc (suc n)))))) h = refl
+timer-none l f zero h = absurd (omega arith)
+timer-none l f (suc zero) h = absurd (omega arith)
+timer-none l f (suc (suc zero)) h = absurd (omega arith)
+timer-none l f (suc (suc (suc zero))) h = absurd (omega arith)
+timer-none l f (suc (suc (suc (suc zero)))) h = absurd (omega arith)
+timer-none l f (suc (suc (suc (suc (suc zero))))) h = absurd (omega arith)

@@ -1,0 +1,116 @@
+// The panel's scalars.
+ghost use mathlib.Core.Path.{_≡_};
+ghost use Prim.Native.Nat.{_<_};
+ghost use Rattle.state.specs.Parts.{panelPut};
+ghost use Rattle.state.specs.Bank.{heldIn, panelIn};
+ghost use Rattle.state.specs.Packed.{heldNumber, panelCells, laidAt, CellsPut};
+use crate::Cells;
+use crate::numbers::byte;
+use crate::numbers::half;
+use crate::places::ARG0;
+use crate::places::ARG1;
+use crate::places::ARG2;
+use crate::places::ARG3;
+use crate::places::ARGS;
+use crate::places::FRAMES;
+use crate::places::HALF;
+use crate::places::ORDER;
+use crate::places::X;
+use crate::places::X0;
+use crate::places::X1;
+use crate::places::Y;
+use crate::places::Y0;
+use crate::places::Y1;
+use panel::Held;
+use panel::Panel;
+use panel::Pen;
+use panel::Window;
+
+fn held_of(n: u64) -> Held
+    ensures { λ r. ⌜ r ≡ heldIn n ⌝ }
+{
+    if n < 256 {
+        return Held::Byte(n as u8);
+    }
+    Held::Nothing
+}
+
+fn held_number(held: Held) -> u64
+    ensures { λ r. ⌜ (r ≡ heldNumber held) × (heldIn r ≡ held) ⌝ }
+{
+    match held {
+        Held::Nothing => 256,
+        Held::Byte(b) => b as u64,
+    }
+}
+
+fn wide(b: u8) -> u64
+    ensures { λ r. ⌜ (r ≡ b) × (r < 256) ⌝ }
+{
+    b as u64
+}
+
+pub fn panel_of(cells: &Cells) -> Panel
+    ensures { λ r. ⌜ r ≡ panelIn (now (cells .entry)) ⌝ }
+{
+    let cmd = held_of(cells[ORDER]);
+    let args = [
+        byte(cells[ARG0]),
+        byte(cells[ARG1]),
+        byte(cells[ARG2]),
+        byte(cells[ARG3]),
+    ];
+    let window = Window {
+        x0: half(cells[X0]),
+        x1: half(cells[X1]),
+        y0: half(cells[Y0]),
+        y1: half(cells[Y1]),
+    };
+    let half_byte = held_of(cells[HALF]);
+    let pen = Pen {
+        x: half(cells[X]),
+        y: half(cells[Y]),
+        half: half_byte,
+        frames: cells[FRAMES],
+    };
+    Panel {
+        cmd,
+        args,
+        count: byte(cells[ARGS]),
+        window,
+        pen,
+    }
+}
+
+pub fn put_panel(cells: &mut Cells, panel: Panel)
+    ensures { λ _. ⌜ CellsPut (now (cells .entry)) (now (cells .exit))
+        (laidAt (now (cells .entry)) 11 (panelCells panel)) (λ x. panelPut x panel) ⌝ }
+{
+    crate::sized::cells_long(cells);
+    let cmd = panel.cmd;
+    let args = panel.args;
+    crate::sized::four_long(args);
+    let window = panel.window;
+    let pen = panel.pen;
+    let half_byte = pen.half;
+    cells[ORDER] = held_number(cmd);
+    cells[ARG0] = wide(args[0]);
+    cells[ARG1] = wide(args[1]);
+    cells[ARG2] = wide(args[2]);
+    cells[ARG3] = wide(args[3]);
+    cells[ARGS] = panel.count as u64;
+    cells[X0] = window.x0 as u64;
+    cells[X1] = window.x1 as u64;
+    cells[Y0] = window.y0 as u64;
+    cells[Y1] = window.y1 as u64;
+    cells[X] = pen.x as u64;
+    cells[Y] = pen.y as u64;
+    cells[HALF] = held_number(half_byte);
+    cells[FRAMES] = pen.frames;
+}
+
+pub fn frames_of(cells: &Cells) -> u64
+    ensures { λ r. ⌜ r ≡ panelIn (now (cells .entry)) .pen .frames ⌝ }
+{
+    cells[FRAMES]
+}
