@@ -47,7 +47,7 @@ fn colour(c: Colours) -> Answer
     numbers(0, word, 0, 0)
 }
 
-// What a kind answers is in its arm; a new kind has no arm to fall into, since `_` has none.
+// An arm for each kind. The last is reached by no entry, so that a new kind has nothing to fall into.
 pub(crate) fn act(
     own: &mut [u32; 76],
     addresses: &mut [u32; 256],
