@@ -66,10 +66,12 @@ class Kit:
         kit_id = self.home / "KIT-ID"
         return str(self.tools).encode() + b"\0" + (kit_id.read_bytes() if kit_id.exists() else b"")
 
+    def emulates(self) -> bool:
+        return os.access(self.tool("qemu-x86_64"), os.X_OK)
+
     def starts(self, program: Path) -> List[str]:
-        emulator = self.tool("qemu-x86_64")
         loader = [self.library("ld-linux-x86-64.so.2"), "--library-path", str(self.tools / "lib"), str(program)]
-        return [emulator] + loader if os.access(emulator, os.X_OK) else loader
+        return [self.tool("qemu-x86_64")] + loader if self.emulates() else loader
 
 
 def digest_of(kit: Kit, paths: List[Path]) -> str:

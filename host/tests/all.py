@@ -14,13 +14,15 @@ from desk.trouble import Trouble
 
 PROGRAMS = ["scrub", "depth", "key", "guard", "replay"]
 GIVEN = {"replay": Path(__file__).with_name("replay.list")}
+# What looks at the process itself: it needs x86-64, as the kit's emulator breaks off where a program opens /proc/self/maps.
+NOT_EMULATED = ["key"]
 
 
 class Count:
     passed = failed = 0
 
     def line(self, line: str) -> None:
-        """`seen` tells what was found where nothing is promised; it is neither."""
+        """`seen` tells what was found where nothing is promised, `not run` what was left out; they are neither."""
         self.passed += line.startswith("ok ")
         self.failed += line.startswith("FAILED ")
         print(line, flush=True)
@@ -63,7 +65,10 @@ def main() -> int:
         kit = build.Kit()
         build.program(kit, "runner")
         for name in PROGRAMS:
-            run_program(kit, name, count)
+            if kit.emulates() and name in NOT_EMULATED:
+                count.line(f"not run {name}: it needs x86-64, and this is an emulator")
+            else:
+                run_program(kit, name, count)
         unittest.defaultTestLoader.discover(str(Path(__file__).parent)).run(Result(count))
     except Trouble as trouble:
         for line in trouble.lines:

@@ -7,7 +7,7 @@
 #include <sys/syscall.h>
 #include <unistd.h>
 
-enum { LEFT = 0xEE, GENERAL_BYTES = 16 * 8, REGISTER_BYTES = GENERAL_BYTES + 32 * 64 };
+enum { SIG_SETMASK = 2, LEFT = 0xEE, GENERAL_BYTES = 16 * 8, REGISTER_BYTES = GENERAL_BYTES + 32 * 64 };
 
 uint32_t called(runner *run, const uintptr_t *arguments, uint8_t *registers, enum tg18_vectors vectors);
 uint64_t stand_in_called(void);
@@ -24,6 +24,15 @@ static uint64_t blocked(void) {
     uint64_t mask = 0;
     syscall(SYS_rt_sigprocmask, 0, NULL, &mask, sizeof mask);
     return mask;
+}
+
+// All signals that the system lets wait: under an emulator fewer than on x86-64 itself.
+static uint64_t most_blocked(void) {
+    uint64_t before = blocked(), all = ~(uint64_t)0;
+    syscall(SYS_rt_sigprocmask, SIG_SETMASK, &all, NULL, sizeof all);
+    uint64_t most = blocked();
+    syscall(SYS_rt_sigprocmask, SIG_SETMASK, &before, NULL, sizeof before);
+    return most;
 }
 
 uint64_t stand_in_called(void) {
@@ -90,7 +99,7 @@ static void try_scrubbed(const uintptr_t *arguments) {
     check("twelve arguments arrive", arguments_came(arguments));
     check("the answer comes back, 32 bits of it", answer == 0xEEEEEEEE && registers[4] == 0);
     check("its stack is the new one from the top, and aligned", rsp < top && top - rsp < 128 && (rsp + 8) % 16 == 0);
-    check("all signals wait that can", (blocked_meanwhile | 1 << 8 | 1 << 18) == ~(uint64_t)0 && blocked() == before);
+    check("all signals wait that can", blocked_meanwhile == most_blocked() && blocked() == before);
     check("the stack is clear", stack_not_clear == 0);
     check("general registers are clear", !general_left());
     check("vector registers are clear", !vectors_left());

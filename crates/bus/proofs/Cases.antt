@@ -6,51 +6,39 @@ use mathlib.Core.List.{List, _∷_}
 use mathlib.Core.Logic.{_≢_, ⊎-elim}
 use native.Mathlib.Omega.{arith}
 use lib.Dec.{leb}
-use lib.Bits.{bitAnd, bitOr, bitXor}
+use lib.Bits.{bitAnd, bitOr}
 use native.Mathlib.Numerals.{add-one}
 use lib.ListN.{length, getD, drop, drop-of-length-le}
 use lib.Seq.{drop-cons}
 use lib.Ieee.{Float}
-use borrow.Author.Tests.{lt-ltb, le-ltb, lt-leb, le-leb, eq-eqb, ne-eqb}
+use borrow.Author.Tests.{lt-leb, le-leb, eq-eqb, ne-eqb}
 use Rattle.whole.proofs.Bits.{lt-or-ge}
 use Rattle.whole.specs.Words.{has}
 use Rattle.registers.specs.declared.Registers.{Registers}
-use Rattle.registers.specs.declared.Refusal.{Refusal}
-use Rattle.registers.specs.declared.Refusal.the-variants.{Done, RegistersFull}
-use Rattle.registers.specs.Words.{Outcome, outcome, ownAt, ownWith, wordAt, putWord}
+use Rattle.registers.specs.Words.{ownAt, ownWith, wordAt}
 use Rattle.memory.specs.declared.Place.{Place}
 use Rattle.memory.specs.declared.Place.the-variants.{Ram, Sram, Gpio, Register, Stray}
 use Rattle.memory.specs.Places.{placeOf}
-use Rattle.memory.specs.Bytes.{loaded, storedAt}
-use Rattle.memory.specs.Access.{goodSize, cutOf, mergedOf}
+use Rattle.memory.specs.Bytes.{loaded}
+use Rattle.memory.specs.Access.{goodSize, cutOf}
 use Rattle.memory.specs.Access as access
 use Rattle.panel.specs.Entries.{Screen, screen}
 use Rattle.panel.specs.Lcd.{counted}
 use Rattle.panel.specs.Runs.{byte, ordered, taken}
-use Rattle.clock.specs.declared.Latch.{Latch}
 use Rattle.clock.specs.declared.Rtc.{Rtc}
-use Rattle.clock.specs.Rtc.{rtcOf, commandedOf}
-use Rattle.clock.specs.declared.Adc.{Adc}
+use Rattle.clock.specs.Rtc.{commandedOf}
 use Rattle.clock.specs.Adc as adc
-use Rattle.timer.specs.declared.Tone.{Tone}
-use Rattle.timer.specs.declared.Written.{Written}
-use Rattle.timer.specs.Timers.{writtenOf}
-use Rattle.timer.specs.declared.Sounded.{Sounded}
-use Rattle.timer.specs.declared.Sounded.the-variants.{Same, Change, SoundFull}
 use Rattle.flash.specs.declared.Chip.{Chip}
 use Rattle.panel.specs.declared.Panel.{Panel}
-use Rattle.state.specs.Parts.{none, withFlash, withPanel, withLatch, withTone}
 use Rattle.state.specs.declared.Devices.{Devices}
 use Rattle.time.specs.Clocks.{clockIn}
-use Rattle.bus.specs.World.{World, world, Out, out, Wrote, Said, said, answer, well}
-use Rattle.bus.specs.Chip.{Chipped, chipped, Flashed, flashed, selectedOver, sentOver, selectWritten, sendWritten}
-use Rattle.bus.specs.Rtc.{Ran, ran, commandWritten}
+use Rattle.bus.specs.Chip.{Chipped, flashed, selectedOver, sentOver, selectWritten, sendWritten}
+use Rattle.bus.specs.Rtc.{ran, commandWritten}
 use Rattle.bus.specs.Block as block
 use Rattle.bus.specs.Block.{Block, peekOf, joinedOf, blockOf, wholeOf, Plain, pokedOf, laidFrom, laidOf}
 use Rattle.bus.specs.Screen.{fedWord, Copied, copied, dmaDone, acted, quieted, controlled}
-use Rattle.bus.specs.Sounds.{timerSet, soundOf, soundWritten, timerWritten}
-use Rattle.bus.specs.Words.{controlAt, fieldAt, actsOf, poweredBy, spiSent, adcSet, adcAfter, adcWritten, daySet, wordWritten}
-use Rattle.bus.specs.Write.{Stored, stored, settled, storedWord, ownIn, byFlash, byPanel, byRtc, byWord, byStore, portWritten, wordOf, regWritten, writeAt, writeOf}
+use Rattle.bus.specs.Words.{spiSent}
+use Rattle.bus.specs.Write.{wordOf}
 use Rattle.bus.specs.Read.{afterRead, valueOf, given, regRead, got, reads, readAt, readOf}
 
 -- ---- a block that fits
@@ -147,181 +135,14 @@ module _ (r : Registers) (m s g : List ℕ) (t : Screen) where
         rw (h, j)
         (ap (λ (c : Copied). quieted c val) i ∙ ap (λ (o : List ℕ). quieted (acted (record { own = o; addresses = r .addresses; values = r .values }) m s g t val) val) e)
 
--- ---- sound
-
-module _ (own : List ℕ) (d next : Devices) (clock : ℕ) (full : Bool) (word v : ℕ) {x : Sounded} (e : x ≡ soundOf own (d .tone) clock full word v) where
-  pub sound-full : x ≡ SoundFull → said own (answer 5 d) ≡ soundWritten own d next clock full word v
-  unfolding soundWritten
-  sound-full h = rw (← e, h)
-
-  pub sound-same : {own₁ : List ℕ} → x ≡ Same → own₁ ≡ ownWith own word v → well own₁ next ≡ soundWritten own d next clock full word v
-  unfolding soundWritten
-  sound-same h i = rw (← e, h, i)
-
-  pub sound-change : {own₁ : List ℕ} {tone : Tone} → x ≡ Change tone → own₁ ≡ ownWith own word v
-      → said own₁ (record { refusal = 0; event = true; devices = withTone next tone }) ≡ soundWritten own d next clock full word v
-  unfolding soundWritten
-  sound-change h i = rw (← e, h, i)
-
--- ---- the timers' control words
-
-module _ (own : List ℕ) (d : Devices) (clock : ℕ) (full : Bool) (n word old new : ℕ) {x : Written}
-    (e : x ≡ writtenOf (getD (d .clocks .timers) n none) (d .clocks .times .now) new old) {next : Devices} (i : next ≡ timerSet d n (x .timer)) where
-  pub timer-sound : {s : Said} → n ≡ 4 → s ≡ soundWritten own d next clock full word (x .control) → s ≡ timerWritten own d clock full n word old new
-  unfolding timerWritten
-  timer-sound h k = rw (← e, ← i, eq-eqb _ _ h) k
-
-  pub timer-plain : {own₁ : List ℕ} → n ≢ 4 → own₁ ≡ ownWith own word (x .control) → well own₁ next ≡ timerWritten own d clock full n word old new
-  unfolding timerWritten
-  timer-plain h k = rw (← e, ← i, ne-eqb _ _ h, k)
-
--- ---- the words that act
-
-pub adc-done : (own : List ℕ) (d : Devices) (old new : ℕ) {x : Adc} {y : ℕ} {own₁ : List ℕ} {next : Devices} → y ≡ ownAt own 0xC00C0008
-    → x ≡ adc.writtenOf (record { converting = d .clocks .converting; control = old; result = y }) new
-    → own₁ ≡ ownWith own 0xC00C0004 (x .control) → next ≡ adcSet d (x .converting) → well own₁ next ≡ adcWritten own d old new
-unfolding adcWritten
-adc-done own d old new e h k l =
-    rw (k, l)
-    (ap (λ (z : Adc). adcAfter z own d)
-    (h ∙ ap (λ (r : ℕ). adc.writtenOf (record { converting = d .clocks .converting; control = old; result = r }) new) e))
-
-module _ (own : List ℕ) (d : Devices) (clock : ℕ) (full : Bool) (word old new part : ℕ) {n : ℕ} (e : n ≡ controlAt word) where
-  pub word-timer : {s : Said} → n < 6 → s ≡ timerWritten own d clock full n word old new → s ≡ wordWritten own d clock full word old new part
-  unfolding wordWritten
-  word-timer h k = rw (← e, lt-ltb n 6 h) k
-
-  module _ (h : 6 ≤ n) {f : ℕ} (i : f ≡ fieldAt word) where
-    pub word-day : {y : Wrote} {next : Devices} → f < 3 → next ≡ daySet d f new → y ≡ answer 0 next → said own y ≡ wordWritten own d clock full word old new part
-    unfolding wordWritten
-    word-day j k l = rw (← e, le-ltb n 6 h, ← i, lt-ltb f 3 j, l, k)
-
-    module _ (j : 3 ≤ f) where
-      module _ {own₁ : List ℕ} {y : Wrote} where
-        pub word-lcd : word ≡ 0xD050018C → own₁ ≡ ownWith own 0xD050018C (bitAnd old (bitXor new 0xFFFFFFFF)) → y ≡ answer 0 d
-            → said own₁ y ≡ wordWritten own d clock full word old new part
-        unfolding wordWritten
-        word-lcd k l m = rw (← e, le-ltb n 6 h, ← i, le-ltb f 3 j, k, m, l)
-
-        pub word-adc : {next : Devices} → word ≡ 0xC00C0004 → said own₁ (answer 0 next) ≡ adcWritten own d old new → y ≡ answer 0 next
-            → said own₁ y ≡ wordWritten own d clock full word old new part
-        unfolding wordWritten
-        word-adc k l m = rw (← e, le-ltb n 6 h, ← i, le-ltb f 3 j, k, m) l
-
-        pub word-tick : word ≡ 0xC0040054 → own₁ ≡ ownWith own 0xC0040054 (bitAnd old (bitXor part 0xFFFFFFFF)) → y ≡ answer 0 d
-            → said own₁ y ≡ wordWritten own d clock full word old new part
-        unfolding wordWritten
-        word-tick k l m = rw (← e, le-ltb n 6 h, ← i, le-ltb f 3 j, k, m, l)
-
-        pub word-power : {next : Devices} → word ≡ 0xD0000078 → own₁ ≡ ownWith own 0xD0000078 new → next ≡ poweredBy d new → y ≡ answer 0 next
-            → said own₁ y ≡ wordWritten own d clock full word old new part
-        unfolding wordWritten
-        word-power k l m o = rw (← e, le-ltb n 6 h, ← i, le-ltb f 3 j, k, o, l, m)
-
-        pub word-spi : word ≡ 0xC0080008 → own₁ ≡ spiSent own new → y ≡ answer 0 d → said own₁ y ≡ wordWritten own d clock full word old new part
-        unfolding wordWritten
-        word-spi k l m = rw (← e, le-ltb n 6 h, ← i, le-ltb f 3 j, k, m, l)
-
-      pub word-sound : {s : Said} → word ≢ 0xD050018C → word ≢ 0xC00C0004 → word ≢ 0xC0040054 → word ≢ 0xD0000078 → word ≢ 0xC0080008
-          → s ≡ soundWritten own d d clock full word new → s ≡ wordWritten own d clock full word old new part
-      unfolding wordWritten
-      word-sound k₁ k₂ k₃ k₄ k₅ l =
-          rw (← e, le-ltb n 6 h, ← i, le-ltb f 3 j, ne-eqb _ _ k₁, ne-eqb _ _ k₂, ne-eqb _ _ k₃, ne-eqb _ _ k₄, ne-eqb _ _ k₅) l
-
--- ---- a word that is written
-
-module _ (r : Registers) {r₁ : Registers} (d : Devices) (word new : ℕ) {x : Refusal} {y : Wrote} (e : outcome x r₁ ≡ putWord r word new) where
-  pub store-done : x ≡ Done → y ≡ answer 0 d → stored r₁ y ≡ storedWord r d word new
-  unfolding storedWord
-  store-done h k = rw k (rw h at (ap (λ (o : Outcome). settled o d) e))
-
-  pub store-full : x ≡ RegistersFull → y ≡ answer 4 d → stored r₁ y ≡ storedWord r d word new
-  unfolding storedWord
-  store-full h k = rw k (rw h at (ap (λ (o : Outcome). settled o d) e))
-
-module _ (w : World) (full : Bool) (word old new part : ℕ) {y : Wrote} where
-  pub port-select : {own₁ : List ℕ} {f : Chip} {p m : List ℕ} → word ≡ 0xC0150000
-      → flashed own₁ (chipped f p m) ≡ selectWritten (w .registers .own) (w .devices .flash) (w .page) (w .ram) new → y ≡ answer 0 (withFlash (w .devices) f)
-      → out (world (ownIn w own₁) (w .rtc) p m (w .sram) (w .gpio) (w .fb) (y .devices)) (y .refusal) (y .event) ≡ portWritten w full word old new part
-  unfolding portWritten
-  port-select h i k = rw (h, k) (ap (λ (z : Flashed). byFlash w z) i)
-
-  pub port-send : {own₁ : List ℕ} {f : Chip} {p m : List ℕ} → word ≡ 0xC0150008
-      → flashed own₁ (chipped f p m) ≡ sendWritten (w .registers .own) (w .devices .flash) (w .page) (w .ram) new → y ≡ answer 0 (withFlash (w .devices) f)
-      → out (world (ownIn w own₁) (w .rtc) p m (w .sram) (w .gpio) (w .fb) (y .devices)) (y .refusal) (y .event) ≡ portWritten w full word old new part
-  unfolding portWritten
-  port-send h i k = rw (h, k) (ap (λ (z : Flashed). byFlash w z) i)
-
-  pub port-panel : {own₁ : List ℕ} {p : Panel} {f : List ℕ} → word ≡ 0xD0500140
-      → copied own₁ (screen p f) ≡ controlled (w .registers) (w .ram) (w .sram) (w .gpio) (screen (w .devices .panel) (w .fb)) new
-      → y ≡ answer 0 (withPanel (w .devices) p)
-      → out (world (ownIn w own₁) (w .rtc) (w .page) (w .ram) (w .sram) (w .gpio) f (y .devices)) (y .refusal) (y .event) ≡ portWritten w full word old new part
-  unfolding portWritten
-  port-panel h i k = rw (h, k) (ap (λ (z : Copied). byPanel w z) i)
-
-  pub port-rtc : {own₁ : List ℕ} {l : Latch} {c : List ℕ} → word ≡ 0xC009000C
-      → ran own₁ (rtcOf c l) ≡ commandWritten (w .registers .own) (rtcOf (w .rtc) (w .devices .latch)) (w .devices .clocks .times .game) new
-      → y ≡ answer 0 (withLatch (w .devices) l)
-      → out (world (ownIn w own₁) c (w .page) (w .ram) (w .sram) (w .gpio) (w .fb) (y .devices)) (y .refusal) (y .event) ≡ portWritten w full word old new part
-  unfolding portWritten
-  port-rtc h i k = rw (h, k) (ap (λ (z : Ran). byRtc w z) i)
-
-  module _ (h₁ : word ≢ 0xC0150000) (h₂ : word ≢ 0xC0150008) (h₃ : word ≢ 0xD0500140) (h₄ : word ≢ 0xC009000C) {b : Bool} (e : b ≡ actsOf word) where
-    pub port-word : {own₁ : List ℕ} {clock : ℕ} → b ≡ true → clock ≡ clockIn (w .sram)
-        → said own₁ y ≡ wordWritten (w .registers .own) (w .devices) clock full word old new part
-        → out (world (ownIn w own₁) (w .rtc) (w .page) (w .ram) (w .sram) (w .gpio) (w .fb) (y .devices)) (y .refusal) (y .event) ≡ portWritten w full word old new part
-    unfolding portWritten
-    port-word j k i = rw (ne-eqb _ _ h₁, ne-eqb _ _ h₂, ne-eqb _ _ h₃, ne-eqb _ _ h₄, ← e, j, ← k) (ap (λ (z : Said). byWord w z) i)
-
-    pub port-stored : {r₁ : Registers} → b ≡ false → stored r₁ y ≡ storedWord (w .registers) (w .devices) word new
-        → out (world r₁ (w .rtc) (w .page) (w .ram) (w .sram) (w .gpio) (w .fb) (y .devices)) (y .refusal) (y .event) ≡ portWritten w full word old new part
-    unfolding portWritten
-    port-stored j i = rw (ne-eqb _ _ h₁, ne-eqb _ _ h₂, ne-eqb _ _ h₃, ne-eqb _ _ h₄, ← e, j) (ap (λ (z : Stored). byStore w z) i)
-
-pub reg-merged : (w : World) (full : Bool) (a n v : ℕ) {old new part : ℕ} {x : Out} → old ≡ wordAt (w .registers) (wordOf a) → new ≡ mergedOf old a n v
-    → part ≡ access.writtenOf a n v → x ≡ portWritten w full (wordOf a) old new part → x ≡ regWritten w full a n v
-unfolding regWritten
-reg-merged w full a n v h k l i = rw (← h, ← k, ← l) i
-
--- ---- where an address lies
+-- ---- a test that is turned over
 
 not-not : (b : Bool) → not (not b) ≡ b
 not-not true = refl
 not-not false = refl
 
-other : (b c : Bool) → not b ≡ c → b ≡ not c
+pub other : (b c : Bool) → not b ≡ c → b ≡ not c
 other b c h = sym (not-not b) ∙ ap not h
-
-module _ (w : World) (full : Bool) (a n v : ℕ) {good : Bool} (e : good ≡ goodSize n) where
-  pub write-size : {y : Wrote} → not good ≡ true → y ≡ answer 9 (w .devices)
-      → out (world (w .registers) (w .rtc) (w .page) (w .ram) (w .sram) (w .gpio) (w .fb) (y .devices)) (y .refusal) (y .event) ≡ writeOf w full a n v
-  unfolding writeOf
-  write-size h k = rw (← e, other good true h, k)
-
-  module _ (h : not good ≡ false) {p : Place} (f : p ≡ placeOf a) where
-    placed : writeOf w full a n v ≡ writeAt p w full a n v
-    unfolding writeOf
-    placed = rw (← e, other good false h, ← f)
-
-    module _ {o : ℕ} {y : Wrote} {m : List ℕ} where
-      pub write-ram : p ≡ Ram o → m ≡ storedAt (w .ram) o n v → y ≡ answer 0 (w .devices)
-          → out (world (w .registers) (w .rtc) (w .page) m (w .sram) (w .gpio) (w .fb) (y .devices)) (y .refusal) (y .event) ≡ writeOf w full a n v
-      write-ram k l i = rw (placed, k, l, i)
-
-      pub write-sram : p ≡ Sram o → m ≡ storedAt (w .sram) o n v → y ≡ answer 0 (w .devices)
-          → out (world (w .registers) (w .rtc) (w .page) (w .ram) m (w .gpio) (w .fb) (y .devices)) (y .refusal) (y .event) ≡ writeOf w full a n v
-      write-sram k l i = rw (placed, k, l, i)
-
-      pub write-gpio : p ≡ Gpio o → m ≡ storedAt (w .gpio) o n v → y ≡ answer 0 (w .devices)
-          → out (world (w .registers) (w .rtc) (w .page) (w .ram) (w .sram) m (w .fb) (y .devices)) (y .refusal) (y .event) ≡ writeOf w full a n v
-      write-gpio k l i = rw (placed, k, l, i)
-
-    pub write-register : {x : Out} → p ≡ Register → x ≡ regWritten w full a n v → x ≡ writeOf w full a n v
-    write-register k i = rw (placed, k) i
-
-    pub write-stray : {y : Wrote} → p ≡ Stray → y ≡ answer 6 (w .devices)
-        → out (world (w .registers) (w .rtc) (w .page) (w .ram) (w .sram) (w .gpio) (w .fb) (y .devices)) (y .refusal) (y .event) ≡ writeOf w full a n v
-    write-stray k i = rw (placed, k, i)
 
 -- ---- reads
 

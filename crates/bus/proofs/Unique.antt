@@ -6,13 +6,17 @@ use mathlib.Core.List.{List}
 use lib.Ieee.{Float}
 use Rattle.whole.proofs.Unique.{unique}
 use Rattle.timer.specs.declared.Queue.{Queue}
+use Rattle.timer.specs.Events.{queueOf}
+use Rattle.registers.specs.declared.Registers.{Registers}
 use Rattle.state.specs.declared.Parts.{Parts}
 use Rattle.state.specs.Parts.{parts}
 use Rattle.state.specs.Bank.{partsIn}
-use Rattle.state.specs.Packed.{Packed}
-use Rattle.state.proofs.Packs.{one-bank}
+use Rattle.state.specs.Packed.{Packed, Answered}
+use Rattle.state.proofs.Packs.{one-later}
 use Rattle.bus.specs.declared.Got.{Got}
-use Rattle.bus.specs.World.{World, out}
+use Rattle.bus.specs.declared.Told.{Told}
+use Rattle.bus.specs.World.{World, world, out}
+use Rattle.bus.specs.Bank.{outOf}
 use Rattle.bus.specs.Write.{Noted, together}
 use Rattle.bus.specs.Read.{Given, given, ReadOut, got}
 use Rattle.bus.specs.Block.{Block, block, Plain, plain}
@@ -30,17 +34,18 @@ parts-same x y h i j = same h i j
     same : x .devices ≡ y .devices → x .ring ≡ y .ring → x .keys ≡ y .keys → parts (x .devices) (x .ring) (x .keys) ≡ parts (y .devices) (y .ring) (y .keys)
     same h i j = rw (h, i, j)
 
--- and of a packed bank the very words: the devices are the world's, the ring is the queue's, the keys stay
-pub one-write-words : {l l′ : List ℕ} {f f′ : List Float} (d : Noted) (v w : World) (m n : ℕ) (e g : Bool) (p q : Queue) → Packed l f → Packed l′ f′
-    → v .devices ≡ partsIn l f .devices → w .devices ≡ partsIn l′ f′ .devices → p .ring ≡ partsIn l f .ring → q .ring ≡ partsIn l′ f′ .ring
-    → partsIn l f .keys ≡ partsIn l′ f′ .keys → together (out v m e) p ≡ d → together (out w n g) q ≡ d → (l ≡ l′) × (f ≡ f′)
-one-write-words {l} {l′} {f} {f′} d v w m n e g p q a b dv dw rp rq k h i =
-    let z = one-write d v w m n e g p q h i in
-    one-bank a b
-    (parts-same (partsIn l f) (partsIn l′ f′)
-    (sym dv ∙ ap (λ (x : World). x .devices) (z .0) ∙ dw)
-    (sym rp ∙ ap (λ (x : Queue). x .ring) (z .3) ∙ rq)
-    k)
+-- and from a packed bank the later words are one too
+pub one-write-words : (d : Noted) {l l₁ l₂ : List ℕ} {v v₁ v₂ : List Float} (x : Parts) (r₁ r₂ : Registers) (c₁ p₁ m₁ s₁ g₁ f₁ c₂ p₂ m₂ s₂ g₂ f₂ : List ℕ)
+    (t₁ t₂ : Told) (x₁ y₁ z₁ x₂ y₂ z₂ : List Float) → Packed l v
+    → together (outOf (world r₁ c₁ p₁ m₁ s₁ g₁ f₁ (partsIn l₁ v₁ .devices)) t₁) (queueOf x₁ y₁ z₁ (partsIn l₁ v₁ .ring)) ≡ d
+    → partsIn l₁ v₁ .keys ≡ x .keys → Answered (t₁ .refusal) l v l₁ v₁
+    → together (outOf (world r₂ c₂ p₂ m₂ s₂ g₂ f₂ (partsIn l₂ v₂ .devices)) t₂) (queueOf x₂ y₂ z₂ (partsIn l₂ v₂ .ring)) ≡ d
+    → partsIn l₂ v₂ .keys ≡ x .keys → Answered (t₂ .refusal) l v l₂ v₂ → (l₁ ≡ l₂) × (v₁ ≡ v₂)
+one-write-words d {l₁ = l₁} {l₂ = l₂} {v₁ = v₁} {v₂ = v₂} x r₁ r₂ c₁ p₁ m₁ s₁ g₁ f₁ c₂ p₂ m₂ s₂ g₂ f₂ t₁ t₂ x₁ y₁ z₁ x₂ y₂ z₂ packed e₁ k₁ a₁ e₂ k₂ a₂ =
+    let e : together (outOf (world r₁ c₁ p₁ m₁ s₁ g₁ f₁ (partsIn l₁ v₁ .devices)) t₁) (queueOf x₁ y₁ z₁ (partsIn l₁ v₁ .ring))
+    ≡ together (outOf (world r₂ c₂ p₂ m₂ s₂ g₂ f₂ (partsIn l₂ v₂ .devices)) t₂) (queueOf x₂ y₂ z₂ (partsIn l₂ v₂ .ring)) = unique e₁ e₂ in
+    one-later packed (a₁ .kept) (a₂ .kept)
+    (parts-same (partsIn l₁ v₁) (partsIn l₂ v₂) (ap (λ (o : Noted). o .out .world .devices) e) (ap (λ (o : Noted). o .queue .ring) e) (k₁ ∙ sym k₂))
 
 -- of a read
 pub one-read : (d : ReadOut) (v w : List ℕ) (g h : Got) → got v g ≡ d → got w h ≡ d → (v ≡ w) × (g ≡ h)

@@ -3,9 +3,13 @@ use Prim.Native.Nat.{ℕ}
 use mathlib.Core.Path.{_≡_}
 use mathlib.Core.Bool.{false}
 use mathlib.Core.List.{List}
+use mathlib.Core.Logic.{_≢_}
+use lib.Ieee.{Float}
 use Rattle.registers.specs.Words.{registersOf}
 use Rattle.state.specs.declared.Devices.{Devices}
 use Rattle.state.specs.declared.Parts.{Parts}
+use Rattle.state.specs.Bank.{partsIn}
+use Rattle.state.specs.Packed.{Kept}
 use Rattle.bus.specs.declared.Told.{Told}
 use Rattle.bus.specs.World.{World, world, Out, out, Wrote}
 
@@ -13,6 +17,13 @@ use Rattle.bus.specs.World.{World, world, Out, out, Wrote}
 pub record Only (x y : Parts) : Type 0 where
   pub ring : y .ring ≡ x .ring
   pub keys : y .keys ≡ x .keys
+
+-- what a write leaves of the bank beside the devices: ring and keys; packed words packed; and where it is refused it
+-- makes no event and every word is as it was
+pub record Rest (r : Told) (l : List ℕ) (f : List Float) (l′ : List ℕ) (f′ : List Float) : Type 0 where
+  pub only : Only (partsIn l f) (partsIn l′ f′)
+  pub kept : Kept l f l′ f′
+  pub still : r .refusal ≢ 0 → (r .event ≡ false) × (l′ ≡ l) × (f′ ≡ f)
 
 -- the registers' three lists, the RTC's registers, the page's running AND, the four memories, the bank's parts
 abbrev pub worldOf : List ℕ → List ℕ → List ℕ → List ℕ → List ℕ → List ℕ → List ℕ → List ℕ → List ℕ → Parts → World

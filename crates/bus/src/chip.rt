@@ -26,7 +26,7 @@ fn flash_xfer(page: &mut [u8; 256], ram: &[u8], chip: Chip, byte: u8) -> Chip
     r.chip
 }
 
-pub fn select_write(
+pub(crate) fn select_write(
     own: &mut [u32; 76],
     page: &mut [u8; 256],
     ram: &mut [u8],
@@ -40,7 +40,7 @@ pub fn select_write(
     flash_select(page, ram, chip, new & 0x40 != 0)
 }
 
-pub fn send_write(
+pub(crate) fn send_write(
     own: &mut [u32; 76],
     page: &mut [u8; 256],
     ram: &[u8],

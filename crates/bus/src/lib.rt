@@ -3,12 +3,12 @@
 // The work is done over lent arrays: the registers, the memories, and the bank of crate state, which holds every scalar of
 // the devices. The functions take memories of any length: what lies past the end of one reads as 0 and is not stored.
 pub mod block;
-pub mod chip;
+mod chip;
 pub mod read;
-pub mod rtc;
-pub mod screen;
+mod rtc;
+mod screen;
 mod sounds;
-pub mod words;
+mod words;
 pub mod write;
 
 // What a write answers: 01's number, and whether the tone changed, which is an event at the time that the bank has.

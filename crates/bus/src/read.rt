@@ -5,12 +5,12 @@ ghost use Rattle.registers.specs.Words.{registersOf};
 ghost use Rattle.state.specs.Bank.{partsIn};
 ghost use Rattle.bus.specs.Read.{statusOf, counterAt, baseOf, dayRead, timerRead, counterRead, movedValue, valueOf, afterRead, got, given, regRead, readOf};
 use crate::Got;
-use crate::sounds::keep;
 use crate::words::control_at;
 use crate::words::field_at;
 use memory::Place;
 use state::Cells;
 use state::Floats;
+use whole::forms::keep;
 
 fn clock_status(own: &[u32; 76]) -> u32
     ensures { λ r. ⌜ r ≡ statusOf (now (own .entry)) ⌝ }
@@ -27,7 +27,7 @@ fn tod_read(cells: &Cells, floats: &Floats, field: u32) -> u32
 }
 
 // The timer whose counter it is, or 6.
-pub fn counter_at(word: u32) -> usize
+fn counter_at(word: u32) -> usize
     ensures { λ r. ⌜ r ≡ counterAt word ⌝ }
 {
     if word < 0xC002_0010 {

@@ -4,7 +4,7 @@ ghost use Rattle.clock.specs.Rtc.{rtcOf};
 ghost use Rattle.bus.specs.Rtc.{ran, commandWritten};
 use clock::Latch;
 
-pub fn command_write(
+pub(crate) fn command_write(
     own: &mut [u32; 76],
     regs: &mut [u8; 256],
     latch: Latch,

@@ -74,7 +74,7 @@ fn act(
 }
 
 // The control word is stored, acts if bit 0 is set, and then loses that bit.
-pub fn lcd_write_ctrl(
+pub(crate) fn lcd_write_ctrl(
     own: &mut [u32; 76],
     addresses: &[u32; 256],
     values: &[u32; 256],

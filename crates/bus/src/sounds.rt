@@ -1,26 +1,19 @@
 // The timers' control words, and the buzzer that follows timer 4.
 ghost use mathlib.Core.Path.{_≡_};
-ghost use mathlib.Core.Bool.{cond};
 ghost use Rattle.state.specs.Bank.{partsIn};
-ghost use Rattle.state.specs.Packed.{Kept};
-ghost use Rattle.bus.specs.Bank.{Only, wroteOf};
-ghost use Rattle.bus.specs.Sounds.{timerSet, soundOf, soundWritten, timerWritten};
+ghost use Rattle.bus.specs.Bank.{Rest, wroteOf};
+ghost use Rattle.bus.specs.Sounds.{soundOf, soundWritten, timerWritten};
 ghost use Rattle.bus.specs.World.{said};
 use crate::Told;
 use crate::words::done;
+use crate::words::refused;
 use state::Cells;
 use state::Floats;
 use state::moments::put_timer;
 use state::rests::put_tone;
 use timer::Sounded;
-use timer::Timer;
 use timer::Tone;
-
-pub(crate) fn keep(here: bool, a: u32, b: u32) -> u32
-    ensures { λ r. ⌜ r ≡ cond here a b ⌝ }
-{
-    if here { a } else { b }
-}
+use whole::forms::keep;
 
 // What the buzzer does once `kept` is stored in a word of timer 4: nothing is stored yet, as that may be refused.
 fn sound_after(own: &[u32; 76], tone: Tone, clock: u32, full: bool, word: u32, kept: u32) -> Sounded
@@ -44,7 +37,7 @@ fn sound_after(own: &[u32; 76], tone: Tone, clock: u32, full: bool, word: u32, k
     timer::sound::sound_update(tone, full, clock, control, reload, compare)
 }
 
-// Timer 4's reload or compare word is stored.
+// A word of timer 4 is stored, and the tone put, unless the event has no room.
 pub(crate) fn sound_write(
     own: &mut [u32; 76],
     cells: &Cells,
@@ -57,25 +50,17 @@ pub(crate) fn sound_write(
     ensures { λ r. ⌜ (said (now (own .exit)) (wroteOf r (partsIn (now (cells .entry)) (now (floats .exit)) .devices))
         ≡ soundWritten (now (own .entry)) (partsIn (now (cells .entry)) (now (floats .entry)) .devices)
         (partsIn (now (cells .entry)) (now (floats .entry)) .devices) clock full word kept)
-        × Only (partsIn (now (cells .entry)) (now (floats .entry))) (partsIn (now (cells .entry))
-        (now (floats .exit)))
-        × Kept (now (cells .entry)) (now (floats .entry)) (now (cells .entry)) (now (floats .exit)) ⌝ }
+        × Rest r (now (cells .entry)) (now (floats .entry)) (now (cells .entry)) (now (floats .exit)) ⌝ }
 {
     let tone = state::rests::tone_of(floats);
     let sounded = sound_after(own, tone, clock, full, word, kept);
     match sounded {
         Sounded::SoundFull => {
-            return Told {
-                refusal: 5,
-                event: false,
-            };
+            return refused(5);
         }
         Sounded::Same => {
             registers::own_insert(own, word, kept);
-            return Told {
-                refusal: 0,
-                event: false,
-            };
+            return done();
         }
         Sounded::Change(next) => {
             registers::own_insert(own, word, kept);
@@ -88,53 +73,7 @@ pub(crate) fn sound_write(
     }
 }
 
-// Timer 4's control word is stored, and the timer put, unless the event has no room.
-fn sound_timer(
-    own: &mut [u32; 76],
-    cells: &mut Cells,
-    floats: &mut Floats,
-    clock: u32,
-    full: bool,
-    word: u32,
-    kept: u32,
-    timer: Timer,
-) -> Told
-    ensures { λ r. ⌜ (said (now (own .exit)) (wroteOf r (partsIn (now (cells .exit)) (now (floats .exit)) .devices))
-        ≡ soundWritten (now (own .entry)) (partsIn (now (cells .entry)) (now (floats .entry)) .devices)
-        (timerSet (partsIn (now (cells .entry)) (now (floats .entry)) .devices) 4 timer) clock full word kept)
-        × Only (partsIn (now (cells .entry)) (now (floats .entry))) (partsIn (now (cells .exit)) (now (floats .exit)))
-        × Kept (now (cells .entry)) (now (floats .entry)) (now (cells .exit)) (now (floats .exit)) ⌝ }
-{
-    let tone = state::rests::tone_of(floats);
-    let sounded = sound_after(own, tone, clock, full, word, kept);
-    match sounded {
-        Sounded::SoundFull => {
-            return Told {
-                refusal: 5,
-                event: false,
-            };
-        }
-        Sounded::Same => {
-            registers::own_insert(own, word, kept);
-            put_timer(cells, floats, 4, timer);
-            return Told {
-                refusal: 0,
-                event: false,
-            };
-        }
-        Sounded::Change(next) => {
-            registers::own_insert(own, word, kept);
-            put_timer(cells, floats, 4, timer);
-            put_tone(floats, next);
-            return Told {
-                refusal: 0,
-                event: true,
-            };
-        }
-    }
-}
-
-// The control word of timer n. It is stored without bit 15.
+// The control word of timer n. It is stored without bit 15; timer 4's only where the buzzer's event has room.
 pub(crate) fn timer_write_ctrl(
     own: &mut [u32; 76],
     cells: &mut Cells,
@@ -149,23 +88,18 @@ pub(crate) fn timer_write_ctrl(
     ensures { λ r. ⌜ (said (now (own .exit)) (wroteOf r (partsIn (now (cells .exit)) (now (floats .exit)) .devices))
         ≡ timerWritten (now (own .entry)) (partsIn (now (cells .entry))
         (now (floats .entry)) .devices) clock full n word old new)
-        × Only (partsIn (now (cells .entry)) (now (floats .entry))) (partsIn (now (cells .exit)) (now (floats .exit)))
-        × Kept (now (cells .entry)) (now (floats .entry)) (now (cells .exit)) (now (floats .exit)) ⌝ }
+        × Rest r (now (cells .entry)) (now (floats .entry)) (now (cells .exit)) (now (floats .exit)) ⌝ }
 {
     let t = state::moments::timer_of(cells, floats, n);
     let times = state::moments::times_of(floats);
     let written = timer::write_ctrl(t, times.now, new, old);
     if n == 4 {
-        return sound_timer(
-            own,
-            cells,
-            floats,
-            clock,
-            full,
-            word,
-            written.control,
-            written.timer,
-        );
+        let told = sound_write(own, cells, floats, clock, full, word, written.control);
+        if told.refusal != 0 {
+            return told;
+        }
+        put_timer(cells, floats, 4, written.timer);
+        return told;
     }
     registers::own_insert(own, word, written.control);
     put_timer(cells, floats, n, written.timer);

@@ -3,7 +3,7 @@ ghost use mathlib.Core.Path.{_≡_};
 ghost use Rattle.state.specs.Bank.{partsIn};
 ghost use Rattle.state.specs.Packed.{Kept};
 ghost use Rattle.state.specs.Parts.{devicesPut};
-ghost use Rattle.bus.specs.Bank.{Only, wroteOf, toldOf};
+ghost use Rattle.bus.specs.Bank.{Only, Rest, wroteOf, toldOf};
 ghost use Rattle.bus.specs.Words.{controlAt, fieldAt, actsOf, spiSent, adcWritten, daySet, poweredBy, wordWritten};
 ghost use Rattle.bus.specs.World.{said, answer};
 use crate::Told;
@@ -14,7 +14,7 @@ use state::Cells;
 use state::Floats;
 
 // The timer whose control word it is, or 6.
-pub fn control_at(word: u32) -> usize
+pub(crate) fn control_at(word: u32) -> usize
     ensures { λ r. ⌜ r ≡ controlAt word ⌝ }
 {
     if word < 0xC002_0000 {
@@ -31,7 +31,7 @@ pub fn control_at(word: u32) -> usize
 }
 
 // Which time-of-day word it is: 0 seconds, 1 minutes, 2 hours, or 3 for none.
-pub fn field_at(word: u32) -> u32
+pub(crate) fn field_at(word: u32) -> u32
     ensures { λ r. ⌜ r ≡ fieldAt word ⌝ }
 {
     match word {
@@ -43,7 +43,7 @@ pub fn field_at(word: u32) -> u32
 }
 
 // Whether a word does more than to be stored.
-pub fn acts(word: u32) -> bool
+pub(crate) fn acts(word: u32) -> bool
     ensures { λ r. ⌜ r ≡ actsOf word ⌝ }
 {
     (control_at(word) < 6)
@@ -138,8 +138,7 @@ pub(crate) fn word_write(
     ensures { λ r. ⌜ (said (now (own .exit)) (wroteOf r (partsIn (now (cells .exit)) (now (floats .exit)) .devices))
         ≡ wordWritten (now (own .entry)) (partsIn (now (cells .entry))
         (now (floats .entry)) .devices) clock full word old new part)
-        × Only (partsIn (now (cells .entry)) (now (floats .entry))) (partsIn (now (cells .exit)) (now (floats .exit)))
-        × Kept (now (cells .entry)) (now (floats .entry)) (now (cells .exit)) (now (floats .exit)) ⌝ }
+        × Rest r (now (cells .entry)) (now (floats .entry)) (now (cells .exit)) (now (floats .exit)) ⌝ }
 {
     let n = control_at(word);
     if n < 6 {

@@ -1,12 +1,13 @@
 // Writes on the bus: slow_write and mmio_write, and the event that a write makes.
 ghost use mathlib.Core.Path.{_≡_};
+ghost use mathlib.Core.Bool.{false};
 ghost use Rattle.registers.specs.Words.{registersOf};
 ghost use Rattle.timer.specs.Events.{queueOf};
 ghost use Rattle.state.specs.Bank.{partsIn};
-ghost use Rattle.state.specs.Packed.{Kept};
+ghost use Rattle.state.specs.Packed.{Kept, Answered};
 ghost use Rattle.state.specs.Parts.{ringPut};
 ghost use Rattle.state.specs.declared.Devices.{Devices};
-ghost use Rattle.bus.specs.Bank.{Only, worldOf, wroteOf, outOf};
+ghost use Rattle.bus.specs.Bank.{Rest, worldOf, wroteOf, outOf};
 ghost use Rattle.bus.specs.Sounds.{noted};
 ghost use Rattle.bus.specs.Write.{stored, storedWord, portWritten, regWritten, writeOf, together, notedWrite};
 use crate::Told;
@@ -66,8 +67,7 @@ fn port_write(
         (now (ram .entry)) (now (sram .entry)) (now (gpio .entry)) (now (fb .entry)) (partsIn (now (cells .entry))
         (now (floats .entry))))
         full word old new part)
-        × Only (partsIn (now (cells .entry)) (now (floats .entry))) (partsIn (now (cells .exit)) (now (floats .exit)))
-        × Kept (now (cells .entry)) (now (floats .entry)) (now (cells .exit)) (now (floats .exit)) ⌝ }
+        × Rest r (now (cells .entry)) (now (floats .entry)) (now (cells .exit)) (now (floats .exit)) ⌝ }
 {
     match word {
         0xC015_0000 => {
@@ -151,8 +151,7 @@ fn mmio_write(
         (now (ram .entry)) (now (sram .entry)) (now (gpio .entry)) (now (fb .entry)) (partsIn (now (cells .entry))
         (now (floats .entry))))
         full addr size value)
-        × Only (partsIn (now (cells .entry)) (now (floats .entry))) (partsIn (now (cells .exit)) (now (floats .exit)))
-        × Kept (now (cells .entry)) (now (floats .entry)) (now (cells .exit)) (now (floats .exit)) ⌝ }
+        × Rest r (now (cells .entry)) (now (floats .entry)) (now (cells .exit)) (now (floats .exit)) ⌝ }
 {
     let word = addr - addr % 4;
     let old = registers::reg(own, addresses, values, word);
@@ -205,8 +204,7 @@ fn slow_write(
         (now (ram .entry)) (now (sram .entry)) (now (gpio .entry)) (now (fb .entry)) (partsIn (now (cells .entry))
         (now (floats .entry))))
         full addr size value)
-        × Only (partsIn (now (cells .entry)) (now (floats .entry))) (partsIn (now (cells .exit)) (now (floats .exit)))
-        × Kept (now (cells .entry)) (now (floats .entry)) (now (cells .exit)) (now (floats .exit)) ⌝ }
+        × Rest r (now (cells .entry)) (now (floats .entry)) (now (cells .exit)) (now (floats .exit)) ⌝ }
 {
     if !memory::good_size(size) {
         return refused(9);
@@ -267,7 +265,8 @@ fn note(
         × (partsIn (now (cells .exit)) (now (floats .entry))
         ≡ ringPut (partsIn (now (cells .entry)) (now (floats .entry))) (partsIn (now (cells .exit))
         (now (floats .entry)) .ring))
-        × Kept (now (cells .entry)) (now (floats .entry)) (now (cells .exit)) (now (floats .entry)) ⌝ }
+        × Kept (now (cells .entry)) (now (floats .entry)) (now (cells .exit)) (now (floats .entry))
+        × (event ≡ false → now (cells .exit) ≡ now (cells .entry)) ⌝ }
 {
     if event {
         let ring = state::rests::ring_of(cells);
@@ -326,7 +325,7 @@ pub fn write(
         addr size value)
         × (partsIn (now (cells .exit)) (now (floats .exit)) .keys
         ≡ partsIn (now (cells .entry)) (now (floats .entry)) .keys)
-        × Kept (now (cells .entry)) (now (floats .entry)) (now (cells .exit)) (now (floats .exit)) ⌝ }
+        × Answered (r .refusal) (now (cells .entry)) (now (floats .entry)) (now (cells .exit)) (now (floats .exit)) ⌝ }
 {
     let ring = state::rests::ring_of(cells);
     let full = timer::events::full(ring);

@@ -10,4 +10,5 @@ pub mod Limits
 pub mod Literal
 pub mod SameEdges
 pub mod SameKeys
+pub mod Still
 pub mod Unique

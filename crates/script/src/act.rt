@@ -47,7 +47,7 @@ fn colour(c: Colours) -> Answer
     numbers(0, word, 0, 0)
 }
 
-// An arm for each kind. The last is reached by no entry, so that a new kind has nothing to fall into.
+// An arm for each kind. The contract lets no entry reach the last, so that a new kind has nothing to fall into.
 pub(crate) fn act(
     own: &mut [u32; 76],
     addresses: &mut [u32; 256],
@@ -188,7 +188,6 @@ pub(crate) fn act(
             );
             return refused(0);
         }
-        // No entry comes here: the contract rules it out.
         _ => {
             return refused(10);
         }

@@ -16,12 +16,14 @@ use crate::format::presses;
 use crate::format::steps;
 use crate::replies::ANSWER_BYTES;
 use crate::replies::lay;
+use state::CELLS;
 use state::Cells;
+use state::FLOATS;
 use state::Floats;
 use system::wipe::reset;
 
 // 7: a memory has not the length that a unit's has.
-pub fn bad_memory(ram: &[u8], sram: &[u8], gpio: &[u8], fb: &[u8]) -> bool
+pub(crate) fn bad_memory(ram: &[u8], sram: &[u8], gpio: &[u8], fb: &[u8]) -> bool
     ensures { λ r. ⌜ r ≡ badMemory (now (ram .entry)) (now (sram .entry)) (now (gpio .entry)) (now (fb .entry)) ⌝ }
 {
     (ram.len() != 16777216)
@@ -139,8 +141,8 @@ fn run_fresh(
     let mut duties = [0.0; 256];
     let mut times = [0.0; 64];
     let mut codes = [0u8; 64];
-    let mut cells = [0u64; 51];
-    let mut floats = [0.0; 16];
+    let mut cells = [0u64; CELLS];
+    let mut floats = [0.0; FLOATS];
     run_all(
         &mut own,
         &mut addresses,

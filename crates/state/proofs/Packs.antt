@@ -6,8 +6,8 @@ use lib.ListN.{length, getD, replicate}
 use lib.Ieee.{Float, binary64, ofBits}
 use Rattle.state.specs.declared.Parts.{Parts}
 use Rattle.state.specs.Parts.{none, flashPut, panelPut, timesPut, timerPut, irqPut, vsyncPut, convertingPut, latchPut, tonePut, offPut, ringPut, keysPut}
-use Rattle.state.specs.Bank.{modeIn, heldIn, chipIn, panelIn, timesIn, timerIn, irqIn, latchIn, toneIn, ringIn, keysIn, partsIn}
-use Rattle.state.specs.Packed.{modeNumber, heldNumber, chipCells, panelCells, clockCells, keyCells, timesFloats, cellsOf, floatsOf, Packed}
+use Rattle.state.specs.Bank.{cellCount, floatCount, modeIn, heldIn, chipIn, panelIn, timesIn, timerIn, irqIn, latchIn, toneIn, ringIn, keysIn, partsIn}
+use Rattle.state.specs.Packed.{modeNumber, heldNumber, chipCells, panelCells, clockCells, keyCells, timesFloats, cellsOf, floatsOf, Packed, Kept, Answered}
 use Rattle.state.proofs.Spread.{spread, spread-is}
 
 -- what the words of a packed bank are
@@ -19,7 +19,21 @@ one-bank {l} {l′} {f} {f′} p q e =
     let a = packed-words (partsIn l′ f′) p e in
     (a .0 ∙ q .cells, a .1 ∙ q .floats)
 
-pub zeros-packed : Packed (replicate 51 0) (replicate 16 (ofBits binary64 0))
+-- so of two outcomes of one call from a packed bank: where they make the same parts they are the same words
+pub one-later : {l l₁ l₂ : List ℕ} {f f₁ f₂ : List Float} → Packed l f → Kept l f l₁ f₁ → Kept l f l₂ f₂ → partsIn l₁ f₁ ≡ partsIn l₂ f₂
+    → (l₁ ≡ l₂) × (f₁ ≡ f₂)
+one-later p j k e = one-bank (j p) (k p) e
+
+-- ---- what a call answers
+
+module _ {n : ℕ} {l : List ℕ} {f : List Float} where
+  pub done-answered : {l′ : List ℕ} {f′ : List Float} → n ≡ 0 → Kept l f l′ f′ → Answered n l f l′ f′
+  done-answered e k = record { kept = k; still = λ h. absurd (h e) }
+
+  pub none-put : Answered n l f l f
+  none-put = record { kept = λ k. k; still = λ h. (refl, refl) }
+
+pub zeros-packed : Packed (replicate cellCount 0) (replicate floatCount (ofBits binary64 0))
 unfolding modeIn heldIn modeNumber heldNumber chipIn panelIn timesIn timerIn irqIn latchIn toneIn ringIn keysIn chipCells panelCells clockCells keyCells timesFloats cellsOf floatsOf
 zeros-packed = record { cells = refl; floats = refl }
 

@@ -20,7 +20,7 @@ use Rattle.timer.specs.declared.Ring.{Ring}
 use Rattle.keys.specs.declared.Keys.{Keys}
 use Rattle.state.specs.declared.Parts.{Parts}
 use Rattle.state.specs.Parts.{none, flashPut, panelPut, timesPut, timerPut, irqPut, vsyncPut, convertingPut, latchPut, tonePut, offPut, ringPut, keysPut, countPut, appliedPut}
-use Rattle.state.specs.Bank.{heldIn, chipIn, panelIn, timesIn, timerIn, timersIn, irqIn, latchIn, toneIn, ringIn, keysIn, partsIn}
+use Rattle.state.specs.Bank.{cellCount, floatCount, heldIn, chipIn, panelIn, timesIn, timerIn, timersIn, irqIn, latchIn, toneIn, ringIn, keysIn, partsIn}
 use Rattle.state.specs.Packed.{modeNumber, heldNumber, chipCells, panelCells, clockCells, keyCells, cellsOf, timesFloats, floatsOf, laidAt, Put, timerCells, timerFloats}
 use Rattle.state.proofs.Spread.{spread, spread-is}
 use Rattle.state.proofs.Words.{flag-bit, mode-number}
@@ -42,7 +42,7 @@ put-of g W U l f {l′} {f′} a b p s t =
           };
     }
 
-module _ (l : List ℕ) (long : length l ≡ 51) (f : List Float) where
+module _ (l : List ℕ) (long : length l ≡ cellCount) (f : List Float) where
   pub chip-put : (x : Chip) (a b c d : ℕ) → a ≡ modeNumber (x .mode) → b ≡ bit (x .cs) → c ≡ bit (x .wel) → d ≡ bit (x .tx .long)
       → x .rx < 256 → x .tx .cmd < 256 → x .tx .a1 < 256 → x .tx .a2 < 256 → x .tx .a3 < 256
       → Put l f
@@ -51,9 +51,9 @@ module _ (l : List ℕ) (long : length l ≡ 51) (f : List Float) where
   unfolding chipIn panelIn timesIn timerIn irqIn latchIn toneIn ringIn keysIn spread laidAt chipCells panelCells clockCells keyCells cellsOf floatsOf timesFloats
   chip-put x a b c d h i j k m n o p q =
       put-of (λ y. flashPut y x) (λ m. laidAt m 0 (chipCells x)) (λ v. v) l f
-      (rw (spread-is 0 l 51 long, h, i, j, k))
+      (rw (spread-is 0 l cellCount long, h, i, j, k))
       refl
-      (rw (spread-is 0 l 51 long, mode-number, flag-bit, flag-bit, flag-bit, mod-eq-of-lt m, mod-eq-of-lt n, mod-eq-of-lt o, mod-eq-of-lt p, mod-eq-of-lt q))
+      (rw (spread-is 0 l cellCount long, mode-number, flag-bit, flag-bit, flag-bit, mod-eq-of-lt m, mod-eq-of-lt n, mod-eq-of-lt o, mod-eq-of-lt p, mod-eq-of-lt q))
       refl
       refl
 
@@ -66,7 +66,7 @@ module _ (l : List ℕ) (long : length l ≡ 51) (f : List Float) where
   unfolding chipIn panelIn timesIn timerIn irqIn latchIn toneIn ringIn keysIn spread
   panel-laid x a b c d e g h four i j k m n o p q r s t u v w y z =
       rw (
-        spread-is 0 l 51 long,
+        spread-is 0 l cellCount long,
         h,
         mod-eq-of-lt n,
         mod-eq-of-lt o,
@@ -91,7 +91,7 @@ module _ (l : List ℕ) (long : length l ≡ 51) (f : List Float) where
       → (set (set (set (set (set (set (set (set (set (set (set (set (set (set l 11 a) 12 b) 13 c) 14 d) 15 e) 16 (x .count)) 17 (x .window .x0)) 18 (x .window .x1)) 19 (x .window .y0)) 20 (x .window .y1)) 21 (x .pen .x)) 22 (x .pen .y)) 23 g) 24 (x .pen .frames))
       ≡ laidAt l 11 (panelCells x)
   unfolding spread laidAt panelCells
-  panel-words x a b c d e g h i j k m n = rw (spread-is 0 l 51 long, h, i, j, k, m, n)
+  panel-words x a b c d e g h i j k m n = rw (spread-is 0 l cellCount long, h, i, j, k, m, n)
 
   pub panel-put : (x : Panel) (a b c d e g : ℕ) → (a ≡ heldNumber (x .cmd)) × (heldIn a ≡ x .cmd) → length (x .args) ≡ 4
       → (b ≡ getD (x .args) 0 0) × (b < 256) → (c ≡ getD (x .args) 1 0) × (c < 256) → (d ≡ getD (x .args) 2 0) × (d < 256) → (e ≡ getD (x .args) 3 0) × (e < 256)
@@ -113,41 +113,41 @@ module _ (l : List ℕ) (long : length l ≡ 51) (f : List Float) where
 
   pub vsync-put : (n : ℕ) → Put l f (set l 39 n) f (set l 39 n) f (vsyncPut (partsIn l f) n)
   unfolding chipIn panelIn timesIn timerIn irqIn latchIn toneIn ringIn keysIn spread laidAt chipCells panelCells clockCells keyCells cellsOf floatsOf timesFloats
-  vsync-put n = put-of (λ y. vsyncPut y n) (λ m. set m 39 n) (λ v. v) l f refl refl (rw (spread-is 0 l 51 long)) refl refl
+  vsync-put n = put-of (λ y. vsyncPut y n) (λ m. set m 39 n) (λ v. v) l f refl refl (rw (spread-is 0 l cellCount long)) refl refl
 
   pub converting-put : (on : Bool) (n : ℕ) → n ≡ bit on → Put l f (set l 40 n) f (set l 40 (bit on)) f (convertingPut (partsIn l f) on)
   unfolding chipIn panelIn timesIn timerIn irqIn latchIn toneIn ringIn keysIn spread laidAt chipCells panelCells clockCells keyCells cellsOf floatsOf timesFloats
   converting-put on n e =
-      put-of (λ y. convertingPut y on) (λ m. set m 40 (bit on)) (λ v. v) l f (rw e) refl (rw (spread-is 0 l 51 long, flag-bit)) refl refl
+      put-of (λ y. convertingPut y on) (λ m. set m 40 (bit on)) (λ v. v) l f (rw e) refl (rw (spread-is 0 l cellCount long, flag-bit)) refl refl
 
   pub off-put : (on : Bool) (n : ℕ) → n ≡ bit on → Put l f (set l 43 n) f (set l 43 (bit on)) f (offPut (partsIn l f) on)
   unfolding chipIn panelIn timesIn timerIn irqIn latchIn toneIn ringIn keysIn spread laidAt chipCells panelCells clockCells keyCells cellsOf floatsOf timesFloats
-  off-put on n e = put-of (λ y. offPut y on) (λ m. set m 43 (bit on)) (λ v. v) l f (rw e) refl (rw (spread-is 0 l 51 long, flag-bit)) refl refl
+  off-put on n e = put-of (λ y. offPut y on) (λ m. set m 43 (bit on)) (λ v. v) l f (rw e) refl (rw (spread-is 0 l cellCount long, flag-bit)) refl refl
 
   pub ring-put : (x : Ring) → x .head < 256
       → Put l f (set (set l 44 (x .head)) 45 (x .count)) f (laidAt l 44 (x .head ∷ x .count ∷ [])) f (ringPut (partsIn l f) x)
   unfolding chipIn panelIn timesIn timerIn irqIn latchIn toneIn ringIn keysIn spread laidAt chipCells panelCells clockCells keyCells cellsOf floatsOf timesFloats
   ring-put x e =
       put-of (λ y. ringPut y x) (λ m. laidAt m 44 (x .head ∷ x .count ∷ [])) (λ v. v) l f
-      (rw (spread-is 0 l 51 long))
+      (rw (spread-is 0 l cellCount long))
       refl
-      (rw (spread-is 0 l 51 long, mod-eq-of-lt e))
+      (rw (spread-is 0 l cellCount long, mod-eq-of-lt e))
       refl
       refl
 
   pub count-put : (n : ℕ) → Put l f (set l 46 n) f (set l 46 n) f (countPut (partsIn l f) n)
   unfolding chipIn panelIn timesIn timerIn irqIn latchIn toneIn ringIn keysIn spread laidAt chipCells panelCells clockCells keyCells cellsOf floatsOf timesFloats
-  count-put n = put-of (λ y. countPut y n) (λ m. set m 46 n) (λ v. v) l f refl refl (rw (spread-is 0 l 51 long)) refl refl
+  count-put n = put-of (λ y. countPut y n) (λ m. set m 46 n) (λ v. v) l f refl refl (rw (spread-is 0 l cellCount long)) refl refl
 
   pub applied-put : (n : ℕ) → n < 2 ^ 32 → Put l f (set l 50 n) f (set l 50 n) f (appliedPut (partsIn l f) n)
   unfolding chipIn panelIn timesIn timerIn irqIn latchIn toneIn ringIn keysIn spread laidAt chipCells panelCells clockCells keyCells cellsOf floatsOf timesFloats
-  applied-put n e = put-of (λ y. appliedPut y n) (λ m. set m 50 n) (λ v. v) l f refl refl (rw (spread-is 0 l 51 long, mod-eq-of-lt e)) refl refl
+  applied-put n e = put-of (λ y. appliedPut y n) (λ m. set m 50 n) (λ v. v) l f refl refl (rw (spread-is 0 l cellCount long, mod-eq-of-lt e)) refl refl
 
-module _ (f : List Float) (wide : length f ≡ 16) (l : List ℕ) where
+module _ (f : List Float) (wide : length f ≡ floatCount) (l : List ℕ) where
   pub times-put : (x : Times) → Put l f l (set (set (set f 0 (x .now)) 1 (x .game)) 2 (x .turbo)) l (laidAt f 0 (timesFloats x)) (timesPut (partsIn l f) x)
   unfolding chipIn panelIn timesIn timerIn irqIn latchIn toneIn ringIn keysIn spread laidAt chipCells panelCells clockCells keyCells cellsOf floatsOf timesFloats
   times-put x =
-      put-of (λ y. timesPut y x) (λ m. m) (λ v. laidAt v 0 (timesFloats x)) l f refl (rw (spread-is nan f 16 wide)) (rw (spread-is nan f 16 wide)) refl refl
+      put-of (λ y. timesPut y x) (λ m. m) (λ v. laidAt v 0 (timesFloats x)) l f refl (rw (spread-is nan f floatCount wide)) (rw (spread-is nan f floatCount wide)) refl refl
 
   pub tone-put : (x : Tone)
       → Put l f l (set (set f 11 (x .frequency)) 12 (x .duty)) l (laidAt f 11 (x .frequency ∷ x .duty ∷ [])) (tonePut (partsIn l f) x)
@@ -155,20 +155,20 @@ module _ (f : List Float) (wide : length f ≡ 16) (l : List ℕ) where
   tone-put x =
       put-of (λ y. tonePut y x) (λ m. m) (λ v. laidAt v 11 (x .frequency ∷ x .duty ∷ [])) l f
       refl
-      (rw (spread-is nan f 16 wide))
-      (rw (spread-is nan f 16 wide))
+      (rw (spread-is nan f floatCount wide))
+      (rw (spread-is nan f floatCount wide))
       refl
       refl
 
-module _ (l : List ℕ) (f : List Float) (long : length l ≡ 51) (wide : length f ≡ 16) where
+module _ (l : List ℕ) (f : List Float) (long : length l ≡ cellCount) (wide : length f ≡ floatCount) where
   pub irq-put : (x : RtcIrq) → x .base < 2 ^ 32
       → Put l f (set (set l 37 (x .fired)) 38 (x .base)) (set f 9 (x .set)) (laidAt l 37 (x .fired ∷ x .base ∷ [])) (set f 9 (x .set)) (irqPut (partsIn l f) x)
   unfolding chipIn panelIn timesIn timerIn irqIn latchIn toneIn ringIn keysIn spread laidAt chipCells panelCells clockCells keyCells cellsOf floatsOf timesFloats
   irq-put x e =
       put-of (λ y. irqPut y x) (λ m. laidAt m 37 (x .fired ∷ x .base ∷ [])) (λ v. set v 9 (x .set)) l f
-      (rw (spread-is 0 l 51 long))
+      (rw (spread-is 0 l cellCount long))
       refl
-      (rw (spread-is 0 l 51 long, spread-is nan f 16 wide, mod-eq-of-lt e))
+      (rw (spread-is 0 l cellCount long, spread-is nan f floatCount wide, mod-eq-of-lt e))
       refl
       refl
 
@@ -177,9 +177,9 @@ module _ (l : List ℕ) (f : List Float) (long : length l ≡ 51) (wide : length
   unfolding chipIn panelIn timesIn timerIn irqIn latchIn toneIn ringIn keysIn spread laidAt chipCells panelCells clockCells keyCells cellsOf floatsOf timesFloats
   latch-put x e =
       put-of (λ y. latchPut y x) (λ m. laidAt m 41 (x .base ∷ x .out ∷ [])) (λ v. set v 10 (x .since)) l f
-      (rw (spread-is 0 l 51 long))
+      (rw (spread-is 0 l cellCount long))
       refl
-      (rw (spread-is 0 l 51 long, spread-is nan f 16 wide, mod-eq-of-lt e))
+      (rw (spread-is 0 l cellCount long, spread-is nan f floatCount wide, mod-eq-of-lt e))
       refl
       refl
 
@@ -189,21 +189,21 @@ module _ (l : List ℕ) (f : List Float) (long : length l ≡ 51) (wide : length
   unfolding chipIn panelIn timesIn timerIn irqIn latchIn toneIn ringIn keysIn spread laidAt chipCells panelCells clockCells keyCells cellsOf floatsOf timesFloats
   keys-put x a b c h i j e =
       put-of (λ y. keysPut y x) (λ m. laidAt m 46 (keyCells x)) (λ v. laidAt v 13 (x .holds .a ∷ x .holds .b ∷ x .holds .c ∷ [])) l f
-      (rw (spread-is 0 l 51 long, h, i, j))
-      (rw (spread-is nan f 16 wide))
-      (rw (spread-is 0 l 51 long, spread-is nan f 16 wide, flag-bit, flag-bit, flag-bit, mod-eq-of-lt e))
+      (rw (spread-is 0 l cellCount long, h, i, j))
+      (rw (spread-is nan f floatCount wide))
+      (rw (spread-is 0 l cellCount long, spread-is nan f floatCount wide, flag-bit, flag-bit, flag-bit, mod-eq-of-lt e))
       refl
       refl
 
   -- the parts that a timer's words make
   timer-laid : (x : Timer) (n : ℕ) → n < 6 → partsIn (timerCells l n x) (timerFloats f n x) ≡ timerPut (partsIn l f) n x
   unfolding chipIn panelIn timesIn timerIn irqIn latchIn toneIn ringIn keysIn spread timerCells timerFloats
-  timer-laid x zero h = rw (spread-is 0 l 51 long, spread-is nan f 16 wide, flag-bit)
-  timer-laid x (suc zero) h = rw (spread-is 0 l 51 long, spread-is nan f 16 wide, flag-bit)
-  timer-laid x (suc (suc zero)) h = rw (spread-is 0 l 51 long, spread-is nan f 16 wide, flag-bit)
-  timer-laid x (suc (suc (suc zero))) h = rw (spread-is 0 l 51 long, spread-is nan f 16 wide, flag-bit)
-  timer-laid x (suc (suc (suc (suc zero)))) h = rw (spread-is 0 l 51 long, spread-is nan f 16 wide, flag-bit)
-  timer-laid x (suc (suc (suc (suc (suc zero))))) h = rw (spread-is 0 l 51 long, spread-is nan f 16 wide, flag-bit)
+  timer-laid x zero h = rw (spread-is 0 l cellCount long, spread-is nan f floatCount wide, flag-bit)
+  timer-laid x (suc zero) h = rw (spread-is 0 l cellCount long, spread-is nan f floatCount wide, flag-bit)
+  timer-laid x (suc (suc zero)) h = rw (spread-is 0 l cellCount long, spread-is nan f floatCount wide, flag-bit)
+  timer-laid x (suc (suc (suc zero))) h = rw (spread-is 0 l cellCount long, spread-is nan f floatCount wide, flag-bit)
+  timer-laid x (suc (suc (suc (suc zero)))) h = rw (spread-is 0 l cellCount long, spread-is nan f floatCount wide, flag-bit)
+  timer-laid x (suc (suc (suc (suc (suc zero))))) h = rw (spread-is 0 l cellCount long, spread-is nan f floatCount wide, flag-bit)
   timer-laid x (suc (suc (suc (suc (suc (suc n)))))) h = absurd (omega arith)
 
 -- the words of the parts with a timer put
@@ -218,7 +218,7 @@ timer-words l f x (suc (suc (suc (suc zero)))) h = (refl, refl)
 timer-words l f x (suc (suc (suc (suc (suc zero))))) h = (refl, refl)
 timer-words l f x (suc (suc (suc (suc (suc (suc n)))))) h = absurd (omega arith)
 
-pub timer-put : (l : List ℕ) (f : List Float) → length l ≡ 51 → length f ≡ 16 → (x : Timer) (a : ℕ) → a ≡ bit (x .pending) → (n : ℕ) → n < 6
+pub timer-put : (l : List ℕ) (f : List Float) → length l ≡ cellCount → length f ≡ floatCount → (x : Timer) (a : ℕ) → a ≡ bit (x .pending) → (n : ℕ) → n < 6
     → Put l f (set (set l (25 + n) (x .seen)) (31 + n) a) (set f (3 + n) (x .start)) (timerCells l n x) (timerFloats f n x) (timerPut (partsIn l f) n x)
 unfolding timerCells timerFloats
 timer-put l f long wide x a e n h =

@@ -1,8 +1,7 @@
 -- A thing as a number, and back.
-use Prim.Native.Nat.{ℕ, _<_, _%_}
+use Prim.Native.Nat.{ℕ, _<_}
 use mathlib.Core.Path.{_≡_, refl}
 use mathlib.Core.Bool.{Bool, true, false}
-use native.Mathlib.Nat.{mod-eq-of-lt}
 use borrow.Author.Tests.{lt-ltb}
 use Rattle.whole.specs.Forms.{bit}
 use Rattle.flash.specs.declared.Mode.{Mode}
@@ -28,6 +27,3 @@ held-nothing h e = (rw e, rw e)
 pub held-byte : (h : Held) (n : ℕ) → h ≡ Byte n → n < 256 → (n ≡ heldNumber h) × (heldIn n ≡ h)
 unfolding heldIn heldNumber
 held-byte h n e k = (rw e, rw (e, lt-ltb n 256 k))
-
-pub mod-small : {a b : ℕ} → a < b → a % b ≡ a
-mod-small h = mod-eq-of-lt h

@@ -24,6 +24,14 @@ use Rattle.state.specs.declared.Devices.{Devices}
 use Rattle.state.specs.declared.Parts.{Parts}
 use Rattle.state.specs.Parts.{clocksOf, devicesOf, parts}
 
+-- ---- how many there are
+
+abbrev pub cellCount : ℕ
+cellCount = 51
+
+abbrev pub floatCount : ℕ
+floatCount = 16
+
 -- ---- a number as another thing; a number of fewer bits is the cell modulo its width
 
 abbrev pub flagIn : ℕ → Bool

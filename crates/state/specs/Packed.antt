@@ -3,6 +3,7 @@
 -- packed, so that the later parts say every later word.
 use Prim.Native.Nat.{ℕ, _+_}
 use mathlib.Core.Path.{_≡_}
+use mathlib.Core.Logic.{_≢_}
 use mathlib.Core.List.{List, [], _∷_, _++_}
 use lib.ListN.{length, getD, set, take, drop}
 use lib.Dec.{ltb}
@@ -118,6 +119,11 @@ pub record Packed (l : List ℕ) (f : List Float) : Type 0 where
 -- from a bank to a later one
 abbrev pub Kept : List ℕ → List Float → List ℕ → List Float → Type 0
 Kept l f l′ f′ = Packed l f → Packed l′ f′
+
+-- the same, of a call that answers n; and where it is refused every word is as it was, packed or not
+pub record Answered (n : ℕ) (l : List ℕ) (f : List Float) (l′ : List ℕ) (f′ : List Float) : Type 0 where
+  pub kept : Kept l f l′ f′
+  pub still : n ≢ 0 → (l′ ≡ l) × (f′ ≡ f)
 
 -- ---- one part put
 

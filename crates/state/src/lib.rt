@@ -22,10 +22,14 @@ use timer::Ring;
 use timer::Timer;
 use timer::Tone;
 
-// The bank.
-pub type Cells = [u64; 51];
+// The bank, and how many numbers it has.
+pub const CELLS: usize = 51;
 
-pub type Floats = [f64; 16];
+pub const FLOATS: usize = 16;
+
+pub type Cells = [u64; CELLS];
+
+pub type Floats = [f64; FLOATS];
 
 // What time moves. `vsync` is the Rust's last_vsync, `converting` its adc_converting.
 pub struct Clocks {

@@ -10,7 +10,6 @@ ghost use Rattle.state.specs.Packed.{timesFloats, timerCells, timerFloat
 use crate::Cells;
 use crate::Clocks;
 use crate::Floats;
-use crate::numbers::word;
 use crate::places::CONVERTING;
 use crate::places::DAY;
 use crate::places::DAY_SET;
@@ -26,6 +25,7 @@ use clock::RtcIrq;
 use clock::Times;
 use timer::Timer;
 use whole::forms::flag;
+use whole::forms::low;
 
 pub fn times_of(floats: &Floats) -> Times
     ensures { λ r. ⌜ r ≡ timesIn (now (floats .entry)) ⌝ }
@@ -90,7 +90,7 @@ pub fn put_timer(cells: &mut Cells, floats: &mut Floats, n: usize, timer: Timer)
     }
 }
 
-pub fn timers_of(cells: &Cells, floats: &Floats) -> [Timer; 6]
+fn timers_of(cells: &Cells, floats: &Floats) -> [Timer; 6]
     ensures { λ r. ⌜ r ≡ timersIn (now (cells .entry)) (now (floats .entry)) ⌝ }
 {
     let a = timer_of(cells, floats, 0);
@@ -107,7 +107,7 @@ pub fn irq_of(cells: &Cells, floats: &Floats) -> RtcIrq
 {
     RtcIrq {
         fired: cells[FIRED],
-        base: word(cells[DAY]),
+        base: low(cells[DAY]),
         set: floats[DAY_SET],
     }
 }

@@ -1,6 +1,6 @@
 // A cell as another kind of number.
 ghost use mathlib.Core.Path.{_≡_};
-ghost use Prim.Native.Nat.{_%_, _^_};
+ghost use Prim.Native.Nat.{_%_};
 
 pub(crate) fn byte(n: u64) -> u8
     ensures { λ r. ⌜ r ≡ n % 256 ⌝ }
@@ -12,12 +12,6 @@ pub(crate) fn half(n: u64) -> u16
     ensures { λ r. ⌜ r ≡ n % 65536 ⌝ }
 {
     (n % 65536) as u16
-}
-
-pub(crate) fn word(n: u64) -> u32
-    ensures { λ r. ⌜ r ≡ n % 2 ^ 32 ⌝ }
-{
-    (n % 0x1_0000_0000) as u32
 }
 
 pub(crate) fn index(n: u64) -> usize

@@ -10,7 +10,6 @@ use crate::Cells;
 use crate::Floats;
 use crate::numbers::byte;
 use crate::numbers::index;
-use crate::numbers::word;
 use crate::places::APPLIED;
 use crate::places::DUTY;
 use crate::places::FREQUENCY;
@@ -34,6 +33,7 @@ use keys::Keys;
 use timer::Ring;
 use timer::Tone;
 use whole::forms::flag;
+use whole::forms::low;
 
 pub fn latch_of(cells: &Cells, floats: &Floats) -> Latch
     ensures { λ r. ⌜ r ≡ latchIn (now (cells .entry)) (now (floats .entry)) ⌝ }
@@ -41,7 +41,7 @@ pub fn latch_of(cells: &Cells, floats: &Floats) -> Latch
     Latch {
         base: cells[LATCHED],
         since: floats[LATCHED_AT],
-        out: word(cells[OUT]),
+        out: low(cells[OUT]),
     }
 }
 
@@ -124,7 +124,7 @@ pub fn keys_of(cells: &Cells, floats: &Floats) -> Keys
         count: index(cells[PRESSES]),
         live,
         holds,
-        applied: word(cells[APPLIED]),
+        applied: low(cells[APPLIED]),
     }
 }
 
@@ -167,5 +167,5 @@ pub fn put_applied(cells: &mut Cells, applied: u32)
 pub fn out_of(cells: &Cells) -> u32
     ensures { λ r. ⌜ r ≡ latchIn (now (cells .entry)) [] .out ⌝ }
 {
-    word(cells[OUT])
+    low(cells[OUT])
 }

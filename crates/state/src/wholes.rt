@@ -2,8 +2,10 @@
 ghost use mathlib.Core.Path.{_≡_};
 ghost use Rattle.state.specs.Bank.{partsIn};
 ghost use Rattle.state.specs.Packed.{cellsOf, floatsOf};
+use crate::CELLS;
 use crate::Cells;
 use crate::Devices;
+use crate::FLOATS;
 use crate::Floats;
 use crate::Parts;
 
@@ -38,8 +40,8 @@ pub fn put_parts(cells: &mut Cells, floats: &mut Floats, x: Parts)
     ensures { λ _. ⌜ (now (cells .exit) ≡ cellsOf x) × (now (floats .exit) ≡ floatsOf x)
         × (partsIn (now (cells .exit)) (now (floats .exit)) ≡ x) ⌝ }
 {
-    *cells = [0; 51];
-    *floats = [0.0; 16];
+    *cells = [0; CELLS];
+    *floats = [0.0; FLOATS];
     let d = x.devices;
     let c = d.clocks;
     let timers = c.timers;

@@ -8,6 +8,8 @@ use crate::System;
 use crate::parts::parts_of;
 use crate::parts::with_own;
 use registers::Registers;
+use state::CELLS;
+use state::FLOATS;
 use timer::Queue;
 
 pub fn read(s: System, ram: &[u8], sram: &[u8], gpio: &[u8], addr: u32, size: u32) -> Read
@@ -17,8 +19,8 @@ pub fn read(s: System, ram: &[u8], sram: &[u8], gpio: &[u8], addr: u32, size: u3
     let mut own = registers.own;
     let addresses = registers.addresses;
     let values = registers.values;
-    let mut cells = [0; 51];
-    let mut floats = [0.0; 16];
+    let mut cells = [0; CELLS];
+    let mut floats = [0.0; FLOATS];
     state::wholes::put_parts(&mut cells, &mut floats, parts_of(s));
     let got = bus::read::read(
         &mut own,
@@ -63,8 +65,8 @@ pub fn write(
     let mut times = queue.times;
     let mut frequencies = queue.frequencies;
     let mut duties = queue.duties;
-    let mut cells = [0; 51];
-    let mut floats = [0.0; 16];
+    let mut cells = [0; CELLS];
+    let mut floats = [0.0; FLOATS];
     state::wholes::put_parts(&mut cells, &mut floats, parts_of(s));
     let told = bus::write::write(
         &mut own,

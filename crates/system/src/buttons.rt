@@ -7,12 +7,14 @@ use crate::System;
 use crate::parts::parts_of;
 use crate::parts::with_parts;
 use keys::Held;
+use state::CELLS;
+use state::FLOATS;
 
 pub fn set_live(s: System, key: u32, down: bool) -> Changed
     ensures { λ r. ⌜ r ≡ liveOf s key down ⌝ }
 {
-    let mut cells = [0; 51];
-    let mut floats = [0.0; 16];
+    let mut cells = [0; CELLS];
+    let mut floats = [0.0; FLOATS];
     state::wholes::put_parts(&mut cells, &mut floats, parts_of(s));
     let refusal = time::buttons::set_live(&mut cells, &mut floats, key, down);
     let system = with_parts(s, state::wholes::parts_of(&cells, &floats));
@@ -22,8 +24,8 @@ pub fn set_live(s: System, key: u32, down: bool) -> Changed
 pub fn hold_until(s: System, key: u32, until: f64) -> Changed
     ensures { λ r. ⌜ r ≡ holdOf s key until ⌝ }
 {
-    let mut cells = [0; 51];
-    let mut floats = [0.0; 16];
+    let mut cells = [0; CELLS];
+    let mut floats = [0.0; FLOATS];
     state::wholes::put_parts(&mut cells, &mut floats, parts_of(s));
     let refusal = time::buttons::hold_until(&mut cells, &mut floats, key, until);
     let system = with_parts(s, state::wholes::parts_of(&cells, &floats));
@@ -36,8 +38,8 @@ pub fn press(s: System, key: u32, at: f64) -> Changed
     let presses = s.presses;
     let mut times = presses.times;
     let mut codes = presses.codes;
-    let mut cells = [0; 51];
-    let mut floats = [0.0; 16];
+    let mut cells = [0; CELLS];
+    let mut floats = [0.0; FLOATS];
     state::wholes::put_parts(&mut cells, &mut floats, parts_of(s));
     let refusal = time::buttons::press(&mut times, &mut codes, &mut cells, &floats, key, at);
     let mut system = with_parts(s, state::wholes::parts_of(&cells, &floats));

@@ -7,6 +7,8 @@ use crate::Taken;
 use crate::parts::parts_of;
 use crate::parts::with_own;
 use crate::parts::with_parts;
+use state::CELLS;
+use state::FLOATS;
 use time::NextTime;
 use timer::Queue;
 
@@ -18,8 +20,8 @@ pub fn advance(s: System, sram: &[u8], gpio: &mut [u8], to: f64) -> Changed
     let presses = s.presses;
     let times = presses.times;
     let codes = presses.codes;
-    let mut cells = [0; 51];
-    let mut floats = [0.0; 16];
+    let mut cells = [0; CELLS];
+    let mut floats = [0.0; FLOATS];
     state::wholes::put_parts(&mut cells, &mut floats, parts_of(s));
     let refusal = time::moves::advance(
         &mut own,
@@ -42,8 +44,8 @@ pub fn next_event(s: System, sram: &[u8]) -> NextTime
     let own = registers.own;
     let presses = s.presses;
     let times = presses.times;
-    let mut cells = [0; 51];
-    let mut floats = [0.0; 16];
+    let mut cells = [0; CELLS];
+    let mut floats = [0.0; FLOATS];
     state::wholes::put_parts(&mut cells, &mut floats, parts_of(s));
     time::next::next_event(&own, &cells, &floats, sram, &times)
 }
@@ -51,8 +53,8 @@ pub fn next_event(s: System, sram: &[u8]) -> NextTime
 pub fn set_turbo(s: System, to: f64) -> Changed
     ensures { λ r. ⌜ r ≡ turboOf s to ⌝ }
 {
-    let mut cells = [0; 51];
-    let mut floats = [0.0; 16];
+    let mut cells = [0; CELLS];
+    let mut floats = [0.0; FLOATS];
     state::wholes::put_parts(&mut cells, &mut floats, parts_of(s));
     let refusal = time::pace::set_turbo(&mut floats, to);
     let system = with_parts(s, state::wholes::parts_of(&cells, &floats));
@@ -64,8 +66,8 @@ pub fn pending_irq(s: System) -> u32
 {
     let registers = s.registers;
     let own = registers.own;
-    let mut cells = [0; 51];
-    let mut floats = [0.0; 16];
+    let mut cells = [0; CELLS];
+    let mut floats = [0.0; FLOATS];
     state::wholes::put_parts(&mut cells, &mut floats, parts_of(s));
     time::irq::pending_irq(&own, &cells)
 }
@@ -75,8 +77,8 @@ pub fn irq_wanted(s: System) -> bool
 {
     let registers = s.registers;
     let own = registers.own;
-    let mut cells = [0; 51];
-    let mut floats = [0.0; 16];
+    let mut cells = [0; CELLS];
+    let mut floats = [0.0; FLOATS];
     state::wholes::put_parts(&mut cells, &mut floats, parts_of(s));
     time::irq::irq_wanted(&own, &cells)
 }
@@ -89,8 +91,8 @@ pub fn take_event(s: System) -> Taken
     let mut times = before.times;
     let mut frequencies = before.frequencies;
     let mut duties = before.duties;
-    let mut cells = [0; 51];
-    let mut floats = [0.0; 16];
+    let mut cells = [0; CELLS];
+    let mut floats = [0.0; FLOATS];
     state::wholes::put_parts(&mut cells, &mut floats, parts_of(s));
     let waited = time::tones::take_event(&mut times, &mut frequencies, &mut duties, &mut cells);
     let event = waited.event;

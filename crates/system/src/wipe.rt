@@ -11,9 +11,11 @@ use crate::Presses;
 use crate::System;
 use flash::Mode;
 use registers::Registers;
+use state::CELLS;
 use state::Cells;
 use state::Clocks;
 use state::Devices;
+use state::FLOATS;
 use state::Floats;
 use state::Parts;
 use timer::Queue;
@@ -153,8 +155,8 @@ pub fn fresh() -> System
     let mut duties = [0.0; 256];
     let mut times = [0.0; 64];
     let mut codes = [0; 64];
-    let mut cells = [0; 51];
-    let mut floats = [0.0; 16];
+    let mut cells = [0; CELLS];
+    let mut floats = [0.0; FLOATS];
     reset(
         &mut own,
         &mut addresses,

@@ -1,71 +1,18 @@
 -- The branches of the definitions, as the functions meet them.
 use Prim.Native.Nat.{ℕ}
 use mathlib.Core.Path.{_≡_}
-use mathlib.Core.Bool.{Bool, true, false, cond, _&&_, _||_}
+use mathlib.Core.Bool.{Bool, true, false, _||_}
 use mathlib.Core.List.{List}
 use lib.ListN.{getD}
 use lib.Ieee.{Float, binary64, ofBits}
-use Rattle.registers.specs.Words.{ownAt, ownWith}
 use Rattle.timer.specs.declared.Timer.{Timer}
-use Rattle.timer.specs.Timers.{advancedOf}
-use Rattle.clock.specs.declared.Times.{Times}
-use Rattle.clock.specs.declared.RtcIrq.{RtcIrq}
-use Rattle.clock.specs.declared.Signal.{Signal}
-use Rattle.clock.specs.declared.Ticked.{Ticked}
-use Rattle.clock.specs.declared.Adc.{Adc}
-use Rattle.clock.specs.Sources.{vsyncOf, tickedOf}
-use Rattle.clock.specs.Adc.{convertedOf}
-use Rattle.keys.specs.declared.Held.{Held}
 use Rattle.keys.specs.declared.Keys.{Keys}
-use Rattle.keys.specs.Live.{heldOf}
-use Rattle.keys.specs.Lines.{lines, syncOf}
 use Rattle.keys.specs.Edges.{minOf}
 use Rattle.state.specs.declared.Clocks.{Clocks}
 use Rattle.time.specs.Clocks.{controlAt, reloadAt}
-use Rattle.time.specs.Irq.{rtcLine, timerLine, lcdLine, adcLine, heard, pendingOf, wantedOf}
+use Rattle.time.specs.Irq.{wantedOf}
 use Rattle.state.specs.Parts.{none}
-use Rattle.time.specs.Advance.{timerAfter, synced, syncedOf, converted, convertedIn, ticked, tickedIn, devices, devicesOf}
-use Rattle.time.specs.Advance.{outcome, movedTo}
 use Rattle.time.specs.Next.{timerNext, runs, anyPends, withTimer, withTimers, earliest, eventOf, finite, answered}
-
--- ---- interrupts
--- the first of the lines that are raised and not masked, a to d saying which are
-pub pending-first : (own : List ℕ) (ts : List Timer) (a b c d : Bool) → (rtcLine own && heard (ownAt own 0xD0100030) 1) ≡ a
-    → (timerLine ts && heard (ownAt own 0xD0100030) 8) ≡ b → (lcdLine own && heard (ownAt own 0xD0100030) 27) ≡ c
-    → (adcLine own && heard (ownAt own 0xD0100030) 29) ≡ d → pendingOf own ts ≡ cond a 1 (cond b 8 (cond c 27 (cond d 29 0)))
-unfolding pendingOf
-pending-first own ts a b c d h k l m = rw (h, k, l, m)
-
--- ---- the devices
-module _ (own : List ℕ) where
-  pub timer-after : (n : ℕ) (t : Timer) (now : Float) (clock control reload : ℕ) (r : Timer) → control ≡ controlAt own n → reload ≡ reloadAt own n
-      → r ≡ advancedOf t now clock control reload → r ≡ timerAfter own n t now clock
-  unfolding timerAfter
-  timer-after n t now clock control reload r h k e = rw (← h, ← k) e
-
-  pub synced-after : (last : ℕ) (now : Float) (status : ℕ) (s : Signal) (out : List ℕ) → status ≡ ownAt own 0xD050018C → s ≡ vsyncOf last now status
-      → out ≡ ownWith own 0xD050018C (s .status) → synced out (s .seen) ≡ syncedOf own last now
-  unfolding syncedOf
-  synced-after last now status s out h e o = rw (o, e, h)
-
-  pub converted-after : (converting : Bool) (control result : ℕ) (adc : Adc) (mid out : List ℕ) → control ≡ ownAt own 0xC00C0004 → result ≡ ownAt own 0xC00C0008
-      → adc ≡ convertedOf (record { converting = converting; control = control; result = result }) → mid ≡ ownWith own 0xC00C0008 (adc .result)
-      → out ≡ ownWith mid 0xC00C0004 (adc .control) → converted out (adc .converting) ≡ convertedIn own converting
-  unfolding convertedIn
-  converted-after converting control result adc mid out h k e m o = rw (o, m, e, h, k)
-
-  pub ticked-after : (irq : RtcIrq) (game : Float) (status : ℕ) (t : Ticked) (out : List ℕ) → status ≡ ownAt own 0xC0040054 → t ≡ tickedOf irq game status
-      → out ≡ ownWith own 0xC0040054 (t .status) → ticked out (t .irq) ≡ tickedIn own irq game
-  unfolding tickedIn
-  ticked-after irq game status t out h e o = rw (o, e, h)
-
--- ---- advance
-module _ (own gpio : List ℕ) (times : List Float) (codes : List ℕ) (c : Clocks) (k : Keys) (clock : ℕ) where
-  pub moved-to : (t : Times) (o g : List ℕ) (clocks : Clocks) (held : Held) (applied : ℕ) → devices o clocks ≡ devicesOf own c clock t
-      → held ≡ heldOf times codes k (t .now) → lines g applied ≡ syncOf gpio (k .applied) held
-      → outcome o g 0 clocks applied ≡ movedTo own gpio times codes c k clock t
-  unfolding movedTo
-  moved-to t o g clocks held applied d h l = rw (← d, ← h, ← l)
 
 -- ---- the next event
 module _ (own : List ℕ) (n : ℕ) (t : Timer) (clock : ℕ) (so : Float) (control : ℕ) (b : Bool) (h : control ≡ controlAt own n) (e : b ≡ runs control) where

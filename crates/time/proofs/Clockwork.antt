@@ -23,10 +23,9 @@ use Rattle.keys.specs.Lines.{lines, syncOf}
 use Rattle.timer.specs.declared.Timer.{Timer}
 use Rattle.timer.specs.Timers.{advancedOf}
 use Rattle.time.specs.Clocks.{clockIn, controlAt, reloadAt}
-use Rattle.time.specs.Advance.{timerAfter, timersAfter, Synced, syncedOf, Converted, convertedIn, Ticking, tickedIn, devicesOf}
 use Rattle.time.specs.Advance as move
-use Rattle.time.specs.Advance.{Outcome, outcome, movedTo, moved, advanceOf}
-use Rattle.time.proofs.Cases as time
+use Rattle.time.specs.Advance.{timerAfter, timersAfter, syncedOf, convertedIn, tickedIn, devicesOf, Outcome, outcome, movedTo, moved, advanceOf}
+use Rattle.state.specs.declared.Clocks.{Clocks}
 use Rattle.state.specs.declared.Parts.{Parts}
 use Rattle.state.specs.Parts.{none, timersPut, timerPut, timesPut, vsyncPut, convertingPut, irqPut, appliedPut, clocksPut}
 use Rattle.state.specs.Bank.{timersIn, partsIn}
@@ -35,9 +34,8 @@ use Rattle.time.specs.Bank.{Went, went, syncedPut, convertedPut, tickedP
 pub timer-stepped : (own l : List ℕ) (f : List Float) (n : ℕ) (now : Float) (clock : ℕ) {control reload : ℕ} {t r : Timer} {y : Parts}
     → control ≡ controlAt own n → reload ≡ reloadAt own n → t ≡ getD (timersIn l f) n none → r ≡ advancedOf t now clock control reload → y ≡ timerPut (partsIn l f) n r
     → y ≡ timerPut (partsIn l f) n (timerAfter own n (getD (timersIn l f) n none) now clock)
-timer-stepped own l f n now clock {control} {reload} {t} {r} c d e h i =
-    i ∙ ap (λ (z : Timer). timerPut (partsIn l f) n z)
-    (time.timer-after own n t now clock control reload r c d h ∙ ap (λ (z : Timer). timerAfter own n z now clock) e)
+unfolding timerAfter
+timer-stepped own l f n now clock c d e h i = rw (i, h, e, c, d)
 
 abbrev stepped : List ℕ → Float → ℕ → Parts → ℕ → Parts
 stepped own now clock x n = timerPut x n (timerAfter own n (getD (x .devices .clocks .timers) n none) now clock)
@@ -51,25 +49,19 @@ timers-stepped own l f now clock h i j k m n = rw (n, m, k, j, i, h)
 module _ (own : List ℕ) (x : Parts) where
   pub vsync-went : (now : Float) {status last : ℕ} {s : Signal} {o : List ℕ} {y : Parts} → status ≡ ownAt own 0xD050018C → last ≡ x .devices .clocks .vsync → s ≡ vsyncOf last now status
       → o ≡ ownWith own 0xD050018C (s .status) → y ≡ vsyncPut x (s .seen) → went o y ≡ syncedPut x (syncedOf own (x .devices .clocks .vsync) now)
-  vsync-went now {status} {last} {s} {o} {y} a b e h i =
-      ap (λ (z : Parts). went o z) i
-      ∙ ap (λ (z : Synced). syncedPut x z)
-      (time.synced-after own last now status s o a e h ∙ ap (λ (n : ℕ). syncedOf own n now) b)
+  unfolding syncedOf
+  vsync-went now a b e h i = rw (h, i, e, b, a)
 
   pub adc-went : {control result : ℕ} {on : Bool} {adc : Adc} {mid o : List ℕ} {y : Parts} → control ≡ ownAt own 0xC00C0004 → result ≡ ownAt own 0xC00C0008
       → on ≡ x .devices .clocks .converting → adc ≡ convertedOf (record { converting = on; control = control; result = result }) → mid ≡ ownWith own 0xC00C0008 (adc .result)
       → o ≡ ownWith mid 0xC00C0004 (adc .control) → y ≡ convertingPut x (adc .converting) → went o y ≡ convertedPut x (convertedIn own (x .devices .clocks .converting))
-  adc-went {control} {result} {on} {adc} {mid} {o} {y} a b c e h i j =
-      ap (λ (z : Parts). went o z) j
-      ∙ ap (λ (z : Converted). convertedPut x z)
-      (time.converted-after own on control result adc mid o a b e h i ∙ ap (λ (n : Bool). convertedIn own n) c)
+  unfolding convertedIn
+  adc-went a b c e h i j = rw (i, h, j, e, c, a, b)
 
   pub irq-went : (game : Float) {status : ℕ} {irq : RtcIrq} {t : Ticked} {o : List ℕ} {y : Parts} → status ≡ ownAt own 0xC0040054 → irq ≡ x .devices .clocks .irq → t ≡ tickedOf irq game status
       → o ≡ ownWith own 0xC0040054 (t .status) → y ≡ irqPut x (t .irq) → went o y ≡ tickedPut x (tickedIn own (x .devices .clocks .irq) game)
-  irq-went game {status} {irq} {t} {o} {y} a b e h i =
-      ap (λ (z : Parts). went o z) i
-      ∙ ap (λ (z : Ticking). tickedPut x z)
-      (time.ticked-after own irq game status t o a e h ∙ ap (λ (n : RtcIrq). tickedIn own n game) b)
+  unfolding tickedIn
+  irq-went game a b e h i = rw (h, i, e, b, a)
 
 pub devices-went : (own : List ℕ) (x : Parts) (clock : ℕ) (t : Times) {o₁ o₂ o₃ : List ℕ} {x₁ x₂ x₃ x₄ x₅ : Parts}
     → x₁ ≡ timersPut x (timersAfter own (x .devices .clocks .timers) (t .now) clock) → went o₁ x₂ ≡ syncedPut x₁ (syncedOf own (x₁ .devices .clocks .vsync) (t .now))
@@ -85,6 +77,12 @@ devices-went own x clock t {o₁} {o₂} {o₃} {x₁} {x₂} {x₃} {x₄} {x�
     let d₁ : x₄ ≡ irqPut x₃ (tickedIn o₂ (x₃ .devices .clocks .irq) (t .game) .irq) = ap (λ (z : Went). z .parts) d in
     rw (e, d₁, d₀, c₁, c₀, b₁, b₀, a)
 
+moved-to : (own gpio : List ℕ) (times : List Float) (codes : List ℕ) (c : Clocks) (k : Keys) (clock : ℕ) (t : Times) (o g : List ℕ) (clocks : Clocks)
+    (held : Held) (applied : ℕ) → move.devices o clocks ≡ devicesOf own c clock t → held ≡ heldOf times codes k (t .now)
+    → lines g applied ≡ syncOf gpio (k .applied) held → outcome o g 0 clocks applied ≡ movedTo own gpio times codes c k clock t
+unfolding movedTo
+moved-to own gpio times codes c k clock t o g clocks held applied d h l = rw (← d, ← h, ← l)
+
 module _ (own gpio : List ℕ) (times : List Float) (codes : List ℕ) (x : Parts) (clock : ℕ) where
   pub moved-went : (t : Times) {o g : List ℕ} {y z : Parts} {k : Keys} {held : Held} {applied : ℕ} → went o y ≡ wentOf x (devicesOf own (x .devices .clocks) clock t)
       → k ≡ y .keys → held ≡ heldOf times codes k (t .now) → lines g applied ≡ syncOf gpio (k .applied) held → z ≡ appliedPut y applied
@@ -94,7 +92,7 @@ module _ (own gpio : List ℕ) (times : List Float) (codes : List ℕ) (x : Part
       let q : k ≡ x .keys = h ∙ ap (λ (w : Parts). w .keys) p in
       let c : move.devices o (y .devices .clocks) ≡ devicesOf own (x .devices .clocks) clock t = ap (λ (w : Went). move.devices (w .own) (w .parts .devices .clocks)) d in
       let s : outcome o g 0 (y .devices .clocks) applied ≡ movedTo own gpio times codes (x .devices .clocks) (x .keys) clock t
-      = time.moved-to own gpio times codes (x .devices .clocks) (x .keys) clock t o g (y .devices .clocks) held applied c (rw q at i) (rw q at l) in
+      = moved-to own gpio times codes (x .devices .clocks) (x .keys) clock t o g (y .devices .clocks) held applied c (rw q at i) (rw q at l) in
       let u : z ≡ appliedPut (clocksPut x (y .devices .clocks)) applied = e ∙ ap (λ (w : Parts). appliedPut w applied) (p ∙ ap (λ (w : Parts). clocksPut x (w .devices .clocks)) (sym p)) in
       ap (λ (w : Parts). moves o g 0 w) u ∙ ap (λ (w : Outcome). movesOf x w) s
 

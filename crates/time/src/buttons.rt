@@ -1,11 +1,12 @@
 // Keys: scripted presses, live keys and taps.
 ghost use mathlib.Core.Path.{_≡_};
+ghost use mathlib.Core.Logic.{_≢_};
 ghost use lib.Ieee.{binary64, ofBits};
 ghost use Rattle.keys.specs.Keys.{numberOf};
 ghost use Rattle.keys.specs.Live.{changed, liveOf, holdOf};
 ghost use Rattle.keys.specs.Script as script;
 ghost use Rattle.state.specs.Bank.{timesIn, keysIn, partsIn};
-ghost use Rattle.state.specs.Packed.{Kept};
+ghost use Rattle.state.specs.Packed.{Answered};
 ghost use Rattle.time.specs.Bank.{asked, keysAsked, pressed, pressedOf};
 use keys::Changed;
 use keys::Refusal;
@@ -23,14 +24,20 @@ fn key_number(refusal: Refusal) -> u8
     }
 }
 
+// The keys are put where they changed, so that a refusal leaves every word as it was.
 fn change(cells: &mut Cells, floats: &mut Floats, to: Changed) -> u8
+    requires { ⌜ (numberOf (to .refusal) ≢ 0 → to .keys ≡ keysIn (now cells) (now floats)) ⌝ }
     ensures { λ r. ⌜ (asked (partsIn (now (cells .exit)) (now (floats .exit))) r
         ≡ keysAsked (partsIn (now (cells .entry)) (now (floats .entry))) (changed to))
-        × Kept (now (cells .entry)) (now (floats .entry)) (now (cells .exit)) (now (floats .exit)) ⌝ }
+        × Answered r (now (cells .entry)) (now (floats .entry)) (now (cells .exit)) (now (floats .exit)) ⌝ }
 {
-    state::rests::put_keys(cells, floats, to.keys);
     let refusal = to.refusal;
-    key_number(refusal)
+    let n = key_number(refusal);
+    if n != 0 {
+        return n;
+    }
+    state::rests::put_keys(cells, floats, to.keys);
+    n
 }
 
 // A key goes down or up.
@@ -38,7 +45,7 @@ pub fn set_live(cells: &mut Cells, floats: &mut Floats, key: u32, down: bool) ->
     ensures { λ r. ⌜ (asked (partsIn (now (cells .exit)) (now (floats .exit))) r
         ≡ keysAsked (partsIn (now (cells .entry)) (now (floats .entry))) (liveOf (keysIn (now (cells .entry))
         (now (floats .entry))) key down))
-        × Kept (now (cells .entry)) (now (floats .entry)) (now (cells .exit)) (now (floats .exit)) ⌝ }
+        × Answered r (now (cells .entry)) (now (floats .entry)) (now (cells .exit)) (now (floats .exit)) ⌝ }
 {
     let before = state::rests::keys_of(cells, floats);
     let to = keys::live::set_live(before, key, down);
@@ -50,7 +57,7 @@ pub fn hold_until(cells: &mut Cells, floats: &mut Floats, key: u32, until: f64) 
     ensures { λ r. ⌜ (asked (partsIn (now (cells .exit)) (now (floats .exit))) r
         ≡ keysAsked (partsIn (now (cells .entry)) (now (floats .entry))) (holdOf (keysIn (now (cells .entry))
         (now (floats .entry))) key until))
-        × Kept (now (cells .entry)) (now (floats .entry)) (now (cells .exit)) (now (floats .exit)) ⌝ }
+        × Answered r (now (cells .entry)) (now (floats .entry)) (now (cells .exit)) (now (floats .exit)) ⌝ }
 {
     let before = state::rests::keys_of(cells, floats);
     let to = keys::live::hold_until(before, key, until);
@@ -61,7 +68,7 @@ pub fn hold_bits(cells: &mut Cells, floats: &mut Floats, key: u32, bits: u64) ->
     ensures { λ r. ⌜ (asked (partsIn (now (cells .exit)) (now (floats .exit))) r
         ≡ keysAsked (partsIn (now (cells .entry)) (now (floats .entry))) (holdOf (keysIn (now (cells .entry))
         (now (floats .entry))) key (ofBits binary64 bits)))
-        × Kept (now (cells .entry)) (now (floats .entry)) (now (cells .exit)) (now (floats .exit)) ⌝ }
+        × Answered r (now (cells .entry)) (now (floats .entry)) (now (cells .exit)) (now (floats .exit)) ⌝ }
 {
     let before = state::rests::keys_of(cells, floats);
     let to = keys::live::hold_bits(before, key, bits);
@@ -82,14 +89,18 @@ pub fn press(
         ≡ pressedOf (partsIn (now (cells .entry)) (now (floats .entry)))
         (script.pressOf (script.script (now (times .entry)) (now (codes .entry)) (keysIn (now (cells .entry))
         (now (floats .entry)) .count)) key at (timesIn (now (floats .entry)) .now)))
-        × Kept (now (cells .entry)) (now (floats .entry)) (now (cells .exit)) (now (floats .entry)) ⌝ }
+        × Answered r (now (cells .entry)) (now (floats .entry)) (now (cells .exit)) (now (floats .entry)) ⌝ }
 {
     let moment = state::moments::times_of(floats);
     let before = state::rests::keys_of(cells, floats);
     let x = keys::script::press(times, codes, before.count, key, at, moment.now);
-    state::rests::put_count(cells, x.count);
     let refusal = x.refusal;
-    key_number(refusal)
+    let n = key_number(refusal);
+    if n != 0 {
+        return n;
+    }
+    state::rests::put_count(cells, x.count);
+    n
 }
 
 pub fn press_bits(
@@ -105,12 +116,16 @@ pub fn press_bits(
         ≡ pressedOf (partsIn (now (cells .entry)) (now (floats .entry)))
         (script.pressOf (script.script (now (times .entry)) (now (codes .entry)) (keysIn (now (cells .entry))
         (now (floats .entry)) .count)) key (ofBits binary64 bits) (timesIn (now (floats .entry)) .now)))
-        × Kept (now (cells .entry)) (now (floats .entry)) (now (cells .exit)) (now (floats .entry)) ⌝ }
+        × Answered r (now (cells .entry)) (now (floats .entry)) (now (cells .exit)) (now (floats .entry)) ⌝ }
 {
     let moment = state::moments::times_of(floats);
     let before = state::rests::keys_of(cells, floats);
     let x = keys::script::press_bits(times, codes, before.count, key, bits, moment.now);
-    state::rests::put_count(cells, x.count);
     let refusal = x.refusal;
-    key_number(refusal)
+    let n = key_number(refusal);
+    if n != 0 {
+        return n;
+    }
+    state::rests::put_count(cells, x.count);
+    n
 }

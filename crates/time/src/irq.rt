@@ -1,18 +1,12 @@
 // Interrupts: irq_lines, pending_irq, irq_wanted.
 ghost use mathlib.Core.Path.{_≡_};
-ghost use mathlib.Core.Bool.{cond};
 ghost use mathlib.Core.List.{List};
 ghost use lib.Ieee.{Float};
 ghost use Rattle.state.specs.Bank.{timersIn};
 ghost use Rattle.time.specs.Irq.{timerLine, lcdLine, rtcLine, adcLine, firstOf, pendingOf, wantedOf};
 use state::Cells;
 use state::moments::pending_of;
-
-fn keep(here: bool, a: u32, b: u32) -> u32
-    ensures { λ r. ⌜ r ≡ cond here a b ⌝ }
-{
-    if here { a } else { b }
-}
+use whole::forms::keep;
 
 fn timer_irq_line(cells: &Cells) -> bool
     ensures { λ r. ⌜ ((f : List Float) → r ≡ timerLine (timersIn (now (cells .entry)) f)) ⌝ }

@@ -8,7 +8,7 @@ ghost use lib.Ieee.{Float, binary64, ofBits};
 ghost use lib.ListN.{getD};
 ghost use Rattle.state.specs.Parts.{none, timerPut, timersPut};
 ghost use Rattle.state.specs.Bank.{timersIn, irqIn, clocksIn, keysIn, partsIn};
-ghost use Rattle.state.specs.Packed.{Kept};
+ghost use Rattle.state.specs.Packed.{Kept, Answered};
 ghost use Rattle.time.specs.Clocks.{clockIn};
 ghost use Rattle.time.specs.Advance.{timerAfter, timersAfter, syncedOf, convertedIn, tickedIn, devicesOf, movedTo, moved, advanceOf};
 ghost use Rattle.time.specs.Bank.{went, syncedPut, convertedPut, tickedPut, wentOf, moves, movesOf};
@@ -163,7 +163,7 @@ fn go(
         (moved (now (own .entry)) (now (gpio .entry)) (now (times .entry)) (now (codes .entry))
         (clocksIn (now (cells .entry)) (now (floats .entry)))
         (keysIn (now (cells .entry)) (now (floats .entry))) (clockIn (now (sram .entry))) to))
-        × Kept (now (cells .entry)) (now (floats .entry)) (now (cells .exit)) (now (floats .exit)) ⌝ }
+        × Answered r (now (cells .entry)) (now (floats .entry)) (now (cells .exit)) (now (floats .exit)) ⌝ }
 {
     match to {
         Moved::To(t) => {
@@ -193,7 +193,7 @@ pub fn advance(
         (advanceOf (now (own .entry)) (now (gpio .entry)) (now (times .entry)) (now (codes .entry))
         (clocksIn (now (cells .entry)) (now (floats .entry)))
         (keysIn (now (cells .entry)) (now (floats .entry))) (clockIn (now (sram .entry))) to))
-        × Kept (now (cells .entry)) (now (floats .entry)) (now (cells .exit)) (now (floats .exit)) ⌝ }
+        × Answered r (now (cells .entry)) (now (floats .entry)) (now (cells .exit)) (now (floats .exit)) ⌝ }
 {
     let before = state::moments::times_of(floats);
     let moved = clock::time::advance(before, to);
@@ -216,7 +216,7 @@ pub fn advance_bits(
         (advanceOf (now (own .entry)) (now (gpio .entry)) (now (times .entry)) (now (codes .entry))
         (clocksIn (now (cells .entry)) (now (floats .entry)))
         (keysIn (now (cells .entry)) (now (floats .entry))) (clockIn (now (sram .entry))) (ofBits binary64 bits)))
-        × Kept (now (cells .entry)) (now (floats .entry)) (now (cells .exit)) (now (floats .exit)) ⌝ }
+        × Answered r (now (cells .entry)) (now (floats .entry)) (now (cells .exit)) (now (floats .exit)) ⌝ }
 {
     let before = state::moments::times_of(floats);
     let moved = clock::time::advance_bits(before, bits);

@@ -5,7 +5,7 @@ ghost use Prim.Native.Nat.{ℕ};
 ghost use lib.Ieee.{binary64, ofBits};
 ghost use Rattle.clock.specs.Times.{pacedOf};
 ghost use Rattle.state.specs.Bank.{timesIn, partsIn};
-ghost use Rattle.state.specs.Packed.{Kept};
+ghost use Rattle.state.specs.Packed.{Answered};
 ghost use Rattle.time.specs.Bank.{asked, pacedPut};
 use clock::Paced;
 use state::Floats;
@@ -13,7 +13,7 @@ use state::Floats;
 fn pace(floats: &mut Floats, to: Paced) -> u8
     ensures { λ r. ⌜ ((l : List ℕ) → (asked (partsIn l (now (floats .exit))) r
         ≡ pacedPut (partsIn l (now (floats .entry))) to)
-        × Kept l (now (floats .entry)) l (now (floats .exit))) ⌝ }
+        × Answered r l (now (floats .entry)) l (now (floats .exit))) ⌝ }
 {
     match to {
         Paced::By(times) => {
@@ -29,7 +29,7 @@ fn pace(floats: &mut Floats, to: Paced) -> u8
 pub fn set_turbo(floats: &mut Floats, to: f64) -> u8
     ensures { λ r. ⌜ ((l : List ℕ) → (asked (partsIn l (now (floats .exit))) r
         ≡ pacedPut (partsIn l (now (floats .entry))) (pacedOf (timesIn (now (floats .entry))) to))
-        × Kept l (now (floats .entry)) l (now (floats .exit))) ⌝ }
+        × Answered r l (now (floats .entry)) l (now (floats .exit))) ⌝ }
 {
     let times = state::moments::times_of(floats);
     let paced = clock::time::set_turbo(times, to);
@@ -40,7 +40,7 @@ pub fn set_turbo(floats: &mut Floats, to: f64) -> u8
 pub fn turbo_bits(floats: &mut Floats, bits: u64) -> u8
     ensures { λ r. ⌜ ((l : List ℕ) → (asked (partsIn l (now (floats .exit))) r
         ≡ pacedPut (partsIn l (now (floats .entry))) (pacedOf (timesIn (now (floats .entry))) (ofBits binary64 bits)))
-        × Kept l (now (floats .entry)) l (now (floats .exit))) ⌝ }
+        × Answered r l (now (floats .entry)) l (now (floats .exit))) ⌝ }
 {
     let times = state::moments::times_of(floats);
     let paced = clock::time::turbo_bits(times, bits);

@@ -4,7 +4,7 @@ ghost use mathlib.Core.List.{List};
 ghost use lib.Ieee.{Float};
 ghost use Rattle.timer.specs.Events.{numberOf, queueOf, takeOf};
 ghost use Rattle.state.specs.Bank.{ringIn, partsIn};
-ghost use Rattle.state.specs.Packed.{Kept};
+ghost use Rattle.state.specs.Packed.{Answered};
 ghost use Rattle.time.specs.Bank.{asked, took, tookOf};
 use crate::Waited;
 use state::Cells;
@@ -31,15 +31,16 @@ pub fn take_event(
         (asked (partsIn (now (cells .exit)) f) (r .refusal)) (r .event)
         ≡ tookOf (partsIn (now (cells .entry)) f) (takeOf (queueOf (now (at .entry)) (now (frequencies .entry))
         (now (duties .entry)) (ringIn (now (cells .entry))))))
-        × Kept (now (cells .entry)) f (now (cells .exit)) f) ⌝ }
+        × Answered (r .refusal) (now (cells .entry)) f (now (cells .exit)) f) ⌝ }
 {
     let ring = state::rests::ring_of(cells);
     let oldest = timer::events::take_from(at, frequencies, duties, ring);
-    state::rests::put_ring(cells, oldest.ring);
     let refusal = oldest.refusal;
     let event = oldest.event;
-    Waited {
-        refusal: event_number(refusal),
-        event,
+    let n = event_number(refusal);
+    if n != 0 {
+        return Waited { refusal: n, event };
     }
+    state::rests::put_ring(cells, oldest.ring);
+    Waited { refusal: n, event }
 }

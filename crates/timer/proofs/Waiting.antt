@@ -1,13 +1,13 @@
 -- The ring keeps the list of waiting events: a put adds at its end, a take goes from its front, in bulk too.
 use mathlib.Core.Path.{_≡_, refl, sym, _∙_, ap}
-use mathlib.Core.Bool.{Bool, true, false}
+use mathlib.Core.Bool.{Bool, true, false, cond}
 use mathlib.Core.List.{List, [], _∷_, _++_}
 use mathlib.Core.Logic.{_≢_}
 use Prim.Native.Nat.{ℕ, zero, suc, _+_, _-_, _<_, _≤_}
 use native.Mathlib.Omega.{arith}
 use native.Mathlib.Nat.{add-zero, add-suc, suc-add, zero-add, sub-zero, zero-sub, suc-sub-suc}
 use native.Mathlib.Numerals.{add-one}
-use lib.Dec.{ltb}
+use lib.Dec.{ltb, eqb}
 use lib.Ieee.{nan}
 use lib.ListN.{length, take, drop, drop-of-length-le}
 use lib.Seq.{getD-set-same, getD-set-other}
@@ -135,6 +135,16 @@ take-none q none = rw (eq-eqb (q .ring .count) 0 none)
 pub take-some : (q : Queue) → q .ring .count ≢ 0 → takeOf q ≡ takeOutcome Done (eventOf q 0) (without q 1)
 unfolding takeOf
 take-some q some = rw (ne-eqb (q .ring .count) 0 some)
+
+-- where none waits the queue is as it was
+pub take-still : (q : Queue) → takeOf q .refusal ≢ 0 → takeOf q .queue ≡ q
+unfolding takeOf
+take-still q = by (eqb (q .ring .count) 0)
+  where
+    by : (b : Bool) → cond b (takeOutcome NoEvent nothing q) (takeOutcome Done (eventOf q 0) (without q 1)) .refusal ≢ 0
+        → cond b (takeOutcome NoEvent nothing q) (takeOutcome Done (eventOf q 0) (without q 1)) .queue ≡ q
+    by true h = refl
+    by false h = absurd (h refl)
 
 -- ---- the functions over the list
 

@@ -1,5 +1,6 @@
-// Numbers in other forms: a float as its bits, a flag as a number, the low half of a word.
+// Numbers in other forms: a float as its bits, a flag as a number, the low half of a word; and one of two by a flag.
 ghost use mathlib.Core.Path.{_≡_};
+ghost use mathlib.Core.Bool.{cond};
 ghost use Prim.Native.Nat.{_%_, _^_};
 ghost use Rattle.whole.specs.Forms.{bitsOf, bit};
 
@@ -24,4 +25,11 @@ pub fn low(n: u64) -> u32
     ensures { λ r. ⌜ r ≡ n % 2 ^ 32 ⌝ }
 {
     (n % 0x1_0000_0000) as u32
+}
+
+// One of two words, with no branch for the caller.
+pub fn keep(here: bool, a: u32, b: u32) -> u32
+    ensures { λ r. ⌜ r ≡ cond here a b ⌝ }
+{
+    if here { a } else { b }
 }

@@ -7,25 +7,21 @@ use Rattle.lines.specs.declared.Input.the-variants.{Line}
 use Rattle.lines.proofs.next.Statement.{statement}
 use Rattle.lines.proofs.next.Tie as tie
 
-slice-aggregate-read-full : tie.Need-slice-aggregate-read-full
-slice-aggregate-read-full c = search needs
-
-read-full-requires : tie.Need-read-full-requires
-read-full-requires c κs = search needs
-
 returns : tie.Need-returns
 returns c =
     record { count = c .before .before .read-full .result; line = []; stands = simp (lt-ltb _ _ (c .if1 .taken)) }
 
-step-of-requires : tie.Need-step-of-requires
-step-of-requires c κs = search needs
-
 returns-2 : tie.Need-returns-2
 returns-2 c =
     let read = c .before .before .before .before .read-full in
-    record { count = read .result; line = read .last .1 .0; stands = rw (le-ltb _ _ (c .before .before .if1 .left)) (ap Line (c .step-of .ensures)) }
+    record {
+      count = read .result;
+      line = read .last .1 .0;
+      stands = rw (le-ltb _ _ (c .before .before .if1 .left))
+          (ap Line (c .step-of .ensures));
+    }
 
 pub next-spec : {M : Type 1} → statement M
 next-spec =
     tie.close
-    (tie.spec slice-aggregate-read-full read-full-requires returns step-of-requires returns-2)
+    (tie.spec (λ c. search needs) (λ c κs. search needs) returns (λ c κs. search needs) returns-2)

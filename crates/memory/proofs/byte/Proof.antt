@@ -6,14 +6,8 @@ use borrow.Author.Needs.{needs}
 use Rattle.memory.proofs.byte.Statement.{statement}
 use Rattle.memory.proofs.byte.Tie as tie
 
-shared-slice-read-result : tie.Need-shared-slice-read-result
-shared-slice-read-result c = search needs
-
-returns : tie.Need-returns
-returns c = search needs
-
 returns-2 : tie.Need-returns-2
 returns-2 c = sym (List·getD-eq-default (now (c .before .args .m)) 0 {n = (c .before .args .at)} (omega arith))
 
 pub byte-spec : {M : Type 1} → statement M
-byte-spec = tie.close (tie.spec shared-slice-read-result returns returns-2)
+byte-spec = tie.close (tie.spec (λ c. search needs) (λ c. search needs) returns-2)

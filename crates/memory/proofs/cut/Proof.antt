@@ -4,12 +4,6 @@ use borrow.Author.Needs.{needs}
 use Rattle.memory.proofs.cut.Statement.{statement}
 use Rattle.memory.proofs.cut.Tie as tie
 
-mul-w : tie.Need-mul-w
-mul-w c = search needs
-
-shr-w : tie.Need-shr-w
-shr-w c = search needs
-
 returns : tie.Need-returns
 returns c = cut-word _ _ _ (omega arith) (c .if1 .taken)
 
@@ -20,4 +14,4 @@ returns-3 : tie.Need-returns-3
 returns-3 c = cut-byte _ _ _ (c .before .if1 .left) (c .if2 .left)
 
 pub cut-spec : {M : Type 1} → statement M
-cut-spec = tie.close (tie.spec mul-w shr-w returns returns-2 returns-3)
+cut-spec = tie.close (tie.spec (λ c. search needs) (λ c. search needs) returns returns-2 returns-3)

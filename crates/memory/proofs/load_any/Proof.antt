@@ -32,7 +32,11 @@ loop-less : tie.Need-loop-less Inv-loop μ-loop
 loop-less c = search needs
 
 loop-again : tie.Need-loop-again Inv-loop μ-loop
-loop-again c = (omega arith, le-more _ _ _ _ _ _ (c .before .before .loop-test .taken) (c .before .before .before .loop .inv .0) (c .before .before .before .loop .inv .1) (c .grown .ensures))
+loop-again c = (
+  omega arith,
+  le-more _ _ _ _ _ _ (c .before .before .loop-test .taken)
+      (c .before .before .before .loop .inv .0) (c .before .before .before .loop .inv .1) (c .grown .ensures),
+)
 
 returns : tie.Need-returns Inv-loop μ-loop
 returns c = load-in _ _ _ _ _ (omega arith) (omega arith) (c .before .loop .inv .1)

@@ -6,15 +6,6 @@ use borrow.Author.Needs.{needs}
 use Rattle.memory.proofs.put_four.Statement.{statement}
 use Rattle.memory.proofs.put_four.Tie as tie
 
-low-requires : tie.Need-low-requires
-low-requires c κs = search needs
-
-slice-write-m : tie.Need-slice-write-m
-slice-write-m c = search needs
-
-add-put-three : tie.Need-add-put-three
-add-put-three c = search needs
-
 put-three-requires : tie.Need-put-three-requires
 put-three-requires c κs = simp length-set (omega arith)
 
@@ -22,9 +13,10 @@ same-length : tie.Need-same-length
 same-length c = (c .before .before .put-three .kept .0) ∙ simp length-set
 
 returns : tie.Need-returns
-returns c = store-front _ _ _ _ _ _ (omega arith) (c .before .before .before .before .low .ensures) (c .before .before .put-three .ensures)
+returns c = store-front _ _ _ _ _ _ (omega arith) (c .before .before .before .before .low .ensures)
+    (c .before .before .put-three .ensures)
 
 pub put-four-spec : {M : Type 1} → statement M
 put-four-spec =
     tie.close
-    (tie.spec low-requires slice-write-m add-put-three put-three-requires same-length returns)
+    (tie.spec (λ c κs. search needs) (λ c. search needs) (λ c. search needs) put-three-requires same-length returns)

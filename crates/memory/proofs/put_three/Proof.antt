@@ -6,15 +6,6 @@ use borrow.Author.Needs.{needs}
 use Rattle.memory.proofs.put_three.Statement.{statement}
 use Rattle.memory.proofs.put_three.Tie as tie
 
-low-requires : tie.Need-low-requires
-low-requires c κs = search needs
-
-slice-write-m : tie.Need-slice-write-m
-slice-write-m c = search needs
-
-add-put-two : tie.Need-add-put-two
-add-put-two c = search needs
-
 put-two-requires : tie.Need-put-two-requires
 put-two-requires c κs = simp length-set (omega arith)
 
@@ -22,9 +13,10 @@ same-length : tie.Need-same-length
 same-length c = (c .before .before .put-two .kept .0) ∙ simp length-set
 
 returns : tie.Need-returns
-returns c = store-front _ _ _ _ _ _ (omega arith) (c .before .before .before .before .low .ensures) (c .before .before .put-two .ensures)
+returns c = store-front _ _ _ _ _ _ (omega arith) (c .before .before .before .before .low .ensures)
+    (c .before .before .put-two .ensures)
 
 pub put-three-spec : {M : Type 1} → statement M
 put-three-spec =
     tie.close
-    (tie.spec low-requires slice-write-m add-put-two put-two-requires same-length returns)
+    (tie.spec (λ c κs. search needs) (λ c. search needs) (λ c. search needs) put-two-requires same-length returns)

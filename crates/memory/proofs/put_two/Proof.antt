@@ -6,15 +6,6 @@ use borrow.Author.Needs.{needs}
 use Rattle.memory.proofs.put_two.Statement.{statement}
 use Rattle.memory.proofs.put_two.Tie as tie
 
-low-requires : tie.Need-low-requires
-low-requires c κs = search needs
-
-slice-write-m : tie.Need-slice-write-m
-slice-write-m c = search needs
-
-add-put-one : tie.Need-add-put-one
-add-put-one c = search needs
-
 put-one-requires : tie.Need-put-one-requires
 put-one-requires c κs = simp length-set (omega arith)
 
@@ -22,9 +13,10 @@ same-length : tie.Need-same-length
 same-length c = (c .before .before .put-one .kept .0) ∙ simp length-set
 
 returns : tie.Need-returns
-returns c = store-front _ _ _ _ _ _ (omega arith) (c .before .before .before .before .low .ensures) (c .before .before .put-one .ensures)
+returns c = store-front _ _ _ _ _ _ (omega arith) (c .before .before .before .before .low .ensures)
+    (c .before .before .put-one .ensures)
 
 pub put-two-spec : {M : Type 1} → statement M
 put-two-spec =
     tie.close
-    (tie.spec low-requires slice-write-m add-put-one put-one-requires same-length returns)
+    (tie.spec (λ c κs. search needs) (λ c. search needs) (λ c. search needs) put-one-requires same-length returns)

@@ -10,7 +10,8 @@ use Rattle.memory.proofs.store_any.Statement.{statement}
 use Rattle.memory.proofs.store_any.Tie as tie
 
 abbrev Inv-loop : tie.InvT-loop
-Inv-loop m₀ at size value v₀ i₀ m v i = (i ≤ size) × (length m ≡ length m₀) × (sets m (at + i) (bytesOf (size - i) v) ≡ sets m₀ at (bytesOf size value))
+Inv-loop m₀ at size value v₀ i₀ m v i = (i ≤ size) × (length m ≡ length m₀) × (sets m (at + i) (bytesOf (size - i)
+    v) ≡ sets m₀ at (bytesOf size value))
 
 abbrev μ-loop : tie.MeasureT-loop
 μ-loop m₀ at size value v₀ i₀ m v i = size - i
@@ -34,7 +35,12 @@ loop-less : tie.Need-loop-less Inv-loop μ-loop
 loop-less c = search needs
 
 loop-again : tie.Need-loop-again Inv-loop μ-loop
-loop-again c = (search needs, simp length-set (c .before .before .loop .inv .1), store-more _ _ _ _ _ _ (c .before .loop-test .taken) (c .low .ensures) ∙ (c .before .before .loop .inv .2))
+loop-again c = (
+  search needs,
+  simp length-set (c .before .before .loop .inv .1),
+  store-more _ _ _ _ _ _
+      (c .before .loop-test .taken) (c .low .ensures) ∙ (c .before .before .loop .inv .2),
+)
 
 same-length : tie.Need-same-length Inv-loop μ-loop
 same-length c = (c .before .loop .inv .1)

@@ -4,17 +4,12 @@ use borrow.Author.Needs.{needs}
 use Rattle.panel.proofs.data.Statement.{statement}
 use Rattle.panel.proofs.data.Tie as tie
 
-data-requires : tie.Need-data-requires
-data-requires c κs = search needs
-
-same-length : tie.Need-same-length
-same-length c = search needs
-
 returns : tie.Need-returns
-returns c = data-serves _ _ _ _ _ (c .before .before .before .before .if1 .taken) (c .before .before .«data» .ensures)
+returns c = data-serves _ _ _ _ _ (c .before .before .before .before .if1 .taken)
+    (c .before .before .«data» .ensures)
 
 returns-2 : tie.Need-returns-2
 returns-2 c = sym (data-refused _ _ _ (c .if1 .left))
 
 pub data-spec : {M : Type 1} → statement M
-data-spec = tie.close (tie.spec data-requires same-length returns returns-2)
+data-spec = tie.close (tie.spec (λ c κs. search needs) (λ c. search needs) returns returns-2)

@@ -4,9 +4,6 @@ use borrow.Author.Needs.{needs}
 use Rattle.panel.proofs.rgb_at.Statement.{statement}
 use Rattle.panel.proofs.rgb_at.Tie as tie
 
-at-requires : tie.Need-at-requires
-at-requires c κs = search needs
-
 returns : tie.Need-returns
 returns c = (cc) ∙ sym (pixel-done _ _ (c .before .if1 .taken))
 
@@ -14,4 +11,4 @@ returns-2 : tie.Need-returns-2
 returns-2 c = sym (pixel-refused _ _ (c .if1 .left))
 
 pub rgb-at-spec : {M : Type 1} → statement M
-rgb-at-spec = tie.close (tie.spec at-requires returns returns-2)
+rgb-at-spec = tie.close (tie.spec (λ c κs. search needs) returns returns-2)

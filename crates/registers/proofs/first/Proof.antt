@@ -31,7 +31,11 @@ loop-less : tie.Need-loop-less Inv-loop μ-loop
 loop-less c = search needs
 
 loop-again : tie.Need-loop-again Inv-loop μ-loop
-loop-again c = (search needs, c .before .before .before .loop .inv .1 ∙ first-on _ _ _ (search needs) (c .if1 .left))
+loop-again c = (
+  search needs,
+  c .before .before .before .loop .inv .1 ∙ first-on _ _ _ (search needs)
+      (c .if1 .left),
+)
 
 returns-2 : tie.Need-returns-2 Inv-loop μ-loop
 returns-2 c = sym (c .before .loop .inv .1 ∙ first-end _ _ _ (search needs))

@@ -3,15 +3,6 @@ use Rattle.registers.proofs.Cases.{own-at, own-none}
 use Rattle.registers.proofs.own_reg.Statement.{statement}
 use Rattle.registers.proofs.own_reg.Tie as tie
 
-slot-requires : tie.Need-slot-requires
-slot-requires c κs = search needs
-
-mul-result : tie.Need-mul-result
-mul-result c = search needs
-
-element-copy-out-result : tie.Need-element-copy-out-result
-element-copy-out-result c = search needs
-
 returns : tie.Need-returns
 returns c = own-at _ _ _ (c .before .before .slot .ensures) (c .before .if1 .taken)
 
@@ -20,4 +11,4 @@ returns-2 c = own-none _ _ _ (c .before .slot .ensures) (c .if1 .left)
 
 pub own-reg-spec : {M : Type 1} → statement M
 own-reg-spec =
-    tie.close (tie.spec slot-requires mul-result element-copy-out-result returns returns-2)
+    tie.close (tie.spec (λ c κs. search needs) (λ c. search needs) (λ c. search needs) returns returns-2)

@@ -3,21 +3,6 @@ use Rattle.registers.proofs.Cases.{without-known, without-none}
 use Rattle.registers.proofs.remove.Statement.{statement}
 use Rattle.registers.proofs.remove.Tie as tie
 
-find-requires : tie.Need-find-requires
-find-requires c κs = search needs
-
-mul-addresses : tie.Need-mul-addresses
-mul-addresses c = search needs
-
-element-write-addresses : tie.Need-element-write-addresses
-element-write-addresses c = search needs
-
-mul-values : tie.Need-mul-values
-mul-values c = search needs
-
-element-write-values : tie.Need-element-write-values
-element-write-values c = search needs
-
 returns : tie.Need-returns
 returns c = without-known _ _ _ (c .before .find .ensures) (c .if1 .taken)
 
@@ -28,10 +13,10 @@ pub remove-spec : {M : Type 1} → statement M
 remove-spec =
     tie.close
     (tie.spec
-    find-requires
-    mul-addresses
-    element-write-addresses
-    mul-values
-    element-write-values
+    (λ c κs. search needs)
+    (λ c. search needs)
+    (λ c. search needs)
+    (λ c. search needs)
+    (λ c. search needs)
     returns
     returns-2)

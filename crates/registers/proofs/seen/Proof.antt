@@ -29,7 +29,11 @@ loop-less : tie.Need-loop-less Inv-loop μ-loop
 loop-less c = search needs
 
 loop-again : tie.Need-loop-again Inv-loop μ-loop
-loop-again c = (search needs, seen-on _ _ _ (c .before .before .loop .found) (c .before .before .loop .i) (search needs) (c .before .before .loop .inv .1))
+loop-again c = (
+  search needs,
+  seen-on _ _ _ (c .before .before .loop .found) (c .before .before .loop .i)
+      (search needs) (c .before .before .loop .inv .1),
+)
 
 returns : tie.Need-returns Inv-loop μ-loop
 returns c = seen-end _ _ _ _ (c .before .loop .i) (search needs) (c .before .loop .inv .1)

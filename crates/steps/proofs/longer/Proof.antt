@@ -2,11 +2,8 @@ use borrow.Author.Needs.{needs}
 use Rattle.steps.proofs.longer.Statement.{statement}
 use Rattle.steps.proofs.longer.Tie as tie
 
-grow-requires : tie.Need-grow-requires
-grow-requires c κs = search needs
-
 returns : tie.Need-returns
 returns c = rw (c .grow .ensures)
 
 pub longer-spec : {M : Type 1} → statement M
-longer-spec = tie.close (tie.spec grow-requires returns)
+longer-spec = tie.close (tie.spec (λ c κs. search needs) returns)

@@ -2,11 +2,8 @@ use borrow.Author.Needs.{needs}
 use Rattle.steps.proofs.next_line.Statement.{statement}
 use Rattle.steps.proofs.next_line.Tie as tie
 
-wrapping-add-u64-requires : tie.Need-wrapping-add-u64-requires
-wrapping-add-u64-requires c κs = search needs
-
 returns : tie.Need-returns
 returns c = rw (c .wrapping-add-u64 .ensures)
 
 pub next-line-spec : {M : Type 1} → statement M
-next-line-spec = tie.close (tie.spec wrapping-add-u64-requires returns)
+next-line-spec = tie.close (tie.spec (λ c κs. search needs) returns)

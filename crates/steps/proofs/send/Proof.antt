@@ -4,12 +4,6 @@ use borrow.Author.Needs.{needs}
 use Rattle.steps.proofs.send.Statement.{statement}
 use Rattle.steps.proofs.send.Tie as tie
 
-transfer-requires : tie.Need-transfer-requires
-transfer-requires c κs = search needs
-
-next-line-requires : tie.Need-next-line-requires
-next-line-requires c κs = search needs
-
 returns : tie.Need-returns
 returns c =
     let at-args = c .before .before .before .before .before .before .args in
@@ -18,4 +12,4 @@ returns c =
     after-transfer w _ (at-transfer .result) (at-transfer .ensures) (c .next-line .ensures)
 
 pub send-spec : {M : Type 1} → statement M
-send-spec = tie.close (tie.spec transfer-requires next-line-requires returns)
+send-spec = tie.close (tie.spec (λ c κs. search needs) (λ c κs. search needs) returns)

@@ -4,9 +4,6 @@ use Rattle.timer.specs.Timers.{rateOf}
 use Rattle.timer.proofs.rate.Statement.{statement}
 use Rattle.timer.proofs.rate.Tie as tie
 
-sysclk-requires : tie.Need-sysclk-requires
-sysclk-requires c κs = search needs
-
 returns : tie.Need-returns
 unfolding rateOf
 returns c = rw (has-some _ _ (c .if1 .taken), ← (c .before .sysclk .ensures))
@@ -16,4 +13,4 @@ unfolding rateOf
 returns-2 c = rw (has-not _ _ (c .if1 .left), ← (c .before .sysclk .ensures))
 
 pub rate-spec : {M : Type 1} → statement M
-rate-spec = tie.close (tie.spec sysclk-requires returns returns-2)
+rate-spec = tie.close (tie.spec (λ c κs. search needs) returns returns-2)

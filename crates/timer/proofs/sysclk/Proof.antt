@@ -4,9 +4,6 @@ use Rattle.timer.specs.Timers.{sysclkOf}
 use Rattle.timer.proofs.sysclk.Statement.{statement}
 use Rattle.timer.proofs.sysclk.Tie as tie
 
-int-to-float-result : tie.Need-int-to-float-result
-int-to-float-result c = search needs
-
 returns : tie.Need-returns
 unfolding sysclkOf
 returns c = rw (eq-eqb _ _ (c .if1 .taken))
@@ -16,4 +13,4 @@ unfolding sysclkOf
 returns-2 c = rw (ne-eqb _ _ (c .before .if1 .left))
 
 pub sysclk-spec : {M : Type 1} → statement M
-sysclk-spec = tie.close (tie.spec int-to-float-result returns returns-2)
+sysclk-spec = tie.close (tie.spec (λ c. search needs) returns returns-2)

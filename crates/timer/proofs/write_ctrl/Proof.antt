@@ -3,9 +3,6 @@ use Rattle.timer.specs.Timers.{writtenOf}
 use Rattle.timer.proofs.write_ctrl.Statement.{statement}
 use Rattle.timer.proofs.write_ctrl.Tie as tie
 
-cleared-requires : tie.Need-cleared-requires
-cleared-requires c κs = search needs
-
 returns : tie.Need-returns
 unfolding writtenOf
 returns c = rw ((c .if1 .taken), ← (c .before .cleared .ensures))
@@ -15,4 +12,4 @@ unfolding writtenOf
 returns-2 c = rw ((c .if1 .left), ← (c .before .cleared .ensures))
 
 pub write-ctrl-spec : {M : Type 1} → statement M
-write-ctrl-spec = tie.close (tie.spec cleared-requires returns returns-2)
+write-ctrl-spec = tie.close (tie.spec (λ c κs. search needs) returns returns-2)

@@ -19,26 +19,16 @@ float-to-bits-bits c = no-nan (c .before .args .x) (c .if1 .left)
 returns-2 : tie.Need-returns-2
 returns-2 c = cut-by-bits _ _ (c .before .before .good .0 .1) (sign-set _ (c .if2 .taken))
 
-add-digits : tie.Need-add-digits
-add-digits c = search needs
-
 returns-3 : tie.Need-returns-3
 returns-3 c = cut-by-bits _ _ (c .before .before .before .good .0 .1) (fraction _ (omega arith))
 
-shr-result : tie.Need-shr-result
-shr-result c = search needs
-
 returns-4 : tie.Need-returns-4
-returns-4 c = cut-by-bits _ _ (c .before .before .before .before .good .0 .1) (dropped _ (c .before .if3 .left) (c .if4 .taken))
-
-sub-result : tie.Need-sub-result
-sub-result c = search needs
-
-shl-result : tie.Need-shl-result
-shl-result c = search needs
+returns-4 c = cut-by-bits _ _ (c .before .before .before .before .good .0 .1) (dropped _ (c .before .if3 .left)
+    (c .if4 .taken))
 
 returns-5 : tie.Need-returns-5
-returns-5 c = cut-by-bits _ _ (c .before .before .before .before .before .good .0 .1) (moved _ (c .before .if4 .left) (c .if5 .taken))
+returns-5 c = cut-by-bits _ _ (c .before .before .before .before .before .good .0 .1) (moved _
+    (c .before .if4 .left) (c .if5 .taken))
 
 returns-6 : tie.Need-returns-6
 returns-6 c =
@@ -46,9 +36,11 @@ returns-6 c =
     let x = s .args .x in
     cut-by-bits x _ (s .good .0 .1)
     (saturated (toBits binary64 x) (omega arith) (c .before .before .before .if2 .left)
-    (subst (λ (y : Float). T (not (isNan y))) (sym (held x (s .good .0 .1))) (no-nan x (c .before .before .before .before .if1 .left))))
+    (subst (λ (y : Float). T (not (isNan y))) (sym (held x (s .good .0 .1))) (no-nan x
+    (c .before .before .before .before .if1 .left))))
 
 pub whole-spec : {M : Type 1} → statement M
 whole-spec =
     tie.close
-    (tie.spec returns float-to-bits-bits returns-2 add-digits returns-3 shr-result returns-4 sub-result shl-result returns-5 returns-6)
+    (tie.spec returns float-to-bits-bits returns-2 (λ c. search needs) returns-3 (λ c. search needs) returns-4
+    (λ c. search needs) (λ c. search needs) returns-5 returns-6)

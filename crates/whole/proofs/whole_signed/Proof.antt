@@ -4,25 +4,14 @@ use Rattle.whole.proofs.Cuts.{signed-least, signed-negative, signed-gre
 use Rattle.whole.proofs.whole_signed.Statement.{statement}
 use Rattle.whole.proofs.whole_signed.Tie as tie
 
-whole-requires : tie.Need-whole-requires
-whole-requires c κs = search needs
-
 returns : tie.Need-returns
 returns c = signed-least _ _ (c .before .before .if1 .taken) (c .before .whole .ensures .cast) (c .if2 .taken)
 
-sub-wrapping-add-u64 : tie.Need-sub-wrapping-add-u64
-sub-wrapping-add-u64 c = search needs
-
-wrapping-add-u64-requires : tie.Need-wrapping-add-u64-requires
-wrapping-add-u64-requires c κs = search needs
-
 returns-2 : tie.Need-returns-2
 returns-2 c =
-    (c .wrapping-add-u64 .ensures) ∙ signed-negative _ _ (c .before .before .before .if1 .taken) (c .before .before .whole .ensures .cast)
+    (c .wrapping-add-u64 .ensures) ∙ signed-negative _ _ (c .before .before .before .if1 .taken)
+    (c .before .before .whole .ensures .cast)
     (c .before .if2 .left)
-
-whole-requires-2 : tie.Need-whole-requires-2
-whole-requires-2 c κs = search needs
 
 returns-3 : tie.Need-returns-3
 returns-3 c = signed-greatest _ _ (c .before .before .if1 .left) (c .before .whole2 .ensures .cast) (c .if3 .taken)
@@ -34,11 +23,11 @@ pub whole-signed-spec : {M : Type 1} → statement M
 whole-signed-spec =
     tie.close
     (tie.spec
-    whole-requires
+    (λ c κs. search needs)
     returns
-    sub-wrapping-add-u64
-    wrapping-add-u64-requires
+    (λ c. search needs)
+    (λ c κs. search needs)
     returns-2
-    whole-requires-2
+    (λ c κs. search needs)
     returns-3
     returns-4)

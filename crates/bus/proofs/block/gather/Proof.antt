@@ -14,7 +14,8 @@ use Rattle.bus.proofs.block.gather.Tie as tie
 abbrev Inv-loop : tie.InvT-loop
 Inv-loop own addresses values ram sram gpio addr buf₀ n i₀ buf i =
     (n ≡ length buf₀) × (i ≤ n) × (length buf ≡ length buf₀)
-    × (buf ≡ take i (table (λ k. peekOn (registersOf own addresses values) ram sram gpio addr k) 0 (length buf₀)) ++ drop i buf₀)
+    × (buf ≡ take i (table (λ k. peekOn (registersOf own addresses values) ram sram gpio addr k) 0 (length buf₀)) ++
+    drop i buf₀)
 
 abbrev μ-loop : tie.MeasureT-loop
 μ-loop own addresses values ram sram gpio addr buf₀ n i₀ buf i = n - i
@@ -43,9 +44,15 @@ loop-again c =
     let a = (c .before .before .before .before .before .before .before .before .args) in
     let l = (c .before .before .before .loop) in
     let i = l .inv in
-    let f : ℕ → ℕ = (λ k. peekOn (registersOf (a .own .now) (a .addresses .now) (a .values .now)) (a .ram .now) (a .sram .now) (a .gpio .now) (a .addr) k) in
-    let m : l .i < length (a .buf .now) = omega arith in
-    (i .0, omega arith, simp length-set (i .2), rw (i .3, (c .peek8 .ensures), (c .before .along .ensures), add-one) (table-step f (l .i) 0 (l .i) (a .buf .now) (omega arith) m))
+    let f : ℕ → ℕ = (λ k. peekOn (registersOf (a .own .now) (a .addresses .now) (a .values .now)) (a .ram .now)
+    (a .sram .now) (a .gpio .now) (a .addr) k) in
+    let m : l .i < length (a .buf .now) = omega arith in (
+      i .0,
+      omega arith,
+      simp length-set (i .2),
+      rw (i .3, (c .peek8 .ensures), (c .before .along .ensures), add-one)
+          (table-step f (l .i) 0 (l .i) (a .buf .now) (omega arith) m),
+    )
 
 same-length : tie.Need-same-length Inv-loop μ-loop
 same-length c = (c .before .loop .inv .2)

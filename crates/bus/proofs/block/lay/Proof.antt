@@ -12,7 +12,8 @@ use Rattle.bus.proofs.block.lay.Tie as tie
 
 abbrev Inv-loop : tie.InvT-loop
 Inv-loop m at buf₀ n i₀ buf i =
-    (n ≡ length buf₀) × (i ≤ n) × (length buf ≡ length buf₀) × (buf ≡ take i (table (λ k. getD m (at + k) 0) 0 (length buf₀)) ++ drop i buf₀)
+    (n ≡ length buf₀) × (i ≤ n) × (length buf ≡ length buf₀) × (buf ≡ take i (table (λ k. getD m (at + k) 0) 0
+    (length buf₀)) ++ drop i buf₀)
 
 abbrev μ-loop : tie.MeasureT-loop
 μ-loop m at buf₀ n i₀ buf i = n - i
@@ -41,8 +42,13 @@ loop-again c =
     let a = (c .before .before .before .args) in
     let l = (c .before .before .loop) in
     let i = l .inv in
-    let m : l .i < length (a .buf .now) = omega arith in
-    (i .0, omega arith, simp length-set (i .2), rw (i .3, add-one) (table-step (λ k. getD (a .m .now) (a .at + k) 0) (l .i) 0 (l .i) (a .buf .now) (omega arith) m))
+    let m : l .i < length (a .buf .now) = omega arith in (
+      i .0,
+      omega arith,
+      simp length-set (i .2),
+      rw (i .3, add-one) (table-step (λ k. getD (a .m .now) (a .at + k) 0)
+          (l .i) 0 (l .i) (a .buf .now) (omega arith) m),
+    )
 
 same-length : tie.Need-same-length Inv-loop μ-loop
 same-length c = (c .before .loop .inv .2)
@@ -52,7 +58,8 @@ returns c =
     let a = (c .before .before .args) in
     let i = (c .before .loop .inv) in
     let e : (c .before .loop .i) ≡ length (a .buf .now) = omega arith in
-    i .3 ∙ rw e (table-whole _ (a .buf .now)) ∙ listed (a .m .now) (a .at) (length (a .buf .now)) (c .before .before .pre)
+    i .3 ∙ rw e (table-whole _ (a .buf .now)) ∙ listed (a .m .now) (a .at) (length (a .buf .now))
+    (c .before .before .pre)
 
 pub lay-spec : {M : Type 1} → statement M
 lay-spec =

@@ -8,18 +8,10 @@ returns : tie.Need-returns
 unfolding liesIn
 returns c = rw (lt-leb _ _ (c .if1 .taken))
 
-cast-at : tie.Need-cast-at
-cast-at c = search needs
-
-fits-requires : tie.Need-fits-requires
-fits-requires c κs = search needs
-
-fits-requires-2 : tie.Need-fits-requires-2
-fits-requires-2 c κs = search needs
-
 returns-2 : tie.Need-returns-2
 unfolding liesIn
 returns-2 c = rw (le-leb _ _ (c .before .before .if1 .left), ← (c .before .fits2 .ensures), ← (c .fits3 .ensures))
 
 pub lies-in-spec : {M : Type 1} → statement M
-lies-in-spec = tie.close (tie.spec returns cast-at fits-requires fits-requires-2 returns-2)
+lies-in-spec = tie.close (tie.spec returns (λ c. search needs) (λ c κs. search needs) (λ c κs. search needs)
+    returns-2)

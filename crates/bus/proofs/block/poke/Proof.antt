@@ -10,7 +10,8 @@ use Rattle.bus.proofs.block.poke.Tie as tie
 
 abbrev Inv-loop : tie.InvT-loop
 Inv-loop ram₀ sram₀ gpio₀ addr bytes n i₀ ram sram gpio i =
-    (n ≡ length bytes) × (i ≤ n) × (length ram ≡ length ram₀) × (length sram ≡ length sram₀) × (length gpio ≡ length gpio₀)
+    (n ≡ length bytes) × (i ≤ n) × (length ram ≡ length ram₀) × (length sram ≡ length sram₀) ×
+    (length gpio ≡ length gpio₀)
     × (laidFrom (plain ram sram gpio) addr i (drop i bytes) ≡ laidOf (plain ram₀ sram₀ gpio₀) addr bytes)
 
 abbrev μ-loop : tie.MeasureT-loop
@@ -37,11 +38,23 @@ loop-less c = omega arith
 
 loop-again : tie.Need-loop-again Inv-loop μ-loop
 loop-again c =
-    let a = (c .before .before .before .before .before .before .before .before .before .before .before .before .before .before .before .before .before .before .args) in
-    let l = (c .before .before .before .before .before .before .before .before .before .before .before .before .before .loop) in
+    let a = (c .before .before .before .before .before .before .before .before .before .before .before .before
+    .before .before .before .before .before .before .args) in
+    let l = (c .before .before .before .before .before .before .before .before .before .before .before .before
+    .before .loop) in
     let i = l .inv in
-    let m : l .i < length (a .bytes .now) = omega arith in
-    (i .0, omega arith, (c .before .before .before .before .before .before .poke8 .kept .0) ∙ i .2, (c .before .before .before .before .before .before .poke8 .kept .1 .0) ∙ i .3, (c .before .before .before .before .before .before .poke8 .kept .1 .1 .0) ∙ i .4, lay-step (plain (l .ram) (l .sram) (l .gpio)) (a .addr) (l .i) (a .bytes .now) m (c .before .before .before .before .before .before .before .before .along .ensures) (c .before .before .before .before .before .before .poke8 .ensures) ∙ i .5)
+    let m : l .i < length (a .bytes .now) = omega arith in (
+      i .0,
+      omega arith,
+      (c .before .before .before .before .before .before .poke8 .kept .0) ∙ i .2,
+      (c .before
+          .before .before .before .before .before .poke8 .kept .1 .0) ∙ i .3,
+      (c .before .before .before .before .before
+          .before .poke8 .kept .1 .1 .0) ∙ i .4,
+      lay-step (plain (l .ram) (l .sram) (l .gpio)) (a .addr) (l .i)
+          (a .bytes .now) m (c .before .before .before .before .before .before .before .before .along .ensures) (c .before
+          .before .before .before .before .before .poke8 .ensures) ∙ i .5,
+    )
 
 same-length : tie.Need-same-length Inv-loop μ-loop
 same-length c = (c .before .loop .inv .2)

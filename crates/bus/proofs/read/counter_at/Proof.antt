@@ -8,15 +8,9 @@ returns : tie.Need-returns
 unfolding counterAt
 returns c = rw (lt-ltb _ _ (c .if1 .taken))
 
-sub-control-at : tie.Need-sub-control-at
-sub-control-at c = search needs
-
-control-at-requires : tie.Need-control-at-requires
-control-at-requires c κs = search needs
-
 returns-2 : tie.Need-returns-2
 unfolding counterAt
 returns-2 c = rw (le-ltb _ _ (c .before .if1 .left)) (c .control-at .ensures)
 
 pub counter-at-spec : {M : Type 1} → statement M
-counter-at-spec = tie.close (tie.spec returns sub-control-at control-at-requires returns-2)
+counter-at-spec = tie.close (tie.spec returns (λ c. search needs) (λ c κs. search needs) returns-2)

@@ -5,9 +5,6 @@ use borrow.Author.Needs.{needs}
 use Rattle.bus.proofs.read.word_value.Statement.{statement}
 use Rattle.bus.proofs.read.word_value.Tie as tie
 
-clock-status-requires : tie.Need-clock-status-requires
-clock-status-requires c κs = search needs
-
 returns : tie.Need-returns
 unfolding valueOf
 returns c = rw (c .before .match .keys1) (c .clock-status .ensures)
@@ -16,22 +13,13 @@ returns-2 : tie.Need-returns-2
 unfolding valueOf
 returns-2 c = rw (c .match .keys2)
 
-rx-of-requires : tie.Need-rx-of-requires
-rx-of-requires c κs = search needs
-
-cast-result : tie.Need-cast-result
-cast-result c = search needs
-
 returns-3 : tie.Need-returns-3
 unfolding valueOf
 returns-3 c = rw (c .before .match .keys3) (c .rx-of .ensures)
 
-pending-irq-requires : tie.Need-pending-irq-requires
-pending-irq-requires c κs = search needs
-
 returns-4 : tie.Need-returns-4
 unfolding valueOf
-returns-4 c = rw (c .before .match .keys4) (c .pending-irq .ensures ((c .before .before .args .floats .now)))
+returns-4 c = rw (c .before .match .keys4) (c .pending-irq .ensures (c .before .before .args .floats .now))
 
 returns-5 : tie.Need-returns-5
 unfolding valueOf
@@ -41,15 +29,9 @@ returns-6 : tie.Need-returns-6
 unfolding valueOf
 returns-6 c = rw (c .match .keys6)
 
-out-of-requires : tie.Need-out-of-requires
-out-of-requires c κs = search needs
-
 returns-7 : tie.Need-returns-7
 unfolding valueOf latchIn
 returns-7 c = rw (c .before .match .keys7) (c .out-of .ensures)
-
-clock-value-requires : tie.Need-clock-value-requires
-clock-value-requires c κs = search needs
 
 returns-8 : tie.Need-returns-8
 unfolding valueOf
@@ -71,17 +53,17 @@ pub word-value-spec : {M : Type 1} → statement M
 word-value-spec =
     tie.close
     (tie.spec
-    clock-status-requires
+    (λ c κs. search needs)
     returns
     returns-2
-    rx-of-requires
-    cast-result
+    (λ c κs. search needs)
+    (λ c. search needs)
     returns-3
-    pending-irq-requires
+    (λ c κs. search needs)
     returns-4
     returns-5
     returns-6
-    out-of-requires
+    (λ c κs. search needs)
     returns-7
-    clock-value-requires
+    (λ c κs. search needs)
     returns-8)

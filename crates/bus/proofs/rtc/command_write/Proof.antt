@@ -3,25 +3,17 @@ use borrow.Author.Needs.{needs}
 use Rattle.bus.proofs.rtc.command_write.Statement.{statement}
 use Rattle.bus.proofs.rtc.command_write.Tie as tie
 
-own-insert-requires : tie.Need-own-insert-requires
-own-insert-requires c κs = search needs
-
-own-reg-requires : tie.Need-own-reg-requires
-own-reg-requires c κs = search needs
-
-own-reg-requires-2 : tie.Need-own-reg-requires-2
-own-reg-requires-2 c κs = search needs
-
-rtc-command-requires : tie.Need-rtc-command-requires
-rtc-command-requires c κs = search needs
-
 returns : tie.Need-returns
 returns c =
-    let a = (c .before .before .before .before .before .before .before .before .args) in
-    command-ran (a .own .now) _ (a .game) (a .new) (c .before .before .before .before .before .before .own-insert .ensures)
-    (c .before .before .before .before .own-reg .ensures) (c .before .before .own-reg2 .ensures) (c .rtc-command .ensures)
+    let c2 = c .before .before in
+    let c4 = c2 .before .before in
+    let c6 = c4 .before .before in
+    let c8 = c6 .before .before in
+    let a = (c8 .args) in
+    command-ran (a .own .now) _ (a .game) (a .new) (c6 .own-insert .ensures)
+    (c4 .own-reg .ensures) (c2 .own-reg2 .ensures) (c .rtc-command .ensures)
 
 pub command-write-spec : {M : Type 1} → statement M
 command-write-spec =
     tie.close
-    (tie.spec own-insert-requires own-reg-requires own-reg-requires-2 rtc-command-requires returns)
+    (tie.spec (λ c κs. search needs) (λ c κs. search needs) (λ c κs. search needs) (λ c κs. search needs) returns)

@@ -4,56 +4,42 @@ use borrow.Author.Needs.{needs}
 use Rattle.bus.proofs.screen.feed.Statement.{statement}
 use Rattle.bus.proofs.screen.feed.Tie as tie
 
-low-requires : tie.Need-low-requires
-low-requires c κs = search needs
-
-data-requires : tie.Need-data-requires
-data-requires c κs = search needs
-
-same-length : tie.Need-same-length
-same-length c = search needs
-
 returns : tie.Need-returns
 returns c =
-    let a = (c .before .before .before .before .before .before .before .args) in
-    feed-one (screen (a .p) (a .fb .now)) (a .one) (a .word) (c .before .before .before .before .before .if1 .taken)
-    (c .before .before .before .low .ensures) (c .before .before .«data» .ensures)
-
-low-requires-2 : tie.Need-low-requires-2
-low-requires-2 c κs = search needs
-
-data-requires-2 : tie.Need-data-requires-2
-data-requires-2 c κs = search needs
-
-low-requires-3 : tie.Need-low-requires-3
-low-requires-3 c κs = search needs
-
-data-requires-3 : tie.Need-data-requires-3
-data-requires-3 c κs = search needs
-
-same-length-2 : tie.Need-same-length-2
-same-length-2 c = search needs
+    let c2 = c .before .before in
+    let c3 = c2 .before in
+    let c5 = c3 .before .before in
+    let c7 = c5 .before .before in
+    let a = (c7 .args) in
+    feed-one (screen (a .p) (a .fb .now)) (a .one) (a .word) (c5 .if1 .taken)
+    (c3 .low .ensures) (c2 .«data» .ensures)
 
 returns-2 : tie.Need-returns-2
 returns-2 c =
-    let a = (c .before .before .before .before .before .before .before .before .before .before .before .before .args) in
+    let c2 = c .before .before in
+    let c3 = c2 .before in
+    let c7 = c3 .before .before .before .before in
+    let c8 = c7 .before in
+    let c10 = c8 .before .before in
+    let c12 = c10 .before .before in
+    let a = (c12 .args) in
     feed-two (screen (a .p) (a .fb .now)) (a .one) (a .word)
-    (c .before .before .before .before .before .before .before .before .before .before .if1 .left)
-    (c .before .before .before .before .before .before .before .before .low2 .ensures)
-    (c .before .before .before .before .before .before .before .data2 .ensures) (c .before .before .before .low3 .ensures)
-    (c .before .before .data3 .ensures)
+    (c10 .if1 .left)
+    (c8 .low2 .ensures)
+    (c7 .data2 .ensures) (c3 .low3 .ensures)
+    (c2 .data3 .ensures)
 
 pub feed-spec : {M : Type 1} → statement M
 feed-spec =
     tie.close
     (tie.spec
-    low-requires
-    data-requires
-    same-length
+    (λ c κs. search needs)
+    (λ c κs. search needs)
+    (λ c. search needs)
     returns
-    low-requires-2
-    data-requires-2
-    low-requires-3
-    data-requires-3
-    same-length-2
+    (λ c κs. search needs)
+    (λ c κs. search needs)
+    (λ c κs. search needs)
+    (λ c κs. search needs)
+    (λ c. search needs)
     returns-2)

@@ -5,49 +5,38 @@ use borrow.Author.Needs.{needs}
 use Rattle.bus.proofs.screen.lcd_dma.Statement.{statement}
 use Rattle.bus.proofs.screen.lcd_dma.Tie as tie
 
-own-reg-requires : tie.Need-own-reg-requires
-own-reg-requires c κs = search needs
-
 returns : tie.Need-returns
 returns c =
     let a = (c .before .before .before .before .before .before .before .args) in
     let r = registersOf (a .own .now) (a .addresses .now) (a .values .now) in
-    dma-none r (a .ram .now) (a .sram .now) (a .gpio .now) (screen (a .p) (a .fb .now)) (c .before .own-reg .ensures) (c .if1 .taken)
-
-read-block-requires : tie.Need-read-block-requires
-read-block-requires c κs = search needs
-
-own-reg-requires-2 : tie.Need-own-reg-requires-2
-own-reg-requires-2 c κs = search needs
-
-own-insert-requires : tie.Need-own-insert-requires
-own-insert-requires c κs = search needs
-
-count-frame-requires : tie.Need-count-frame-requires
-count-frame-requires c κs = search needs
-
-same-length : tie.Need-same-length
-same-length c = search needs
+    dma-none r (a .ram .now) (a .sram .now) (a .gpio .now) (screen (a .p) (a .fb .now))
+    (c .before .own-reg .ensures) (c .if1 .taken)
 
 returns-2 : tie.Need-returns-2
 returns-2 c =
-    let a = (c .before .before .before .before .before .before .before .before .before .before .before .before .before .before .before .before .before .args) in
+    let c1 = c .before in
+    let c3 = c1 .before .before in
+    let c7 = c3 .before .before .before .before in
+    let c10 = c7 .before .before .before in
+    let c11 = c10 .before in
+    let c17 = c11 .before .before .before .before .before .before in
+    let a = (c17 .args) in
     let r = registersOf (a .own .now) (a .addresses .now) (a .values .now) in
     dma-done r (a .ram .now) (a .sram .now) (a .gpio .now) (screen (a .p) (a .fb .now))
-    (c .before .before .before .before .before .before .before .before .before .before .before .own-reg .ensures)
-    (c .before .before .before .before .before .before .before .before .before .before .if1 .left)
-    (block-bytes r (a .ram .now) (a .sram .now) (a .gpio .now) (c .before .before .before .before .before .before .before .before .before .before .before .own-reg .result) _ (c .before .before .before .before .before .before .before .read-block .ensures))
-    (c .before .before .before .own-reg2 .ensures) (c .before .own-insert .ensures) (c .count-frame .ensures)
+    (c11 .own-reg .ensures)
+    (c10 .if1 .left)
+    (block-bytes r (a .ram .now) (a .sram .now) (a .gpio .now) (c11 .own-reg .result) _ (c7 .read-block .ensures))
+    (c3 .own-reg2 .ensures) (c1 .own-insert .ensures) (c .count-frame .ensures)
 
 pub lcd-dma-spec : {M : Type 1} → statement M
 lcd-dma-spec =
     tie.close
     (tie.spec
-    own-reg-requires
+    (λ c κs. search needs)
     returns
-    read-block-requires
-    own-reg-requires-2
-    own-insert-requires
-    count-frame-requires
-    same-length
+    (λ c κs. search needs)
+    (λ c κs. search needs)
+    (λ c κs. search needs)
+    (λ c κs. search needs)
+    (λ c. search needs)
     returns-2)

@@ -1,62 +1,74 @@
-use Rattle.bus.proofs.BankedWords.{keeping, timer-4, timer-other}
+use Rattle.bus.proofs.BankedWords.{only-put, only-then, devices-put, done-number, rest-put, timer-refused, timer-sounds, timer-plain}
 use Rattle.state.specs.Bank.{partsIn}
 use borrow.Author.Needs.{needs}
 use Rattle.bus.proofs.sounds.timer_write_ctrl.Statement.{statement}
 use Rattle.bus.proofs.sounds.timer_write_ctrl.Tie as tie
 
-timer-of-requires : tie.Need-timer-of-requires
-timer-of-requires c κs = search needs
-
-times-of-requires : tie.Need-times-of-requires
-times-of-requires c κs = search needs
-
-write-ctrl-requires : tie.Need-write-ctrl-requires
-write-ctrl-requires c κs = search needs
-
-sound-timer-requires : tie.Need-sound-timer-requires
-sound-timer-requires c κs = search needs
-
 returns : tie.Need-returns
 returns c =
-    let a = (c .before .before .before .before .before .before .before .before .before .before .before .args) in
-    let x = partsIn (a .cells .now) (a .floats .now) in
-    timer-4 (a .own .now) x (a .clock) (a .full) (a .n) (a .word) (a .old) (a .new)
-    (c .before .before .before .before .before .before .before .before .timer-of .ensures)
-    (c .before .before .before .before .before .before .times-of .ensures) (c .before .before .before .before .before .write-ctrl .ensures)
-    (c .before .before .before .before .if1 .taken) (c .sound-timer .ensures)
-
-own-insert-requires : tie.Need-own-insert-requires
-own-insert-requires c κs = search needs
-
-put-timer-requires : tie.Need-put-timer-requires
-put-timer-requires c κs = search needs
-
-done-requires : tie.Need-done-requires
-done-requires c κs = search needs
+    let c2 = c .before .before in
+    let c6 = c2 .before .before .before .before in
+    let c7 = c6 .before in
+    let c8 = c7 .before in
+    let c10 = c8 .before .before in
+    let c13 = c10 .before .before .before in
+    let a = (c13 .args) in
+    let x = partsIn (a .cells .now) (a .floats .now) in (
+      timer-refused (a .own .now) x (a .clock) (a .full) (a .n) (a .word) (a .old) (a .new) (c10 .timer-of .ensures)
+          (c8 .times-of .ensures) (c7 .write-ctrl .ensures) (c6 .if1 .taken) ((c2 .sound-write .ensures) .0)
+          (c .if2 .taken),
+      (c2 .sound-write .ensures) .1,
+    )
 
 returns-2 : tie.Need-returns-2
 returns-2 c =
-    let a = (c .before .before .before .before .before .before .before .before .before .before .before .before .before .args) in
+    let c3 = c .before .before .before in
+    let c5 = c3 .before .before in
+    let c9 = c5 .before .before .before .before in
+    let c10 = c9 .before in
+    let c11 = c10 .before in
+    let c13 = c11 .before .before in
+    let c16 = c13 .before .before .before in
+    let a = (c16 .args) in
     let x = partsIn (a .cells .now) (a .floats .now) in
-    let p = (c .before .put-timer .ensures) in
-    keeping
-    (timer-other (a .own .now) x (a .clock) (a .full) (a .n) (a .word) (a .old) (a .new)
-    (c .before .before .before .before .before .before .before .before .before .before .timer-of .ensures)
-    (c .before .before .before .before .before .before .before .before .times-of .ensures)
-    (c .before .before .before .before .before .before .before .write-ctrl .ensures) (c .before .before .before .before .before .before .if1 .left)
-    (c .before .before .before .before .own-insert .ensures) (p .parts) (c .done .ensures))
-    (p .kept)
+    let s = (c5 .sound-write .ensures) in
+    let p = (c .put-timer .ensures) in (
+      timer-sounds (a .own .now) x (a .clock) (a .full) (a .n) (a .word) (a .old) (a .new) (c13 .timer-of .ensures)
+          (c11 .times-of .ensures) (c10 .write-ctrl .ensures) (c9 .if1 .taken) (s .0) (c3 .if2 .left) (devices-put
+          (partsIn (a .cells .now) _) (p .parts)),
+      rest-put (c3 .if2 .left) (only-then (s .1 .only) (only-put (p .parts))) (λ k. p .kept (s .1 .kept k)),
+    )
+
+returns-3 : tie.Need-returns-3
+returns-3 c =
+    let c1 = c .before in
+    let c4 = c1 .before .before .before in
+    let c6 = c4 .before .before in
+    let c7 = c6 .before in
+    let c8 = c7 .before in
+    let c10 = c8 .before .before in
+    let c13 = c10 .before .before .before in
+    let a = (c13 .args) in
+    let x = partsIn (a .cells .now) (a .floats .now) in
+    let p = (c1 .put-timer2 .ensures) in (
+      timer-plain (a .own .now) x (a .clock) (a .full) (a .n) (a .word) (a .old) (a .new) (c10 .timer-of .ensures)
+          (c8 .times-of .ensures) (c7 .write-ctrl .ensures) (c6 .if1 .left) (c4 .own-insert .ensures) (p .parts)
+          (c .done .ensures),
+      rest-put (done-number (c .done .ensures)) (only-put (p .parts)) (p .kept),
+    )
 
 pub timer-write-ctrl-spec : {M : Type 1} → statement M
 timer-write-ctrl-spec =
     tie.close
     (tie.spec
-    timer-of-requires
-    times-of-requires
-    write-ctrl-requires
-    sound-timer-requires
+    (λ c κs. search needs)
+    (λ c κs. search needs)
+    (λ c κs. search needs)
+    (λ c κs. search needs)
     returns
-    own-insert-requires
-    put-timer-requires
-    done-requires
-    returns-2)
+    (λ c κs. search needs)
+    returns-2
+    (λ c κs. search needs)
+    (λ c κs. search needs)
+    (λ c κs. search needs)
+    returns-3)

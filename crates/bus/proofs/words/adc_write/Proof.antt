@@ -1,42 +1,32 @@
-use Rattle.bus.proofs.BankedWords.{keeping, adc-told}
+use Rattle.bus.proofs.BankedWords.{only-put, adc-done}
 use Rattle.state.specs.Bank.{partsIn}
 use borrow.Author.Needs.{needs}
 use Rattle.bus.proofs.words.adc_write.Statement.{statement}
 use Rattle.bus.proofs.words.adc_write.Tie as tie
 
-converting-of-requires : tie.Need-converting-of-requires
-converting-of-requires c κs = search needs
-
-own-reg-requires : tie.Need-own-reg-requires
-own-reg-requires c κs = search needs
-
-adc-write-ctrl-requires : tie.Need-adc-write-ctrl-requires
-adc-write-ctrl-requires c κs = search needs
-
-own-insert-requires : tie.Need-own-insert-requires
-own-insert-requires c κs = search needs
-
-put-converting-requires : tie.Need-put-converting-requires
-put-converting-requires c κs = search needs
-
 returns : tie.Need-returns
 returns c =
-    let a = (c .before .before .before .before .before .before .before .before .before .args) in
+    let c2 = c .before .before in
+    let c4 = c2 .before .before in
+    let c5 = c4 .before in
+    let c7 = c5 .before .before in
+    let c9 = c7 .before .before in
+    let a = (c9 .args) in
     let x = partsIn (a .cells .now) (a .floats .now) in
-    let p = (c .put-converting .ensures) (a .floats .now) in
-    keeping
-    (adc-told (a .own .now) x (a .old) (a .new) (c .before .before .before .before .before .before .before .converting-of .ensures)
-    (c .before .before .before .before .before .own-reg .ensures) (c .before .before .before .before .adc-write-ctrl .ensures)
-    (c .before .before .own-insert .ensures) (p .parts))
-    (p .kept)
+    let p = (c .put-converting .ensures) (a .floats .now) in (
+      adc-done (a .own .now) x (a .old) (a .new) (c7 .converting-of .ensures) (c5 .own-reg .ensures)
+          (c4 .adc-write-ctrl .ensures) (c2 .own-insert .ensures) (p .parts),
+      only-put (p .parts),
+      p .kept,
+    )
 
 pub adc-write-spec : {M : Type 1} → statement M
 adc-write-spec =
     tie.close
     (tie.spec
-    converting-of-requires
-    own-reg-requires
-    adc-write-ctrl-requires
-    own-insert-requires
-    put-converting-requires
+    (λ c κs. search needs)
+    (λ c κs. search needs)
+    (λ c κs. search needs)
+    (λ c κs. search needs)
+    (λ c κs. search needs)
     returns)

@@ -17,7 +17,12 @@ returns-3 c = rw (c .match .keys3)
 
 returns-4 : tie.Need-returns-4
 unfolding fieldAt
-returns-4 c = simp (ne-eqb _ _ (c .match .rest .1), ne-eqb _ _ (c .match .rest .0 .1), ne-eqb _ _ (c .match .rest .0 .0 .1))
+returns-4 c = simp (
+  ne-eqb _ _ (c .match .rest .1),
+  ne-eqb _ _ (c .match .rest .0 .1),
+  ne-eqb _ _
+      (c .match .rest .0 .0 .1),
+)
 
 pub field-at-spec : {M : Type 1} → statement M
 field-at-spec = tie.close (tie.spec returns returns-2 returns-3 returns-4)

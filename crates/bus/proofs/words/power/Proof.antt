@@ -2,14 +2,12 @@ use borrow.Author.Needs.{needs}
 use Rattle.bus.proofs.words.power.Statement.{statement}
 use Rattle.bus.proofs.words.power.Tie as tie
 
-off-of-requires : tie.Need-off-of-requires
-off-of-requires c κs = search needs
-
-put-off-requires : tie.Need-put-off-requires
-put-off-requires c κs = search needs
-
 returns : tie.Need-returns
-returns c = let p = (c .put-off .ensures) ((c .before .before .before .before .args .floats .now)) in ((cc (p .parts)), p .kept)
+returns c = let p = (c .put-off .ensures) (c .before .before .before .before .args .floats .now) in (
+  (cc
+      (p .parts)),
+  p .kept,
+)
 
 pub power-spec : {M : Type 1} → statement M
-power-spec = tie.close (tie.spec off-of-requires put-off-requires returns)
+power-spec = tie.close (tie.spec (λ c κs. search needs) (λ c κs. search needs) returns)

@@ -1,4 +1,4 @@
-use Rattle.bus.proofs.BankedWrites.{merged-told}
+use Rattle.bus.proofs.BankedWrites.{reg-merged}
 use Rattle.state.specs.Bank.{partsIn}
 use Rattle.registers.specs.Words.{registersOf}
 use Rattle.bus.specs.World.{world}
@@ -6,51 +6,32 @@ use borrow.Author.Needs.{needs}
 use Rattle.bus.proofs.write.mmio_write.Statement.{statement}
 use Rattle.bus.proofs.write.mmio_write.Tie as tie
 
-sub-word : tie.Need-sub-word
-sub-word c = search needs
-
-reg-requires : tie.Need-reg-requires
-reg-requires c κs = search needs
-
-merged-requires : tie.Need-merged-requires
-merged-requires c κs = search needs
-
-written-requires : tie.Need-written-requires
-written-requires c κs = search needs
-
-port-write-requires : tie.Need-port-write-requires
-port-write-requires c κs = search needs
-
-same-length : tie.Need-same-length
-same-length c = search needs
-
-same-length-2 : tie.Need-same-length-2
-same-length-2 c = search needs
-
 returns : tie.Need-returns
 returns c =
-    let a =
-    (c .before .before .before .before .before .before .before .before .before .before .before .before .before .before .before .before .before .before
-    .before .before .before .before .before .before .args)
-    in
+    let c4 = c .before .before .before .before in
+    let c14 = c4 .before .before .before .before .before .before .before .before .before .before in
+    let c15 = c14 .before in
+    let c16 = c15 .before in
+    let c24 = c16 .before .before .before .before .before .before .before .before in
+    let a = (c24 .args) in
     let r = registersOf (a .own .now) (a .addresses .now) (a .values .now) in
     let x = partsIn (a .cells .now) (a .floats .now) in
-    merged-told (world r (a .rtc .now) (a .page .now) (a .ram .now) (a .sram .now) (a .gpio .now) (a .fb .now) (x .devices)) x (a .full) (a .addr)
-    (a .size) (a .value)
-    (c .before .before .before .before .before .before .before .before .before .before .before .before .before .before .before .before .reg .ensures)
-    (c .before .before .before .before .before .before .before .before .before .before .before .before .before .before .before .merged .ensures)
-    (c .before .before .before .before .before .before .before .before .before .before .before .before .before .before .written .ensures)
-    (c .before .before .before .before .port-write .ensures)
+    let w = world r (a .rtc .now) (a .page .now) (a .ram .now) (a .sram .now) (a .gpio .now) (a .fb .now)
+    (x .devices) in (
+      reg-merged w (a .full) (a .addr) (a .size) (a .value) (c16 .reg .ensures) (c15 .merged .ensures)
+          (c14 .written .ensures) ((c4 .port-write .ensures) .0),
+      (c4 .port-write .ensures) .1,
+    )
 
 pub mmio-write-spec : {M : Type 1} → statement M
 mmio-write-spec =
     tie.close
     (tie.spec
-    sub-word
-    reg-requires
-    merged-requires
-    written-requires
-    port-write-requires
-    same-length
-    same-length-2
+    (λ c. search needs)
+    (λ c κs. search needs)
+    (λ c κs. search needs)
+    (λ c κs. search needs)
+    (λ c κs. search needs)
+    (λ c. search needs)
+    (λ c. search needs)
     returns)

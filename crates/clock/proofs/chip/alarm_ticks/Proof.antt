@@ -6,19 +6,14 @@ use Rattle.clock.specs.Rtc.{alarmOf}
 use Rattle.clock.proofs.chip.alarm_ticks.Statement.{statement}
 use Rattle.clock.proofs.chip.alarm_ticks.Tie as tie
 
-get-requires : tie.Need-get-requires
-get-requires c κs = search needs
-
 returns : tie.Need-returns
 unfolding alarmOf
 returns c = rw (← (c .before .get .ensures), eq-eqb _ _ (c .if1 .taken))
 
-six-bytes-requires : tie.Need-six-bytes-requires
-six-bytes-requires c κs = search needs
-
 returns-2 : tie.Need-returns-2
 unfolding alarmOf
-returns-2 c = rw (← (c .before .before .get .ensures), ne-eqb _ _ (c .before .if1 .left)) (ap At (c .six-bytes .ensures))
+returns-2 c = rw (← (c .before .before .get .ensures), ne-eqb _ _ (c .before .if1 .left)) (ap At
+    (c .six-bytes .ensures))
 
 pub alarm-ticks-spec : {M : Type 1} → statement M
-alarm-ticks-spec = tie.close (tie.spec get-requires returns six-bytes-requires returns-2)
+alarm-ticks-spec = tie.close (tie.spec (λ c κs. search needs) returns (λ c κs. search needs) returns-2)

@@ -6,9 +6,6 @@ use Rattle.clock.proofs.Cases.{puts-first, puts-low, puts-high, puts-ti
 use Rattle.clock.proofs.chip.output.Statement.{statement}
 use Rattle.clock.proofs.chip.output.Tie as tie
 
-get-requires : tie.Need-get-requires
-get-requires c κs = search needs
-
 cast-result : tie.Need-cast-result
 cast-result c = omega (arith, and-le-r (c .get .result) 0xEF)
 
@@ -17,22 +14,11 @@ returns c =
     let a = c .before .before .args in
     puts-first (a .latch) _ (a .game) (a .at) _ (c .get .ensures) (c .before .if1 .taken)
 
-get-requires-2 : tie.Need-get-requires-2
-get-requires-2 c κs = search needs
-
-cast-result-2 : tie.Need-cast-result-2
-cast-result-2 c = search needs
-
 returns-2 : tie.Need-returns-2
 returns-2 c =
     let a = c .before .before .before .args in
-    puts-low (a .latch) _ (a .game) (a .at) _ (c .get2 .ensures) (c .before .before .if1 .left) (c .before .if2 .taken)
-
-get-requires-3 : tie.Need-get-requires-3
-get-requires-3 c κs = search needs
-
-cast-result-3 : tie.Need-cast-result-3
-cast-result-3 c = search needs
+    puts-low (a .latch) _ (a .game) (a .at) _ (c .get2 .ensures) (c .before .before .if1 .left)
+    (c .before .if2 .taken)
 
 returns-3 : tie.Need-returns-3
 returns-3 c =
@@ -40,38 +26,34 @@ returns-3 c =
     let at-if1 = c .before .before .before in
     puts-high (a .latch) _ (a .game) (a .at) _ (c .get3 .ensures) (at-if1 .if1 .left) (c .before .if3 .taken)
 
-ticks-requires : tie.Need-ticks-requires
-ticks-requires c κs = search needs
-
-mul-result : tie.Need-mul-result
-mul-result c = search needs
-
-shr-result : tie.Need-shr-result
-shr-result c = search needs
-
 cast-result-4 : tie.Need-cast-result-4
-cast-result-4 c = omega (arith, and-le-r ((c .ticks .result) / 2 ^ (8 * ((c .before .before .before .before .args .at) - 0x30))) 0xFF)
+cast-result-4 c = omega (
+  arith,
+  and-le-r ((c .ticks .result) / 2 ^ (8 *
+      ((c .before .before .before .before .args .at) - 0x30))) 0xFF,
+)
 
 returns-4 : tie.Need-returns-4
 returns-4 c =
     let a = c .before .before .before .before .args in
-    puts-ticks (a .latch) _ (a .game) (a .at) _ (c .ticks .ensures) (c .before .before .if2 .left) (c .before .if3 .left)
+    puts-ticks (a .latch) _ (a .game) (a .at) _ (c .ticks .ensures) (c .before .before .if2 .left)
+    (c .before .if3 .left)
 
 pub output-spec : {M : Type 1} → statement M
 output-spec =
     tie.close
     (tie.spec
-    get-requires
+    (λ c κs. search needs)
     cast-result
     returns
-    get-requires-2
-    cast-result-2
+    (λ c κs. search needs)
+    (λ c. search needs)
     returns-2
-    get-requires-3
-    cast-result-3
+    (λ c κs. search needs)
+    (λ c. search needs)
     returns-3
-    ticks-requires
-    mul-result
-    shr-result
+    (λ c κs. search needs)
+    (λ c. search needs)
+    (λ c. search needs)
     cast-result-4
     returns-4)

@@ -3,23 +3,12 @@ use Rattle.clock.proofs.Cases.{commands-latch, commands-put, commands-a
 use Rattle.clock.proofs.chip.rtc_command.Statement.{statement}
 use Rattle.clock.proofs.chip.rtc_command.Tie as tie
 
-cast-at : tie.Need-cast-at
-cast-at c = search needs
-
-cast-regs : tie.Need-cast-regs
-cast-regs c = search needs
-
-element-write-regs : tie.Need-element-write-regs
-element-write-regs c = search needs
-
-latched-requires : tie.Need-latched-requires
-latched-requires c κs = search needs
-
 returns : tie.Need-returns
 returns c =
     let a = c .before .before .before .before .args in
     let at-if1 = c .before .before .before in
-    commands-latch (a .latch) _ (a .game) (a .address) (a .word) (a .cmd) _ (at-if1 .if1 .taken) (c .before .before .if2 .taken)
+    commands-latch (a .latch) _ (a .game) (a .address) (a .word) (a .cmd) _ (at-if1 .if1 .taken)
+    (c .before .before .if2 .taken)
     (c .latched .ensures)
 
 returns-2 : tie.Need-returns-2
@@ -27,14 +16,12 @@ returns-2 c =
     let a = c .before .before .args in
     commands-put (a .latch) _ (a .game) (a .address) (a .word) (a .cmd) (c .before .if1 .taken) (c .if2 .left)
 
-output-requires : tie.Need-output-requires
-output-requires c κs = search needs
-
 returns-3 : tie.Need-returns-3
 returns-3 c =
     let a = c .before .before .before .before .args in
     let at-if1 = c .before .before .before in
-    commands-ask (a .latch) _ (a .game) (a .address) (a .word) (a .cmd) _ (at-if1 .if1 .left) (c .before .before .if3 .taken)
+    commands-ask (a .latch) _ (a .game) (a .address) (a .word) (a .cmd) _ (at-if1 .if1 .left)
+    (c .before .before .if3 .taken)
     (c .output .ensures)
 
 returns-4 : tie.Need-returns-4
@@ -46,12 +33,12 @@ pub rtc-command-spec : {M : Type 1} → statement M
 rtc-command-spec =
     tie.close
     (tie.spec
-    cast-at
-    cast-regs
-    element-write-regs
-    latched-requires
+    (λ c. search needs)
+    (λ c. search needs)
+    (λ c. search needs)
+    (λ c κs. search needs)
     returns
     returns-2
-    output-requires
+    (λ c κs. search needs)
     returns-3
     returns-4)

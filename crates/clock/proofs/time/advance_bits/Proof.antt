@@ -3,23 +3,14 @@ use Rattle.clock.proofs.Cases.{moves-from, moves-from-none}
 use Rattle.clock.proofs.time.advance_bits.Statement.{statement}
 use Rattle.clock.proofs.time.advance_bits.Tie as tie
 
-time-of-requires : tie.Need-time-of-requires
-time-of-requires c κs = search needs
-
-enum-known-to : tie.Need-enum-known-to
-enum-known-to c = search needs
-
-advance-requires : tie.Need-advance-requires
-advance-requires c κs = search needs
-
-enum-told : tie.Need-enum-told
-enum-told c = search needs
-
 returns : tie.Need-returns
 returns c =
-    let a = c .before .before .before .before .before .args in
-    let at-time-of = c .before .before .before .before in
-    moves-from (a .s) (a .bits) _ _ _ (at-time-of .time-of .ensures) (c .before .before .to .given .1) (c .advance .ensures)
+    let c2 = c .before .before in
+    let c3 = c2 .before in
+    let c5 = c3 .before .before in
+    let a = c5 .args in
+    let at-time-of = c3 .before in
+    moves-from (a .s) (a .bits) _ _ _ (at-time-of .time-of .ensures) (c2 .to .given .1) (c .advance .ensures)
 
 returns-2 : tie.Need-returns-2
 returns-2 c =
@@ -29,4 +20,5 @@ returns-2 c =
 pub advance-bits-spec : {M : Type 1} → statement M
 advance-bits-spec =
     tie.close
-    (tie.spec time-of-requires enum-known-to advance-requires enum-told returns returns-2)
+    (tie.spec (λ c κs. search needs) (λ c. search needs) (λ c κs. search needs) (λ c. search needs) returns
+    returns-2)

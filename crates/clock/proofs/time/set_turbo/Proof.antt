@@ -4,9 +4,6 @@ use Rattle.clock.specs.Times.{pacedOf}
 use Rattle.clock.proofs.time.set_turbo.Statement.{statement}
 use Rattle.clock.proofs.time.set_turbo.Tie as tie
 
-good-turbo-requires : tie.Need-good-turbo-requires
-good-turbo-requires c κs = search needs
-
 returns : tie.Need-returns
 unfolding pacedOf
 returns c = rw (sym (c .before .good-turbo .ensures) ∙ (c .if1 .taken))
@@ -16,4 +13,4 @@ unfolding pacedOf
 returns-2 c = rw (sym (c .before .good-turbo .ensures) ∙ (c .if1 .left))
 
 pub set-turbo-spec : {M : Type 1} → statement M
-set-turbo-spec = tie.close (tie.spec good-turbo-requires returns returns-2)
+set-turbo-spec = tie.close (tie.spec (λ c κs. search needs) returns returns-2)

@@ -15,7 +15,8 @@ use Rattle.flash.proofs.array.program.Tie as tie
 
 -- one more byte ANDed
 step : (k : ℕ) (p m : List ℕ) → k < length p
-    → set (take k (ands p m) ++ drop k p) k (bitAnd (getD (take k (ands p m) ++ drop k p) k 0) (getD m k 0)) ≡ take (suc k) (ands p m) ++ drop (suc k) p
+    → set (take k (ands p m) ++ drop k p) k (bitAnd (getD (take k (ands p m) ++ drop k p) k 0) (getD m k 0)) ≡ take
+    (suc k) (ands p m) ++ drop (suc k) p
 step k [] m l = absurd (not-suc-le-zero l)
 step zero (x ∷ p) [] l = refl
 step (suc k) (x ∷ p) [] l = ap (λ (t : List ℕ). bitAnd x 0 ∷ t) (step k p [] (le-of-suc-le-suc l))
@@ -29,7 +30,8 @@ length-ands (x ∷ p) (y ∷ m) = ap suc (length-ands p m)
 
 whole : (p m : List ℕ) → take (length p) (ands p m) ++ drop (length p) p ≡ ands p m
 whole p m =
-    rw (drop-of-length-le p (le-refl (length p)), append-nil) (take-all (length p) (ands p m) (le-of-eq (length-ands p m)))
+    rw (drop-of-length-le p (le-refl (length p)), append-nil) (take-all (length p) (ands p m) (le-of-eq
+    (length-ands p m)))
 
 abbrev Inv-loop : tie.InvT-loop
 Inv-loop part₀ mask k₀ part k =
@@ -79,4 +81,5 @@ returns c =
 pub program-spec : {M : Type 1} → statement M
 program-spec =
     tie.close
-    (tie.spec Inv-loop μ-loop loop-holds slice-read-part element-copy-out-part slice-write-part add-k loop-less loop-again same-length returns)
+    (tie.spec Inv-loop μ-loop loop-holds slice-read-part element-copy-out-part slice-write-part add-k loop-less
+    loop-again same-length returns)

@@ -17,8 +17,10 @@ use Rattle.flash.proofs.Laws.{page-in, block-in, block-pos}
 use Rattle.flash.proofs.finish.finish.Statement.{statement}
 use Rattle.flash.proofs.finish.finish.Tie as tie
 
-arm : (s : Chip) (pg m : List ℕ) (x : Act) {m′ : List ℕ} {r : Chip} {a : Act} → a ≡ actOf (s .mode) (s .wel) (s .tx) → a ≡ x → r ≡ stateAfter x s → m′ ≡ arrayAfter x (s .tx) pg m
-    → (r ≡ stateAfter (actOf (s .mode) (s .wel) (s .tx)) s) × (m′ ≡ arrayAfter (actOf (s .mode) (s .wel) (s .tx)) (s .tx) pg m)
+arm : (s : Chip) (pg m : List ℕ) (x : Act) {m′ : List ℕ} {r : Chip} {a : Act} → a ≡ actOf (s .mode) (s .wel) (s .tx)
+    → a ≡ x → r ≡ stateAfter x s → m′ ≡ arrayAfter x (s .tx) pg m
+    → (r ≡ stateAfter (actOf (s .mode) (s .wel) (s .tx)) s) × (m′ ≡ arrayAfter (actOf (s .mode) (s .wel) (s .tx))
+    (s .tx) pg m)
 arm s pg m x p q u v =
     let e : actOf (s .mode) (s .wel) (s .tx) ≡ x = sym p ∙ q in
     (rw e u, rw e v)
@@ -38,49 +40,15 @@ erased b t pg m m′ a k e f h = h ∙ rw (e, f)
 fits-block : (b : Block) (t : Trans) (n a k : ℕ) → Sized n → a ≡ addrOf t n → k ≡ blockSize b → a - a % k + k ≤ n
 fits-block b t n a k s e f = rw f (block-in b n a s (addr-lt t n a s e))
 
-address-requires : tie.Need-address-requires
-address-requires c κs = search needs
-
-decide-requires : tie.Need-decide-requires
-decide-requires c κs = search needs
-
-enum-told : tie.Need-enum-told
-enum-told c = search needs
-
-enum-told-2 : tie.Need-enum-told-2
-enum-told-2 c = search needs
-
-with-wel-requires : tie.Need-with-wel-requires
-with-wel-requires c κs = search needs
-
-enum-told-3 : tie.Need-enum-told-3
-enum-told-3 c = search needs
-
-with-wel-requires-2 : tie.Need-with-wel-requires-2
-with-wel-requires-2 c κs = search needs
-
-enum-told-4 : tie.Need-enum-told-4
-enum-told-4 c = search needs
-
-sub-start : tie.Need-sub-start
-sub-start c = search needs
-
 program-page-requires : tie.Need-program-page-requires
 program-page-requires c κs =
-    let at-address = c .before .before .before .before .address in
-    let at-pre = c .before .before .before .before .before .before .before .pre in
-    let a = (c .before .before .before .before .before .before .before .args) in
+    let c4 = c .before .before .before .before in
+    let c7 = c4 .before .before .before in
+    let at-address = c4 .address in
+    let at-pre = c7 .pre in
+    let a = (c7 .args) in
     let n = length (a .array .now) in
     page-in n (at-address .result) at-pre (addr-lt (a .chip .tx) n _ at-pre (at-address .ensures))
-
-wrote-requires : tie.Need-wrote-requires
-wrote-requires c κs = search needs
-
-enum-known-act : tie.Need-enum-known-act
-enum-known-act c = search needs
-
-size-of-requires : tie.Need-size-of-requires
-size-of-requires c κs = search needs
 
 rem-start : tie.Need-rem-start
 rem-start c = rw (c .size-of .ensures) (block-pos (c .before .before .act .given .0 .0))
@@ -90,114 +58,126 @@ sub-start-2 c = mod-le _ _
 
 erase-block-requires : tie.Need-erase-block-requires
 erase-block-requires c κs =
-    let at-act = c .before .before .before .act in
-    let at-address = c .before .before .before .before .before .before .address in
-    let at-size-of = c .before .size-of in
-    let at-pre = c .before .before .before .before .before .before .before .before .before .pre in
-    let a = (c .before .before .before .before .before .before .before .before .before .args) in
-    fits-block (at-act .given .0 .0) (a .chip .tx) (length (a .array .now)) (at-address .result) (at-size-of .result) at-pre (at-address .ensures)
+    let c1 = c .before in
+    let c3 = c1 .before .before in
+    let c6 = c3 .before .before .before in
+    let c9 = c6 .before .before .before in
+    let at-act = c3 .act in
+    let at-address = c6 .address in
+    let at-size-of = c1 .size-of in
+    let at-pre = c9 .pre in
+    let a = (c9 .args) in
+    fits-block (at-act .given .0 .0) (a .chip .tx) (length (a .array .now)) (at-address .result)
+    (at-size-of .result) at-pre (at-address .ensures)
     (at-size-of .ensures)
-
-wrote-requires-2 : tie.Need-wrote-requires-2
-wrote-requires-2 c κs = search needs
-
-enum-told-5 : tie.Need-enum-told-5
-enum-told-5 c = search needs
-
-fill-requires : tie.Need-fill-requires
-fill-requires c κs = search needs
-
-with-wel-requires-3 : tie.Need-with-wel-requires-3
-with-wel-requires-3 c κs = search needs
 
 returns : tie.Need-returns
 returns c =
     let a = (c .before .before .before .before .before .before .args) in
-    arm (a .chip) (a .page .now) (a .array .now) Nothing (c .before .before .decide .ensures) (c .enum-told .given .1) refl refl
+    arm (a .chip) (a .page .now) (a .array .now) Nothing (c .before .before .decide .ensures)
+    (c .enum-told .given .1) refl refl
 
 returns-2 : tie.Need-returns-2
 returns-2 c =
-    let at-decide = c .before .before .before .decide in
-    let at-enum-told2 = c .before .enum-told2 in
-    let a = (c .before .before .before .before .before .before .before .args) in
-    arm (a .chip) (a .page .now) (a .array .now) Enable (at-decide .ensures) (at-enum-told2 .given .1) (c .with-wel .ensures) refl
+    let c1 = c .before in
+    let c3 = c1 .before .before in
+    let c7 = c3 .before .before .before .before in
+    let at-decide = c3 .decide in
+    let at-enum-told2 = c1 .enum-told2 in
+    let a = (c7 .args) in
+    arm (a .chip) (a .page .now) (a .array .now) Enable (at-decide .ensures) (at-enum-told2 .given .1)
+    (c .with-wel .ensures) refl
 
 returns-3 : tie.Need-returns-3
 returns-3 c =
-    let at-decide = c .before .before .before .decide in
-    let at-enum-told3 = c .before .enum-told3 in
-    let a = (c .before .before .before .before .before .before .before .args) in
-    arm (a .chip) (a .page .now) (a .array .now) Disable (at-decide .ensures) (at-enum-told3 .given .1) (c .with-wel2 .ensures) refl
-
-same-length : tie.Need-same-length
-same-length c = search needs
+    let c1 = c .before in
+    let c3 = c1 .before .before in
+    let c7 = c3 .before .before .before .before in
+    let at-decide = c3 .decide in
+    let at-enum-told3 = c1 .enum-told3 in
+    let a = (c7 .args) in
+    arm (a .chip) (a .page .now) (a .array .now) Disable (at-decide .ensures) (at-enum-told3 .given .1)
+    (c .with-wel2 .ensures) refl
 
 returns-4 : tie.Need-returns-4
 returns-4 c =
-    let at-decide = c .before .before .before .before .before .before .before .decide in
-    let at-enum-told4 = c .before .before .before .before .before .enum-told4 in
-    let at-address = c .before .before .before .before .before .before .before .before .address in
-    let at-program-page = c .before .before .before .program-page in
-    let a = (c .before .before .before .before .before .before .before .before .before .before .before .args) in
-    arm (a .chip) (a .page .now) (a .array .now) Program (at-decide .ensures) (at-enum-told4 .given .1) (c .wrote .ensures)
+    let c3 = c .before .before .before in
+    let c5 = c3 .before .before in
+    let c7 = c5 .before .before in
+    let c8 = c7 .before in
+    let c11 = c8 .before .before .before in
+    let at-decide = c7 .decide in
+    let at-enum-told4 = c5 .enum-told4 in
+    let at-address = c8 .address in
+    let at-program-page = c3 .program-page in
+    let a = (c11 .args) in
+    arm (a .chip) (a .page .now) (a .array .now) Program (at-decide .ensures) (at-enum-told4 .given .1)
+    (c .wrote .ensures)
     (programmed (a .chip .tx) (a .page .now) (a .array .now) _ _ (at-address .ensures) (at-program-page .ensures))
-
-same-length-2 : tie.Need-same-length-2
-same-length-2 c = search needs
 
 returns-5 : tie.Need-returns-5
 returns-5 c =
-    let at-act = c .before .before .before .before .before .before .before .act in
-    let at-decide = c .before .before .before .before .before .before .before .before .before .decide in
-    let at-address = c .before .before .before .before .before .before .before .before .before .before .address in
-    let at-size-of = c .before .before .before .before .before .size-of in
-    let at-erase-block = c .before .before .before .erase-block in
-    let a = (c .before .before .before .before .before .before .before .before .before .before .before .before .before .args) in
+    let c3 = c .before .before .before in
+    let c5 = c3 .before .before in
+    let c7 = c5 .before .before in
+    let c9 = c7 .before .before in
+    let c10 = c9 .before in
+    let c13 = c10 .before .before .before in
+    let at-act = c7 .act in
+    let at-decide = c9 .decide in
+    let at-address = c10 .address in
+    let at-size-of = c5 .size-of in
+    let at-erase-block = c3 .erase-block in
+    let a = (c13 .args) in
     let b : Block = (at-act .given .0 .0) in
-    arm (a .chip) (a .page .now) (a .array .now) (Erase b) (at-decide .ensures) (at-act .given .1) (c .wrote2 .ensures)
-    (erased b (a .chip .tx) (a .page .now) (a .array .now) _ _ _ (at-address .ensures) (at-size-of .ensures) (at-erase-block .ensures))
-
-same-length-3 : tie.Need-same-length-3
-same-length-3 c = search needs
+    arm (a .chip) (a .page .now) (a .array .now) (Erase b) (at-decide .ensures) (at-act .given .1)
+    (c .wrote2 .ensures)
+    (erased b (a .chip .tx) (a .page .now) (a .array .now) _ _ _ (at-address .ensures) (at-size-of .ensures)
+    (at-erase-block .ensures))
 
 returns-6 : tie.Need-returns-6
 returns-6 c =
-    let at-decide = c .before .before .before .before .before .before .before .decide in
-    let at-enum-told5 = c .before .before .before .before .before .enum-told5 in
-    let at-fill = c .before .before .before .fill in
-    let a = (c .before .before .before .before .before .before .before .before .before .before .before .args) in
-    arm (a .chip) (a .page .now) (a .array .now) EraseAll (at-decide .ensures) (at-enum-told5 .given .1) (c .with-wel3 .ensures) (at-fill .ensures)
+    let c3 = c .before .before .before in
+    let c5 = c3 .before .before in
+    let c7 = c5 .before .before in
+    let c11 = c7 .before .before .before .before in
+    let at-decide = c7 .decide in
+    let at-enum-told5 = c5 .enum-told5 in
+    let at-fill = c3 .fill in
+    let a = (c11 .args) in
+    arm (a .chip) (a .page .now) (a .array .now) EraseAll (at-decide .ensures) (at-enum-told5 .given .1)
+    (c .with-wel3 .ensures) (at-fill .ensures)
 
 pub finish-spec : {M : Type 1} → statement M
 finish-spec =
     tie.close
     (tie.spec
-    address-requires
-    decide-requires
-    enum-told
-    enum-told-2
-    with-wel-requires
-    enum-told-3
-    with-wel-requires-2
-    enum-told-4
-    sub-start
+    (λ c κs. search needs)
+    (λ c κs. search needs)
+    (λ c. search needs)
+    (λ c. search needs)
+    (λ c κs. search needs)
+    (λ c. search needs)
+    (λ c κs. search needs)
+    (λ c. search needs)
+    (λ c. search needs)
     program-page-requires
-    wrote-requires
-    enum-known-act
-    size-of-requires
+    (λ c κs. search needs)
+    (λ c. search needs)
+    (λ c κs. search needs)
     rem-start
     sub-start-2
     erase-block-requires
-    wrote-requires-2
-    enum-told-5
-    fill-requires
-    with-wel-requires-3
+    (λ c κs. search needs)
+    (λ c. search needs)
+    (λ c κs. search needs)
+    (λ c κs. search needs)
     returns
     returns-2
     returns-3
-    same-length
+    (λ c. search needs)
     returns-4
-    same-length-2
+    (λ c. search needs)
     returns-5
-    same-length-3
+    (λ c. search needs)
     returns-6)

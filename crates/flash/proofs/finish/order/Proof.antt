@@ -3,24 +3,6 @@ use borrow.Author.Tests.{ne-eqb}
 use Rattle.flash.proofs.finish.order.Statement.{statement}
 use Rattle.flash.proofs.finish.order.Tie as tie
 
-allow-requires : tie.Need-allow-requires
-allow-requires c κs = search needs
-
-allow-requires-2 : tie.Need-allow-requires-2
-allow-requires-2 c κs = search needs
-
-allow-requires-3 : tie.Need-allow-requires-3
-allow-requires-3 c κs = search needs
-
-allow-requires-4 : tie.Need-allow-requires-4
-allow-requires-4 c κs = search needs
-
-allow-requires-5 : tie.Need-allow-requires-5
-allow-requires-5 c κs = search needs
-
-allow-requires-6 : tie.Need-allow-requires-6
-allow-requires-6 c κs = search needs
-
 returns : tie.Need-returns
 returns c = simp (c .match .keys1)
 
@@ -47,19 +29,30 @@ returns-8 c = simp (c .allow6 .ensures, c .before .match .keys8)
 
 returns-9 : tie.Need-returns-9
 returns-9 c =
-    simp
-    (ne-eqb _ _ (c .match .rest .0 .0 .0 .0 .0 .0 .0 .1), ne-eqb _ _ (c .match .rest .0 .0 .0 .0 .0 .0 .1), ne-eqb _ _ (c .match .rest .0 .0 .0 .0 .0 .1), ne-eqb _ _ (c .match .rest .0 .0 .0 .0 .1), ne-eqb _ _ (c .match .rest .0 .0 .0 .1), ne-eqb _ _ (c .match .rest .0 .0 .1), ne-eqb _ _ (c .match .rest .0 .1), ne-eqb _ _ (c .match .rest .1))
+    simp (
+      ne-eqb _ _ (c .match .rest .0 .0 .0 .0 .0 .0 .0 .1),
+      ne-eqb _ _ (c .match .rest .0 .0 .0 .0 .0 .0 .1),
+      ne-eqb _
+          _ (c .match .rest .0 .0 .0 .0 .0 .1),
+      ne-eqb _ _ (c .match .rest .0 .0 .0 .0 .1),
+      ne-eqb _ _
+          (c .match .rest .0 .0 .0 .1),
+      ne-eqb _ _ (c .match .rest .0 .0 .1),
+      ne-eqb _ _ (c .match .rest .0 .1),
+      ne-eqb _
+          _ (c .match .rest .1),
+    )
 
 pub order-spec : {M : Type 1} → statement M
 order-spec =
     tie.close
     (tie.spec
-    allow-requires
-    allow-requires-2
-    allow-requires-3
-    allow-requires-4
-    allow-requires-5
-    allow-requires-6
+    (λ c κs. search needs)
+    (λ c κs. search needs)
+    (λ c κs. search needs)
+    (λ c κs. search needs)
+    (λ c κs. search needs)
+    (λ c κs. search needs)
     returns
     returns-2
     returns-3

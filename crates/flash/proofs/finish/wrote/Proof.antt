@@ -2,11 +2,8 @@ use borrow.Author.Needs.{needs}
 use Rattle.flash.proofs.finish.wrote.Statement.{statement}
 use Rattle.flash.proofs.finish.wrote.Tie as tie
 
-wrapping-add-u64-requires : tie.Need-wrapping-add-u64-requires
-wrapping-add-u64-requires c κs = search needs
-
 returns : tie.Need-returns
 returns c = simp (c .wrapping-add-u64 .ensures)
 
 pub wrote-spec : {M : Type 1} → statement M
-wrote-spec = tie.close (tie.spec wrapping-add-u64-requires returns)
+wrote-spec = tie.close (tie.spec (λ c κs. search needs) returns)

@@ -3,18 +3,9 @@ use Rattle.flash.specs.Xfer.{answerOf}
 use Rattle.flash.proofs.xfer.answer.Statement.{statement}
 use Rattle.flash.proofs.xfer.answer.Tie as tie
 
-decode-requires : tie.Need-decode-requires
-decode-requires c κs = search needs
-
-respond-requires : tie.Need-respond-requires
-respond-requires c κs = search needs
-
-keep-requires : tie.Need-keep-requires
-keep-requires c κs = search needs
-
 returns : tie.Need-returns
 unfolding answerOf
 returns c = simp (c .keep .ensures, c .before .before .respond .ensures, c .before .before .before .decode .ensures)
 
 pub answer-spec : {M : Type 1} → statement M
-answer-spec = tie.close (tie.spec decode-requires respond-requires keep-requires returns)
+answer-spec = tie.close (tie.spec (λ c κs. search needs) (λ c κs. search needs) (λ c κs. search needs) returns)

@@ -7,21 +7,12 @@ use Rattle.flash.specs.Xfer.{readOf}
 use Rattle.flash.proofs.xfer.read.Statement.{statement}
 use Rattle.flash.proofs.xfer.read.Tie as tie
 
-address-requires : tie.Need-address-requires
-address-requires c κs = search needs
-
-rem-at : tie.Need-rem-at
-rem-at c = search needs
-
 add-at : tie.Need-add-at
 add-at c =
     let n = length (c .before .before .args .array .now) in
     let p : 0 < n = c .before .before .pre .0 in
     let l : c .address .result < n = rw (c .address .ensures) (mod-lt _ p) in
     omega (arith, mod-lt (c .before .before .args .far) p)
-
-rem-at-2 : tie.Need-rem-at-2
-rem-at-2 c = search needs
 
 shared-slice-read-result : tie.Need-shared-slice-read-result
 shared-slice-read-result c = mod-lt _ (c .before .before .before .pre .0)
@@ -32,4 +23,5 @@ returns c = simp (c .before .address .ensures)
 
 pub read-spec : {M : Type 1} → statement M
 read-spec =
-    tie.close (tie.spec address-requires rem-at add-at rem-at-2 shared-slice-read-result returns)
+    tie.close (tie.spec (λ c κs. search needs) (λ c. search needs) add-at (λ c. search needs)
+    shared-slice-read-result returns)

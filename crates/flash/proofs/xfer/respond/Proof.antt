@@ -3,62 +3,14 @@ use borrow.Author.Tests.{lt-ltb, le-ltb}
 use Rattle.flash.proofs.xfer.respond.Statement.{statement}
 use Rattle.flash.proofs.xfer.respond.Tie as tie
 
-enum-told : tie.Need-enum-told
-enum-told c = search needs
-
-identity-requires : tie.Need-identity-requires
-identity-requires c κs = search needs
-
-enum-told-2 : tie.Need-enum-told-2
-enum-told-2 c = search needs
-
 returns : tie.Need-returns
 returns c = simp (lt-ltb _ _ (c .if1 .taken), c .before .enum-told2 .given .1)
-
-maker-requires : tie.Need-maker-requires
-maker-requires c κs = search needs
-
-enum-told-3 : tie.Need-enum-told-3
-enum-told-3 c = search needs
-
-keep-requires : tie.Need-keep-requires
-keep-requires c κs = search needs
-
-enum-told-4 : tie.Need-enum-told-4
-enum-told-4 c = search needs
-
-keep-requires-2 : tie.Need-keep-requires-2
-keep-requires-2 c κs = search needs
-
-enum-told-5 : tie.Need-enum-told-5
-enum-told-5 c = search needs
-
-enum-told-6 : tie.Need-enum-told-6
-enum-told-6 c = search needs
 
 returns-2 : tie.Need-returns-2
 returns-2 c = simp (lt-ltb _ _ (c .if2 .taken), c .before .enum-told6 .given .1)
 
-read-requires : tie.Need-read-requires
-read-requires c κs = search needs
-
-enum-told-7 : tie.Need-enum-told-7
-enum-told-7 c = search needs
-
 returns-3 : tie.Need-returns-3
 returns-3 c = simp (lt-ltb _ _ (c .if3 .taken), c .before .enum-told7 .given .1)
-
-read-requires-2 : tie.Need-read-requires-2
-read-requires-2 c κs = search needs
-
-enum-told-8 : tie.Need-enum-told-8
-enum-told-8 c = search needs
-
-keep-requires-3 : tie.Need-keep-requires-3
-keep-requires-3 c κs = search needs
-
-enum-told-9 : tie.Need-enum-told-9
-enum-told-9 c = search needs
 
 returns-4 : tie.Need-returns-4
 returns-4 c = simp (c .identity .ensures, c .before .enum-told .given .1)
@@ -91,25 +43,25 @@ pub respond-spec : {M : Type 1} → statement M
 respond-spec =
     tie.close
     (tie.spec
-    enum-told
-    identity-requires
-    enum-told-2
+    (λ c. search needs)
+    (λ c κs. search needs)
+    (λ c. search needs)
     returns
-    maker-requires
-    enum-told-3
-    keep-requires
-    enum-told-4
-    keep-requires-2
-    enum-told-5
-    enum-told-6
+    (λ c κs. search needs)
+    (λ c. search needs)
+    (λ c κs. search needs)
+    (λ c. search needs)
+    (λ c κs. search needs)
+    (λ c. search needs)
+    (λ c. search needs)
     returns-2
-    read-requires
-    enum-told-7
+    (λ c κs. search needs)
+    (λ c. search needs)
     returns-3
-    read-requires-2
-    enum-told-8
-    keep-requires-3
-    enum-told-9
+    (λ c κs. search needs)
+    (λ c. search needs)
+    (λ c κs. search needs)
+    (λ c. search needs)
     returns-4
     returns-5
     returns-6

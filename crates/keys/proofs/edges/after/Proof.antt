@@ -3,9 +3,6 @@ use borrow.Author.Needs.{needs}
 use Rattle.keys.proofs.edges.after.Statement.{statement}
 use Rattle.keys.proofs.edges.after.Tie as tie
 
-min-requires : tie.Need-min-requires
-min-requires c κs = search needs
-
 returns : tie.Need-returns
 unfolding afterOf
 returns c = rw ((c .before .if1 .taken), (c .min .ensures))
@@ -15,4 +12,4 @@ unfolding afterOf
 returns-2 c = rw (c .if1 .left)
 
 pub after-spec : {M : Type 1} → statement M
-after-spec = tie.close (tie.spec min-requires returns returns-2)
+after-spec = tie.close (tie.spec (λ c κs. search needs) returns returns-2)

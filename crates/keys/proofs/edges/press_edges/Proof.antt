@@ -17,7 +17,12 @@ places-requires : tie.Need-places-requires Inv-loop μ-loop
 places-requires c κs = search needs
 
 loop-holds : tie.Need-loop-holds Inv-loop μ-loop
-loop-holds c = (search needs, omega (arith, (c .places .ensures), places-most (c .before .args .count)), edges-none _ _ _)
+loop-holds c = (
+  search needs,
+  omega (arith, (c .places .ensures), places-most (c .before .args .count)),
+  edges-none
+      _ _ _,
+)
 
 mul-edges : tie.Need-mul-edges Inv-loop μ-loop
 mul-edges c = search needs
@@ -35,10 +40,16 @@ loop-less : tie.Need-loop-less Inv-loop μ-loop
 loop-less c = search needs
 
 loop-again : tie.Need-loop-again Inv-loop μ-loop
-loop-again c = (search needs, search needs, (c .edges .ensures) ∙ edges-more _ _ _ _ _ (c .before .before .before .loop .inv .2))
+loop-again c = (
+  search needs,
+  search needs,
+  (c .edges .ensures) ∙ edges-more _ _ _ _ _
+      (c .before .before .before .loop .inv .2),
+)
 
 returns : tie.Need-returns Inv-loop μ-loop
-returns c = edges-all _ _ _ _ _ _ _ (c .before .before .places .ensures) (c .before .loop .inv .0) (c .loop-test .left) (c .before .loop .inv .2)
+returns c = edges-all _ _ _ _ _ _ _ (c .before .before .places .ensures) (c .before .loop .inv .0)
+    (c .loop-test .left) (c .before .loop .inv .2)
 
 pub press-edges-spec : {M : Type 1} → statement M
 press-edges-spec =

@@ -5,35 +5,29 @@ use borrow.Author.Needs.{needs}
 use Rattle.keys.proofs.live.hold_bits.Statement.{statement}
 use Rattle.keys.proofs.live.hold_bits.Tie as tie
 
-time-of-requires : tie.Need-time-of-requires
-time-of-requires c κs = search needs
-
-enum-known-until : tie.Need-enum-known-until
-enum-known-until c = search needs
-
-hold-until-requires : tie.Need-hold-until-requires
-hold-until-requires c κs = search needs
-
-enum-told : tie.Need-enum-told
-enum-told c = search needs
-
 returns : tie.Need-returns
-returns c = (c .hold-until .ensures) ∙ ap (holdOf (c .before .before .before .before .before .args .keys) (c .before .before .before .before .before .args .key)) (bits-good _ _ (c .before .before .before .before .time-of .ensures) _ (c .before .before .until .given .1))
+returns c =
+    let c2 = c .before .before in
+    let c4 = c2 .before .before in
+    let c5 = c4 .before in
+    (c .hold-until .ensures) ∙ ap (holdOf (c5 .args .keys) (c5 .args .key)) (bits-good _ _ (c4 .time-of .ensures) _
+    (c2 .until .given .1))
 
 returns-2 : tie.Need-returns-2
 returns-2 c = hold-bad-key _ _ _ (c .if1 .taken)
 
 returns-3 : tie.Need-returns-3
-returns-3 c = hold-bad-time _ _ _ (c .if1 .left) (bits-bad _ _ (c .before .before .before .time-of .ensures) (c .before .enum-told .given .1))
+returns-3 c = hold-bad-time _ _ _ (c .if1 .left) (bits-bad _ _ (c .before .before .before .time-of .ensures)
+    (c .before .enum-told .given .1))
 
 pub hold-bits-spec : {M : Type 1} → statement M
 hold-bits-spec =
     tie.close
     (tie.spec
-    time-of-requires
-    enum-known-until
-    hold-until-requires
-    enum-told
+    (λ c κs. search needs)
+    (λ c. search needs)
+    (λ c κs. search needs)
+    (λ c. search needs)
     returns
     returns-2
     returns-3)

@@ -20,7 +20,16 @@ tapped-requires : tie.Need-tapped-requires Inv-loop μ-loop
 tapped-requires c κs = search needs
 
 loop-holds : tie.Need-loop-holds Inv-loop μ-loop
-loop-holds c = (search needs, omega (arith, (c .before .places .ensures), places-most ((c .before .before .args .keys .count))), held-none _ _ _ _)
+loop-holds c = (
+  search needs,
+  omega (
+    arith,
+    (c .before .places .ensures),
+    places-most
+        (c .before .before .args .keys .count),
+  ),
+  held-none _ _ _ _,
+)
 
 mul-also : tie.Need-mul-also Inv-loop μ-loop
 mul-also c = search needs
@@ -41,10 +50,16 @@ loop-less : tie.Need-loop-less Inv-loop μ-loop
 loop-less c = search needs
 
 loop-again : tie.Need-loop-again Inv-loop μ-loop
-loop-again c = (search needs, search needs, (c .also .ensures) ∙ held-more _ _ _ _ _ _ (c .before .before .before .before .loop .inv .2))
+loop-again c = (
+  search needs,
+  search needs,
+  (c .also .ensures) ∙ held-more _ _ _ _ _ _
+      (c .before .before .before .before .loop .inv .2),
+)
 
 returns : tie.Need-returns Inv-loop μ-loop
-returns c = held-all _ _ _ _ _ _ _ _ (c .before .before .before .places .ensures) (c .before .before .tapped .ensures) (c .before .loop .inv .0) (c .loop-test .left) (c .before .loop .inv .2)
+returns c = held-all _ _ _ _ _ _ _ _ (c .before .before .before .places .ensures)
+    (c .before .before .tapped .ensures) (c .before .loop .inv .0) (c .loop-test .left) (c .before .loop .inv .2)
 
 pub keys-held-spec : {M : Type 1} → statement M
 keys-held-spec =

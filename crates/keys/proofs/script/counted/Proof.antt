@@ -3,17 +3,11 @@ use borrow.Author.Needs.{needs}
 use Rattle.keys.proofs.script.counted.Statement.{statement}
 use Rattle.keys.proofs.script.counted.Tie as tie
 
-places-requires : tie.Need-places-requires
-places-requires c κs = search needs
-
 returns : tie.Need-returns
 returns c = counted-in _ _ _ (c .before .places .ensures) (c .if1 .taken)
-
-add-result : tie.Need-add-result
-add-result c = search needs
 
 returns-2 : tie.Need-returns-2
 returns-2 c = counted-after _ _ _ (c .before .places .ensures) (c .if1 .left)
 
 pub counted-spec : {M : Type 1} → statement M
-counted-spec = tie.close (tie.spec places-requires returns add-result returns-2)
+counted-spec = tie.close (tie.spec (λ c κs. search needs) returns (λ c. search needs) returns-2)

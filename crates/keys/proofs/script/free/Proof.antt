@@ -17,7 +17,12 @@ places-requires : tie.Need-places-requires Inv-loop μ-loop
 places-requires c κs = search needs
 
 loop-holds : tie.Need-loop-holds Inv-loop μ-loop
-loop-holds c = (search needs, omega (arith, (c .places .ensures), places-most (c .before .args .count)), free-start _ _ _ _ (c .places .ensures))
+loop-holds c = (
+  search needs,
+  omega (arith, (c .places .ensures), places-most (c .before .args .count)),
+  free-start
+      _ _ _ _ (c .places .ensures),
+)
 
 mul-expired : tie.Need-mul-expired Inv-loop μ-loop
 mul-expired c = search needs
@@ -29,7 +34,8 @@ expired-requires : tie.Need-expired-requires Inv-loop μ-loop
 expired-requires c κs = search needs
 
 returns : tie.Need-returns Inv-loop μ-loop
-returns c = free-here _ _ _ _ _ _ (search needs) (c .before .before .before .before .loop .inv .2) (c .before .expired .ensures) (c .if1 .taken)
+returns c = free-here _ _ _ _ _ _ (search needs) (c .before .before .before .before .loop .inv .2)
+    (c .before .expired .ensures) (c .if1 .taken)
 
 add-i : tie.Need-add-i Inv-loop μ-loop
 add-i c = search needs
@@ -38,7 +44,12 @@ loop-less : tie.Need-loop-less Inv-loop μ-loop
 loop-less c = search needs
 
 loop-again : tie.Need-loop-again Inv-loop μ-loop
-loop-again c = (search needs, search needs, free-on _ _ _ _ _ _ (search needs) (c .before .before .before .before .loop .inv .2) (c .before .expired .ensures) (c .if1 .left))
+loop-again c = (
+  search needs,
+  search needs,
+  free-on _ _ _ _ _ _ (search needs)
+      (c .before .before .before .before .loop .inv .2) (c .before .expired .ensures) (c .if1 .left),
+)
 
 returns-2 : tie.Need-returns-2 Inv-loop μ-loop
 returns-2 c = free-none _ _ _ _ _ (search needs) (c .before .loop .inv .2)

@@ -34,7 +34,8 @@ loop-again : tie.Need-loop-again Inv-loop μ-loop
 loop-again c = (omega arith, digest-more _ _ (c .before .before .before .loop .inv .1) (c .mixed .ensures))
 
 returns : tie.Need-returns Inv-loop μ-loop
-returns c = let e : (c .before .loop .i) ≡ length ((c .before .before .before .args .bytes .now)) = omega arith in rw e at (c .before .loop .inv .1)
+returns c = let e : (c .before .loop .i) ≡ length (c .before .before .before .args .bytes .now) = omega arith in rw
+    e at (c .before .loop .inv .1)
 
 pub digest-spec : {M : Type 1} → statement M
 digest-spec =

@@ -5,13 +5,10 @@ use borrow.Author.Needs.{needs}
 use Rattle.lines.proofs.bytes.lent.Statement.{statement}
 use Rattle.lines.proofs.bytes.lent.Tie as tie
 
-least-requires : tie.Need-least-requires
-least-requires c κs = search needs
-
 returns : tie.Need-returns
 returns c =
     let l = (c .least .ensures .1) in
     ((l, sym (length-take-le (c .least .result) (c .before .before .args .bytes .now) l)), (c .least .ensures .0))
 
 pub lent-spec : {M : Type 1} → statement M
-lent-spec = tie.close (tie.spec least-requires returns)
+lent-spec = tie.close (tie.spec (λ c κs. search needs) returns)

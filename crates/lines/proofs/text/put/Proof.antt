@@ -4,14 +4,8 @@ use Rattle.lines.proofs.Laws.{byte-more}
 use Rattle.lines.proofs.text.put.Statement.{statement}
 use Rattle.lines.proofs.text.put.Tie as tie
 
-slice-write-out : tie.Need-slice-write-out
-slice-write-out c = search needs
-
-same-length : tie.Need-same-length
-same-length c = search needs
-
 returns : tie.Need-returns
 returns c = byte-more (c .args .out .now) (c .args .at) (c .args .byte) (search needs)
 
 pub put-spec : {M : Type 1} → statement M
-put-spec = tie.close (tie.spec slice-write-out same-length returns)
+put-spec = tie.close (tie.spec (λ c. search needs) (λ c. search needs) returns)

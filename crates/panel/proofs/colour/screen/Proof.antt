@@ -9,7 +9,8 @@ use Rattle.panel.proofs.colour.screen.Statement.{statement}
 use Rattle.panel.proofs.colour.screen.Tie as tie
 
 abbrev Inv-loop : tie.InvT-loop
-Inv-loop fb out₀ n i₀ out i = (i ≤ n) × (n ≡ length fb / 2) × (length out ≡ length out₀) × (out ≡ over (first i fb) out₀)
+Inv-loop fb out₀ n i₀ out i = (i ≤ n) × (n ≡ length fb / 2) × (length out ≡ length out₀) × (out ≡ over (first i fb)
+    out₀)
 
 abbrev μ-loop : tie.MeasureT-loop
 μ-loop fb out₀ n i₀ out i = n - i
@@ -35,8 +36,13 @@ loop-less c = search needs
 loop-again : tie.Need-loop-again Inv-loop μ-loop
 loop-again c =
     let at-lay = c .before .before .lay in
-    let i = (c .before .before .before .before .before .before .loop .inv) in
-    (omega arith, i .1, at-lay .kept .0 ∙ i .2, more-shown _ _ _ _ _ _ (omega arith) (i .3) (c .before .before .before .pixel .ensures) (at-lay .ensures))
+    let i = (c .before .before .before .before .before .before .loop .inv) in (
+      omega arith,
+      i .1,
+      at-lay .kept .0 ∙ i .2,
+      more-shown _ _ _ _ _ _ (omega arith) (i .3)
+          (c .before .before .before .pixel .ensures) (at-lay .ensures),
+    )
 
 same-length : tie.Need-same-length Inv-loop μ-loop
 same-length c = c .before .loop .inv .2

@@ -3,11 +3,8 @@ use borrow.Author.Needs.{needs}
 use Rattle.panel.proofs.lcd.count_frame.Statement.{statement}
 use Rattle.panel.proofs.lcd.count_frame.Tie as tie
 
-wrapping-add-u64-requires : tie.Need-wrapping-add-u64-requires
-wrapping-add-u64-requires c κs = search needs
-
 returns : tie.Need-returns
 returns c = counts-frame _ _ (c .wrapping-add-u64 .ensures)
 
 pub count-frame-spec : {M : Type 1} → statement M
-count-frame-spec = tie.close (tie.spec wrapping-add-u64-requires returns)
+count-frame-spec = tie.close (tie.spec (λ c κs. search needs) returns)

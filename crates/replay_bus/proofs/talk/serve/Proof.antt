@@ -39,13 +39,25 @@ take-turn-requires : tie.Need-take-turn-requires Inv-loop μ-loop
 take-turn-requires c κs = search needs
 
 sub-turns : tie.Need-sub-turns Inv-loop μ-loop
-sub-turns c = omega (arith, (c .before .before .before .before .before .before .before .before .before .before .before .loop-test .taken))
+sub-turns c = omega (
+  arith,
+  (c .before .before .before .before .before .before .before .before .before .before
+      .before .loop-test .taken),
+)
 
 loop-less : tie.Need-loop-less Inv-loop μ-loop
-loop-less c = omega (arith, (c .before .before .before .before .before .before .before .before .before .before .before .loop-test .taken))
+loop-less c = omega (
+  arith,
+  (c .before .before .before .before .before .before .before .before .before .before
+      .before .loop-test .taken),
+)
 
 loop-again : tie.Need-loop-again Inv-loop μ-loop
-loop-again c = omega (arith, (c .before .before .before .before .before .before .before .before .before .before .before .before .loop .inv))
+loop-again c = omega (
+  arith,
+  (c .before .before .before .before .before .before .before .before .before .before
+      .before .before .loop .inv),
+)
 
 returns-3 : tie.Need-returns-3 Inv-loop μ-loop
 returns-3 c = search needs

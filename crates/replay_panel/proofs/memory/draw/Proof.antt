@@ -7,7 +7,8 @@ use Rattle.replay_panel.proofs.memory.draw.Statement.{statement}
 use Rattle.replay_panel.proofs.memory.draw.Tie as tie
 
 abbrev Inv-loop : tie.InvT-loop
-Inv-loop framebuffer₀ first i₀ framebuffer i = (length framebuffer ≡ length framebuffer₀) × (i ≤ length framebuffer₀)
+Inv-loop framebuffer₀ first i₀ framebuffer i = (length framebuffer ≡ length framebuffer₀) ×
+    (i ≤ length framebuffer₀)
 
 abbrev μ-loop : tie.MeasureT-loop
 μ-loop framebuffer₀ first i₀ framebuffer i = length framebuffer₀ - i

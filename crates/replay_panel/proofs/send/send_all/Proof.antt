@@ -7,7 +7,8 @@ use Rattle.replay_panel.proofs.send.send_all.Statement.{statement}
 use Rattle.replay_panel.proofs.send.send_all.Tie as tie
 
 abbrev Inv-loop : tie.InvT-loop
-Inv-loop framebuffer₀ count value p₀ left₀ framebuffer p left = (length framebuffer ≡ length framebuffer₀) × (left ≤ 8)
+Inv-loop framebuffer₀ count value p₀ left₀ framebuffer p left = (length framebuffer ≡ length framebuffer₀) ×
+    (left ≤ 8)
 
 abbrev μ-loop : tie.MeasureT-loop
 μ-loop framebuffer₀ count value p₀ left₀ framebuffer p left = left

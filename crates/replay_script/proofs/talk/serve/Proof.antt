@@ -6,10 +6,12 @@ use Rattle.replay_script.proofs.talk.serve.Statement.{statement}
 use Rattle.replay_script.proofs.talk.serve.Tie as tie
 
 abbrev Inv-loop : tie.InvT-loop
-Inv-loop input output ram₀ sram₀ gpio₀ fb₀ script₀ out₀ length₀ turns₀ ram sram gpio fb script out length turns = turns ≤ 0xFFFF_FFFF_FFFF_FFFF
+Inv-loop input output ram₀ sram₀ gpio₀ fb₀ script₀ out₀ length₀ turns₀ ram sram gpio fb script out length turns =
+    turns ≤ 0xFFFF_FFFF_FFFF_FFFF
 
 abbrev μ-loop : tie.MeasureT-loop
-μ-loop input output ram₀ sram₀ gpio₀ fb₀ script₀ out₀ length₀ turns₀ ram sram gpio fb script out length turns = turns
+μ-loop input output ram₀ sram₀ gpio₀ fb₀ script₀ out₀ length₀ turns₀ ram sram gpio fb script out length turns =
+    turns
 
 untouched-requires : tie.Need-untouched-requires Inv-loop μ-loop
 untouched-requires c κs = search needs
@@ -39,13 +41,25 @@ take-turn-requires : tie.Need-take-turn-requires Inv-loop μ-loop
 take-turn-requires c κs = search needs
 
 sub-turns : tie.Need-sub-turns Inv-loop μ-loop
-sub-turns c = omega (arith, (c .before .before .before .before .before .before .before .before .before .before .before .before .before .loop-test .taken))
+sub-turns c = omega (
+  arith,
+  (c .before .before .before .before .before .before .before .before .before .before
+      .before .before .before .loop-test .taken),
+)
 
 loop-less : tie.Need-loop-less Inv-loop μ-loop
-loop-less c = omega (arith, (c .before .before .before .before .before .before .before .before .before .before .before .before .before .loop-test .taken))
+loop-less c = omega (
+  arith,
+  (c .before .before .before .before .before .before .before .before .before .before
+      .before .before .before .loop-test .taken),
+)
 
 loop-again : tie.Need-loop-again Inv-loop μ-loop
-loop-again c = omega (arith, (c .before .before .before .before .before .before .before .before .before .before .before .before .before .before .loop .inv))
+loop-again c = omega (
+  arith,
+  (c .before .before .before .before .before .before .before .before .before .before
+      .before .before .before .before .loop .inv),
+)
 
 returns-3 : tie.Need-returns-3 Inv-loop μ-loop
 returns-3 c = search needs

@@ -9,15 +9,10 @@ use lib.Ieee.Bits.{nanBits-above}
 use Rattle.replay_time.proofs.numbers.number_of.Statement.{statement}
 use Rattle.replay_time.proofs.numbers.number_of.Tie as tie
 
-returns : tie.Need-returns
-returns c = search needs
-
 float-from-bits-result : tie.Need-float-from-bits-result
 float-from-bits-result c =
-    subst (λ (t : Bool). T (not t)) (sym (nanBits-above binary64 (c .before .args .bits) ∙ le-ltb _ _ (c .if1 .left))) tt
-
-returns-2 : tie.Need-returns-2
-returns-2 c = search needs
+    subst (λ (t : Bool). T (not t)) (sym (nanBits-above binary64 (c .before .args .bits) ∙ le-ltb _ _
+    (c .if1 .left))) tt
 
 pub number-of-spec : {M : Type 1} → statement M
-number-of-spec = tie.close (tie.spec returns float-from-bits-result returns-2)
+number-of-spec = tie.close (tie.spec (λ c. search needs) float-from-bits-result (λ c. search needs))

@@ -3,55 +3,44 @@ use borrow.Author.Needs.{needs}
 use Rattle.script.proofs.format.bad_script.Statement.{statement}
 use Rattle.script.proofs.format.bad_script.Tie as tie
 
-presses-requires : tie.Need-presses-requires
-presses-requires c κs = search needs
-
 returns : tie.Need-returns
 returns c = bad-presses _ _ (c .before .presses .ensures) (c .if1 .taken)
 
-steps-requires : tie.Need-steps-requires
-steps-requires c κs = search needs
-
 returns-2 : tie.Need-returns-2
-returns-2 c = bad-steps _ _ (c .before .before .before .presses .ensures) (c .before .before .if1 .left) _ (c .before .steps .ensures) (c .if2 .taken)
-
-mul-from : tie.Need-mul-from
-mul-from c = search needs
-
-add-from : tie.Need-add-from
-add-from c = search needs
-
-mul-if3 : tie.Need-mul-if3
-mul-if3 c = search needs
-
-add-if3 : tie.Need-add-if3
-add-if3 c = search needs
-
-kinds-requires : tie.Need-kinds-requires
-kinds-requires c κs = search needs
+returns-2 c = bad-steps _ _ (c .before .before .before .presses .ensures) (c .before .before .if1 .left) _
+    (c .before .steps .ensures) (c .if2 .taken)
 
 returns-3 : tie.Need-returns-3
 returns-3 c =
-    bad-kinds _ _ (c .before .before .before .before .before .presses .ensures) (c .before .before .before .before .if1 .left) _
-    (c .before .before .before .steps .ensures) (c .before .before .if2 .left) (c .before .if3 .taken) _ (c .kinds .ensures)
+    let c1 = c .before in
+    let c2 = c1 .before in
+    let c3 = c2 .before in
+    let c4 = c3 .before in
+    let c5 = c4 .before in
+    bad-kinds _ _ (c5 .presses .ensures) (c4 .if1 .left) _
+    (c3 .steps .ensures) (c2 .if2 .left) (c1 .if3 .taken) _ (c .kinds .ensures)
 
 returns-4 : tie.Need-returns-4
 returns-4 c =
-    bad-length _ _ (c .before .before .before .before .presses .ensures) (c .before .before .before .if1 .left) _ (c .before .before .steps .ensures)
-    (c .before .if2 .left) (c .if3 .left)
+    let c1 = c .before in
+    let c2 = c1 .before in
+    let c3 = c2 .before in
+    let c4 = c3 .before in
+    bad-length _ _ (c4 .presses .ensures) (c3 .if1 .left) _ (c2 .steps .ensures)
+    (c1 .if2 .left) (c .if3 .left)
 
 pub bad-script-spec : {M : Type 1} → statement M
 bad-script-spec =
     tie.close
     (tie.spec
-    presses-requires
+    (λ c κs. search needs)
     returns
-    steps-requires
+    (λ c κs. search needs)
     returns-2
-    mul-from
-    add-from
-    mul-if3
-    add-if3
-    kinds-requires
+    (λ c. search needs)
+    (λ c. search needs)
+    (λ c. search needs)
+    (λ c. search needs)
+    (λ c κs. search needs)
     returns-3
     returns-4)

@@ -26,11 +26,19 @@ known-requires c κs = search needs
 
 returns : tie.Need-returns Inv-loop μ-loop
 returns c =
-    kinds-not _ _ _ _ (c .before .before .before .loop-test .taken) (c .before .before .kind-at .ensures)
-    (sym (c .before .known .ensures) ∙ not-true _ (c .if1 .taken)) ∙ (c .before .before .before .before .loop .inv .0)
+    let c1 = c .before in
+    let c2 = c1 .before in
+    let c3 = c2 .before in
+    let c4 = c3 .before in
+    kinds-not _ _ _ _ (c3 .loop-test .taken) (c2 .kind-at .ensures)
+    (sym (c1 .known .ensures) ∙ not-true _ (c .if1 .taken)) ∙ (c4 .loop .inv .0)
 
 add-at : tie.Need-add-at Inv-loop μ-loop
-add-at c = omega (arith, (c .before .before .before .before .loop .inv .2), (c .before .before .before .before .before .before .pre))
+add-at c = omega (
+  arith,
+  (c .before .before .before .before .loop .inv .2),
+  (c .before .before .before .before .before .before .pre),
+)
 
 sub-left : tie.Need-sub-left Inv-loop μ-loop
 sub-left c = search needs
@@ -39,8 +47,12 @@ loop-less : tie.Need-loop-less Inv-loop μ-loop
 loop-less c = search needs
 
 loop-again : tie.Need-loop-again Inv-loop μ-loop
-loop-again c =
-    (kinds-more _ _ _ _ (c .before .before .before .loop-test .taken) (c .before .before .kind-at .ensures) (sym (c .before .known .ensures) ∙ not-false _ (c .if1 .left)) ∙ (c .before .before .before .before .loop .inv .0), omega arith, omega arith)
+loop-again c = (
+  kinds-more _ _ _ _ (c .before .before .before .loop-test .taken) (c .before .before .kind-at .ensures) (sym
+      (c .before .known .ensures) ∙ not-false _ (c .if1 .left)) ∙ (c .before .before .before .before .loop .inv .0),
+  omega arith,
+  omega arith,
+)
 
 returns-2 : tie.Need-returns-2 Inv-loop μ-loop
 returns-2 c = kinds-end _ _ _ (c .loop-test .left) ∙ (c .before .loop .inv .0)

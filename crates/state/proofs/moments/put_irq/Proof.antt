@@ -3,35 +3,19 @@ use borrow.Author.Needs.{needs}
 use Rattle.state.proofs.moments.put_irq.Statement.{statement}
 use Rattle.state.proofs.moments.put_irq.Tie as tie
 
-cells-long-requires : tie.Need-cells-long-requires
-cells-long-requires c κs = search needs
-
-floats-long-requires : tie.Need-floats-long-requires
-floats-long-requires c κs = search needs
-
-element-write-cells : tie.Need-element-write-cells
-element-write-cells c = search needs
-
-cast-cells : tie.Need-cast-cells
-cast-cells c = search needs
-
-element-write-cells-2 : tie.Need-element-write-cells-2
-element-write-cells-2 c = search needs
-
-element-write-floats : tie.Need-element-write-floats
-element-write-floats c = search needs
-
 returns : tie.Need-returns
-returns c = irq-put ((c .before .before .before .before .before .args .cells .now)) ((c .before .before .before .before .before .args .floats .now)) ((c .before .before .before .cells-long .ensures)) ((c .before .floats-long .ensures)) ((c .before .before .before .before .before .args .irq)) (search needs)
+returns c = irq-put (c .before .before .before .before .before .args .cells .now)
+    (c .before .before .before .before .before .args .floats .now) (c .before .before .before .cells-long .ensures)
+    (c .before .floats-long .ensures) (c .before .before .before .before .before .args .irq) (search needs)
 
 pub put-irq-spec : {M : Type 1} → statement M
 put-irq-spec =
     tie.close
     (tie.spec
-    cells-long-requires
-    floats-long-requires
-    element-write-cells
-    cast-cells
-    element-write-cells-2
-    element-write-floats
+    (λ c κs. search needs)
+    (λ c κs. search needs)
+    (λ c. search needs)
+    (λ c. search needs)
+    (λ c. search needs)
+    (λ c. search needs)
     returns)

@@ -4,9 +4,6 @@ use borrow.Author.Needs.{needs}
 use Rattle.state.proofs.panels.held_of.Statement.{statement}
 use Rattle.state.proofs.panels.held_of.Tie as tie
 
-cast-t3 : tie.Need-cast-t3
-cast-t3 c = search needs
-
 returns : tie.Need-returns
 unfolding heldIn
 returns c = rw (lt-ltb _ _ (c .if1 .taken))
@@ -16,4 +13,4 @@ unfolding heldIn
 returns-2 c = rw (le-ltb _ _ (c .if1 .left))
 
 pub held-of-spec : {M : Type 1} → statement M
-held-of-spec = tie.close (tie.spec cast-t3 returns returns-2)
+held-of-spec = tie.close (tie.spec (λ c. search needs) returns returns-2)

@@ -3,17 +3,9 @@ use borrow.Author.Needs.{needs}
 use Rattle.state.proofs.rests.put_off.Statement.{statement}
 use Rattle.state.proofs.rests.put_off.Tie as tie
 
-cells-long-requires : tie.Need-cells-long-requires
-cells-long-requires c κs = search needs
-
-flag-requires : tie.Need-flag-requires
-flag-requires c κs = search needs
-
-element-write-cells : tie.Need-element-write-cells
-element-write-cells c = search needs
-
 returns : tie.Need-returns
-returns c = λ f. off-put ((c .before .before .before .args .cells .now)) ((c .before .cells-long .ensures)) f ((c .before .before .before .args .off)) _ ((c .flag .ensures))
+returns c = λ f. off-put (c .before .before .before .args .cells .now) (c .before .cells-long .ensures) f
+    (c .before .before .before .args .off) _ (c .flag .ensures)
 
 pub put-off-spec : {M : Type 1} → statement M
-put-off-spec = tie.close (tie.spec cells-long-requires flag-requires element-write-cells returns)
+put-off-spec = tie.close (tie.spec (λ c κs. search needs) (λ c κs. search needs) (λ c. search needs) returns)

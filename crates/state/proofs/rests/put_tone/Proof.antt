@@ -3,18 +3,10 @@ use borrow.Author.Needs.{needs}
 use Rattle.state.proofs.rests.put_tone.Statement.{statement}
 use Rattle.state.proofs.rests.put_tone.Tie as tie
 
-floats-long-requires : tie.Need-floats-long-requires
-floats-long-requires c κs = search needs
-
-element-write-floats : tie.Need-element-write-floats
-element-write-floats c = search needs
-
-element-write-floats-2 : tie.Need-element-write-floats-2
-element-write-floats-2 c = search needs
-
 returns : tie.Need-returns
-returns c = λ l. tone-put ((c .before .before .args .floats .now)) ((c .floats-long .ensures)) l ((c .before .before .args .tone))
+returns c = λ l. tone-put (c .before .before .args .floats .now) (c .floats-long .ensures) l
+    (c .before .before .args .tone)
 
 pub put-tone-spec : {M : Type 1} → statement M
 put-tone-spec =
-    tie.close (tie.spec floats-long-requires element-write-floats element-write-floats-2 returns)
+    tie.close (tie.spec (λ c κs. search needs) (λ c. search needs) (λ c. search needs) returns)

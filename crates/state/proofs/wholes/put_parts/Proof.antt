@@ -3,107 +3,66 @@ use borrow.Author.Needs.{needs}
 use Rattle.state.proofs.wholes.put_parts.Statement.{statement}
 use Rattle.state.proofs.wholes.put_parts.Tie as tie
 
-six-long-requires : tie.Need-six-long-requires
-six-long-requires c κs = search needs
-
-put-chip-requires : tie.Need-put-chip-requires
-put-chip-requires c κs = search needs
-
-put-panel-requires : tie.Need-put-panel-requires
-put-panel-requires c κs = search needs
-
-put-times-requires : tie.Need-put-times-requires
-put-times-requires c κs = search needs
-
-array-copy-out-put-timer : tie.Need-array-copy-out-put-timer
-array-copy-out-put-timer c = search needs
-
-put-timer-requires : tie.Need-put-timer-requires
-put-timer-requires c κs = search needs
-
-array-copy-out-put-timer-2 : tie.Need-array-copy-out-put-timer-2
-array-copy-out-put-timer-2 c = search needs
-
-put-timer-requires-2 : tie.Need-put-timer-requires-2
-put-timer-requires-2 c κs = search needs
-
-array-copy-out-put-timer-3 : tie.Need-array-copy-out-put-timer-3
-array-copy-out-put-timer-3 c = search needs
-
-put-timer-requires-3 : tie.Need-put-timer-requires-3
-put-timer-requires-3 c κs = search needs
-
-array-copy-out-put-timer-4 : tie.Need-array-copy-out-put-timer-4
-array-copy-out-put-timer-4 c = search needs
-
-put-timer-requires-4 : tie.Need-put-timer-requires-4
-put-timer-requires-4 c κs = search needs
-
-array-copy-out-put-timer-5 : tie.Need-array-copy-out-put-timer-5
-array-copy-out-put-timer-5 c = search needs
-
-put-timer-requires-5 : tie.Need-put-timer-requires-5
-put-timer-requires-5 c κs = search needs
-
-array-copy-out-put-timer-6 : tie.Need-array-copy-out-put-timer-6
-array-copy-out-put-timer-6 c = search needs
-
-put-timer-requires-6 : tie.Need-put-timer-requires-6
-put-timer-requires-6 c κs = search needs
-
-put-irq-requires : tie.Need-put-irq-requires
-put-irq-requires c κs = search needs
-
-put-vsync-requires : tie.Need-put-vsync-requires
-put-vsync-requires c κs = search needs
-
-put-converting-requires : tie.Need-put-converting-requires
-put-converting-requires c κs = search needs
-
-put-latch-requires : tie.Need-put-latch-requires
-put-latch-requires c κs = search needs
-
-put-tone-requires : tie.Need-put-tone-requires
-put-tone-requires c κs = search needs
-
-put-off-requires : tie.Need-put-off-requires
-put-off-requires c κs = search needs
-
-put-ring-requires : tie.Need-put-ring-requires
-put-ring-requires c κs = search needs
-
-put-keys-requires : tie.Need-put-keys-requires
-put-keys-requires c κs = search needs
-
 returns : tie.Need-returns
-returns c = packed-words ((c .before .before .before .before .before .before .before .before .before .before .before .before .before .before .before .before .before .before .before .before .before .before .before .before .before .before .before .before .before .before .before .before .before .before .before .before .before .before .before .before .before .before .before .before .before .before .before .before .before .before .before .before .before .before .before .args .x)) ((c .put-keys .ensures .kept) ((c .before .before .before .put-ring .ensures) _ .kept ((c .before .before .before .before .before .put-off .ensures) _ .kept ((c .before .before .before .before .before .before .before .put-tone .ensures) _ .kept ((c .before .before .before .before .before .before .before .before .before .put-latch .ensures .kept) ((c .before .before .before .before .before .before .before .before .before .before .before .before .put-converting .ensures) _ .kept ((c .before .before .before .before .before .before .before .before .before .before .before .before .before .before .put-vsync .ensures) _ .kept ((c .before .before .before .before .before .before .before .before .before .before .before .before .before .before .before .before .put-irq .ensures .kept) ((c .before .before .before .before .before .before .before .before .before .before .before .before .before .before .before .before .before .before .before .put-timer6 .ensures .kept) ((c .before .before .before .before .before .before .before .before .before .before .before .before .before .before .before .before .before .before .before .before .before .before .before .put-timer5 .ensures .kept) ((c .before .before .before .before .before .before .before .before .before .before .before .before .before .before .before .before .before .before .before .before .before .before .before .before .before .before .before .put-timer4 .ensures .kept) ((c .before .before .before .before .before .before .before .before .before .before .before .before .before .before .before .before .before .before .before .before .before .before .before .before .before .before .before .before .before .before .before .put-timer3 .ensures .kept) ((c .before .before .before .before .before .before .before .before .before .before .before .before .before .before .before .before .before .before .before .before .before .before .before .before .before .before .before .before .before .before .before .before .before .before .before .put-timer2 .ensures .kept) ((c .before .before .before .before .before .before .before .before .before .before .before .before .before .before .before .before .before .before .before .before .before .before .before .before .before .before .before .before .before .before .before .before .before .before .before .before .before .before .before .put-timer .ensures .kept) ((c .before .before .before .before .before .before .before .before .before .before .before .before .before .before .before .before .before .before .before .before .before .before .before .before .before .before .before .before .before .before .before .before .before .before .before .before .before .before .before .before .before .before .before .put-times .ensures) _ .kept ((c .before .before .before .before .before .before .before .before .before .before .before .before .before .before .before .before .before .before .before .before .before .before .before .before .before .before .before .before .before .before .before .before .before .before .before .before .before .before .before .before .before .before .before .before .before .put-panel .ensures) _ .kept ((c .before .before .before .before .before .before .before .before .before .before .before .before .before .before .before .before .before .before .before .before .before .before .before .before .before .before .before .before .before .before .before .before .before .before .before .before .before .before .before .before .before .before .before .before .before .before .before .put-chip .ensures) _ .kept zeros-packed))))))))))))))))) (all-put _ _ ((c .before .before .before .before .before .before .before .before .before .before .before .before .before .before .before .before .before .before .before .before .before .before .before .before .before .before .before .before .before .before .before .before .before .before .before .before .before .before .before .before .before .before .before .before .before .before .before .before .before .before .before .before .before .before .before .args .x)) ((c .before .before .before .before .before .before .before .before .before .before .before .before .before .before .before .before .before .before .before .before .before .before .before .before .before .before .before .before .before .before .before .before .before .before .before .before .before .before .before .before .before .before .before .before .before .before .before .before .before .six-long .ensures)) ((c .before .before .before .before .before .before .before .before .before .before .before .before .before .before .before .before .before .before .before .before .before .before .before .before .before .before .before .before .before .before .before .before .before .before .before .before .before .before .before .before .before .before .before .before .before .before .before .put-chip .ensures) _ .parts) ((c .before .before .before .before .before .before .before .before .before .before .before .before .before .before .before .before .before .before .before .before .before .before .before .before .before .before .before .before .before .before .before .before .before .before .before .before .before .before .before .before .before .before .before .before .before .put-panel .ensures) _ .parts) ((c .before .before .before .before .before .before .before .before .before .before .before .before .before .before .before .before .before .before .before .before .before .before .before .before .before .before .before .before .before .before .before .before .before .before .before .before .before .before .before .before .before .before .before .put-times .ensures) _ .parts) ((c .before .before .before .before .before .before .before .before .before .before .before .before .before .before .before .before .before .before .before .before .before .before .before .before .before .before .before .before .before .before .before .before .before .before .before .before .before .before .before .put-timer .ensures .parts)) ((c .before .before .before .before .before .before .before .before .before .before .before .before .before .before .before .before .before .before .before .before .before .before .before .before .before .before .before .before .before .before .before .before .before .before .before .put-timer2 .ensures .parts)) ((c .before .before .before .before .before .before .before .before .before .before .before .before .before .before .before .before .before .before .before .before .before .before .before .before .before .before .before .before .before .before .before .put-timer3 .ensures .parts)) ((c .before .before .before .before .before .before .before .before .before .before .before .before .before .before .before .before .before .before .before .before .before .before .before .before .before .before .before .put-timer4 .ensures .parts)) ((c .before .before .before .before .before .before .before .before .before .before .before .before .before .before .before .before .before .before .before .before .before .before .before .put-timer5 .ensures .parts)) ((c .before .before .before .before .before .before .before .before .before .before .before .before .before .before .before .before .before .before .before .put-timer6 .ensures .parts)) ((c .before .before .before .before .before .before .before .before .before .before .before .before .before .before .before .before .put-irq .ensures .parts)) ((c .before .before .before .before .before .before .before .before .before .before .before .before .before .before .put-vsync .ensures) _ .parts) ((c .before .before .before .before .before .before .before .before .before .before .before .before .put-converting .ensures) _ .parts) ((c .before .before .before .before .before .before .before .before .before .put-latch .ensures .parts)) ((c .before .before .before .before .before .before .before .put-tone .ensures) _ .parts) ((c .before .before .before .before .before .put-off .ensures) _ .parts) ((c .before .before .before .put-ring .ensures) _ .parts) ((c .put-keys .ensures .parts)))
+returns c =
+    let c3 = c .before .before .before in
+    let c5 = c3 .before .before in
+    let c7 = c5 .before .before in
+    let c9 = c7 .before .before in
+    let c12 = c9 .before .before .before in
+    let c14 = c12 .before .before in
+    let c16 = c14 .before .before in
+    let c19 = c16 .before .before .before in
+    let c23 = c19 .before .before .before .before in
+    let c27 = c23 .before .before .before .before in
+    let c31 = c27 .before .before .before .before in
+    let c35 = c31 .before .before .before .before in
+    let c39 = c35 .before .before .before .before in
+    let c43 = c39 .before .before .before .before in
+    let c45 = c43 .before .before in
+    let c47 = c45 .before .before in
+    let c49 = c47 .before .before in
+    let c55 = c49 .before .before .before .before .before .before in
+    packed-words (c55 .args .x) ((c .put-keys .ensures .kept) ((c3 .put-ring .ensures) _ .kept
+    ((c5 .put-off .ensures) _ .kept ((c7 .put-tone .ensures) _ .kept ((c9 .put-latch .ensures .kept)
+    ((c12 .put-converting .ensures) _ .kept ((c14 .put-vsync .ensures) _ .kept ((c16 .put-irq .ensures .kept)
+    ((c19 .put-timer6 .ensures .kept) ((c23 .put-timer5 .ensures .kept) ((c27 .put-timer4 .ensures .kept)
+    ((c31 .put-timer3 .ensures .kept) ((c35 .put-timer2 .ensures .kept) ((c39 .put-timer .ensures .kept)
+    ((c43 .put-times .ensures) _ .kept ((c45 .put-panel .ensures) _ .kept ((c47 .put-chip .ensures) _ .kept
+    zeros-packed))))))))))))))))) (all-put _ _ (c55 .args .x) (c49 .six-long .ensures) ((c47 .put-chip .ensures) _
+    .parts) ((c45 .put-panel .ensures) _ .parts) ((c43 .put-times .ensures) _ .parts)
+    (c39 .put-timer .ensures .parts) (c35 .put-timer2 .ensures .parts) (c31 .put-timer3 .ensures .parts)
+    (c27 .put-timer4 .ensures .parts) (c23 .put-timer5 .ensures .parts) (c19 .put-timer6 .ensures .parts)
+    (c16 .put-irq .ensures .parts) ((c14 .put-vsync .ensures) _ .parts) ((c12 .put-converting .ensures) _ .parts)
+    (c9 .put-latch .ensures .parts) ((c7 .put-tone .ensures) _ .parts) ((c5 .put-off .ensures) _ .parts)
+    ((c3 .put-ring .ensures) _ .parts) (c .put-keys .ensures .parts))
 
 pub put-parts-spec : {M : Type 1} → statement M
 put-parts-spec =
     tie.close
     (tie.spec
-    six-long-requires
-    put-chip-requires
-    put-panel-requires
-    put-times-requires
-    array-copy-out-put-timer
-    put-timer-requires
-    array-copy-out-put-timer-2
-    put-timer-requires-2
-    array-copy-out-put-timer-3
-    put-timer-requires-3
-    array-copy-out-put-timer-4
-    put-timer-requires-4
-    array-copy-out-put-timer-5
-    put-timer-requires-5
-    array-copy-out-put-timer-6
-    put-timer-requires-6
-    put-irq-requires
-    put-vsync-requires
-    put-converting-requires
-    put-latch-requires
-    put-tone-requires
-    put-off-requires
-    put-ring-requires
-    put-keys-requires
+    (λ c κs. search needs)
+    (λ c κs. search needs)
+    (λ c κs. search needs)
+    (λ c κs. search needs)
+    (λ c. search needs)
+    (λ c κs. search needs)
+    (λ c. search needs)
+    (λ c κs. search needs)
+    (λ c. search needs)
+    (λ c κs. search needs)
+    (λ c. search needs)
+    (λ c κs. search needs)
+    (λ c. search needs)
+    (λ c κs. search needs)
+    (λ c. search needs)
+    (λ c κs. search needs)
+    (λ c κs. search needs)
+    (λ c κs. search needs)
+    (λ c κs. search needs)
+    (λ c κs. search needs)
+    (λ c κs. search needs)
+    (λ c κs. search needs)
+    (λ c κs. search needs)
+    (λ c κs. search needs)
     returns)

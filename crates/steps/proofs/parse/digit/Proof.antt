@@ -4,9 +4,6 @@ use Rattle.steps.proofs.Cases.{figure, letter, below, between, above}
 use Rattle.steps.proofs.parse.digit.Statement.{statement}
 use Rattle.steps.proofs.parse.digit.Tie as tie
 
-add-result : tie.Need-add-result
-add-result c = search needs
-
 returns : tie.Need-returns
 returns c = figure (c .before .before .args .byte) (omega arith) (omega arith)
 
@@ -23,4 +20,4 @@ returns-5 : tie.Need-returns-5
 returns-5 c = above (c .before .before .before .before .args .byte) (omega arith)
 
 pub digit-spec : {M : Type 1} → statement M
-digit-spec = tie.close (tie.spec add-result returns returns-2 returns-3 returns-4 returns-5)
+digit-spec = tie.close (tie.spec (λ c. search needs) returns returns-2 returns-3 returns-4 returns-5)

@@ -8,47 +8,43 @@ use borrow.Author.Needs.{needs}
 use Rattle.steps.proofs.talk.close.Statement.{statement}
 use Rattle.steps.proofs.talk.close.Tie as tie
 
-finish-requires : tie.Need-finish-requires
-finish-requires c κs = search needs
-
-spell-requires : tie.Need-spell-requires
-spell-requires c κs = search needs
-
-same-length : tie.Need-same-length
-same-length c = search needs
-
-same-length-2 : tie.Need-same-length-2
-same-length-2 c = search needs
-
 returns : tie.Need-returns
 returns c =
     let at-finish = c .before .before .before .before .before .before .before .before .before .finish in
     let at-spell = c .before .before .before .spell in
-    let t = told (at-finish .result) (at-finish .last .1 .0) (at-finish .last .1 .1 .0) in
-    (counts (at-spell .ensures) (omega (arith, text-long (t .said), (at-spell .kept .0))), closes-bad t (at-spell .ensures .kept) (c .if1 .taken) ∙ ap closed (at-finish .ensures))
+    let t = told (at-finish .result) (at-finish .last .1 .0) (at-finish .last .1 .1 .0) in (
+      counts (at-spell .ensures) (omega (arith, text-long (t .said), (at-spell .kept .0))),
+      closes-bad t
+          (at-spell .ensures .kept) (c .if1 .taken) ∙ ap closed (at-finish .ensures),
+    )
 
 last-line-requires : tie.Need-last-line-requires
 last-line-requires c κs =
     let at-spell = c .before .before .before .before .before .spell in
-    let at-finish = c .before .before .before .before .before .before .before .before .before .before .before .finish in
+    let at-finish = c .before .before .before .before .before .before .before .before .before .before .before
+    .finish in
     omega (arith, (at-spell .ensures .next), text-long (at-finish .result .said), (at-spell .kept .0))
-
-same-length-3 : tie.Need-same-length-3
-same-length-3 c = search needs
-
-same-length-4 : tie.Need-same-length-4
-same-length-4 c = search needs
 
 returns-2 : tie.Need-returns-2
 returns-2 c =
-    let at-finish = c .before .before .before .before .before .before .before .before .before .before .before .before .before .before .finish in
+    let at-finish = c .before .before .before .before .before .before .before .before .before .before .before
+    .before .before .before .finish in
     let at-spell = c .before .before .before .before .before .before .before .before .spell in
     let at-last-line = c .before .before .last-line in
     let at-if1 = c .before .before .before .before .before .if1 in
     let t = told (at-finish .result) (at-finish .last .1 .0) (at-finish .last .1 .1 .0) in
     let p = chain (at-spell .ensures) (at-last-line .ensures) in
     let l = last-long (t .world .session .chip .wel) (t .world .session .chip .writes) (t .world .array) in (
-      counts p (rw length-append (omega (arith, (c .before .before .before .before .before .before .before .before .before .before .before .before .before .before .before .before .before .before .before .pre), text-long (t .said), l, at-spell .kept .0, at-last-line .kept .0))),
+      counts p (rw length-append (omega (
+        arith,
+        (c .before .before .before .before .before .before .before .before
+            .before .before .before .before .before .before .before .before .before .before .before .pre),
+        text-long
+            (t .said),
+        l,
+        at-spell .kept .0,
+        at-last-line .kept .0,
+      ))),
       closes-well t (p .kept) (at-if1 .left) ∙ ap closed (at-finish .ensures),
     )
 
@@ -56,12 +52,12 @@ pub close-spec : {M : Type 1} → statement M
 close-spec =
     tie.close
     (tie.spec
-    finish-requires
-    spell-requires
-    same-length
-    same-length-2
+    (λ c κs. search needs)
+    (λ c κs. search needs)
+    (λ c. search needs)
+    (λ c. search needs)
     returns
     last-line-requires
-    same-length-3
-    same-length-4
+    (λ c. search needs)
+    (λ c. search needs)
     returns-2)

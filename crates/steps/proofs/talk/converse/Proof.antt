@@ -7,7 +7,8 @@ use Rattle.steps.proofs.talk.converse.Statement.{statement}
 use Rattle.steps.proofs.talk.converse.Tie as tie
 
 abbrev Inv-loop : tie.InvT-loop
-Inv-loop input output page₀ array₀ s₀ more₀ lost₀ turns₀ page array s more lost turns = (length array ≡ length array₀) × Hears (world s₀ page₀ array₀) (world s page array)
+Inv-loop input output page₀ array₀ s₀ more₀ lost₀ turns₀ page array s more lost turns =
+    (length array ≡ length array₀) × Hears (world s₀ page₀ array₀) (world s page array)
 
 abbrev μ-loop : tie.MeasureT-loop
 μ-loop input output page₀ array₀ s₀ more₀ lost₀ turns₀ page array s more lost turns = turns

@@ -23,7 +23,18 @@ abbrev μ-loop : tie.MeasureT-loop
 μ-loop page₀ array₀ chunk out₀ s₀ put₀ i₀ i-end page array out s put i = length chunk - i
 
 loop-holds : tie.Need-loop-holds Inv-loop μ-loop
-loop-holds c = (refl, omega arith, refl, refl, omega (arith, spare-within (c .before .before .before .args .session .over)), refl)
+loop-holds c = (
+  refl,
+  omega arith,
+  refl,
+  refl,
+  omega (
+    arith,
+    spare-within
+        (c .before .before .before .args .session .over),
+  ),
+  refl,
+)
 
 shared-slice-read-feed : tie.Need-shared-slice-read-feed Inv-loop μ-loop
 shared-slice-read-feed c = omega arith
@@ -45,19 +56,33 @@ loop-less c = omega arith
 
 loop-again : tie.Need-loop-again Inv-loop μ-loop
 loop-again c =
-    let at-loop = c .before .before .before .before .before .before .before .before .before .before .before .before .loop in
-    let at-args = c .before .before .before .before .before .before .before .before .before .before .before .before .before .before .before .before .args in
+    let at-loop = c .before .before .before .before .before .before .before .before .before .before .before .before
+    .loop in
+    let at-args = c .before .before .before .before .before .before .before .before .before .before .before .before
+    .before .before .before .before .args in
     let at-feed = c .before .before .before .before .before .before .before .feed in
     let at-spell = c .before .before .before .spell in
     let i = (at-loop .inv) in
     let w = world (at-loop .s) (at-loop .page) (at-loop .array) in
-    let l : at-loop .i < length (at-args .chunk .now) = omega (arith, at-loop .inv .0, (c .before .before .before .before .before .before .before .before .before .before .before .loop-test .taken)) in (
+    let l : at-loop .i < length (at-args .chunk .now) = omega (
+      arith,
+      at-loop .inv .0,
+      (c .before .before .before
+          .before .before .before .before .before .before .before .before .loop-test .taken),
+    ) in (
       i .0,
       omega arith,
       (at-feed .kept .1 .1 .0) ∙ i .2,
       (at-spell .kept .0) ∙ i .3,
-      omega (arith, i .4, (at-spell .ensures .next), room-on w (getD (at-args .chunk .now) (at-loop .i) 0) (at-feed .ensures)),
-      go-on w _ (at-args .chunk .now) (at-loop .i) (take (at-loop .put) (at-loop .out)) l (at-feed .ensures) (at-spell .ensures .kept) ∙ i .5,
+      omega (
+        arith,
+        i .4,
+        (at-spell .ensures .next),
+        room-on w (getD (at-args .chunk .now) (at-loop .i) 0)
+            (at-feed .ensures),
+      ),
+      go-on w _ (at-args .chunk .now) (at-loop .i) (take (at-loop .put) (at-loop .out)) l (at-feed .ensures)
+          (at-spell .ensures .kept) ∙ i .5,
     )
 
 same-length : tie.Need-same-length Inv-loop μ-loop

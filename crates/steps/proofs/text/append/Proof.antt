@@ -9,7 +9,8 @@ use Rattle.steps.proofs.text.append.Statement.{statement}
 use Rattle.steps.proofs.text.append.Tie as tie
 
 abbrev Inv-loop : tie.InvT-loop
-Inv-loop out₀ at text next₀ i₀ i-end out next i = (i-end ≡ length text) × (i ≤ length text) × (length out ≡ length out₀) × Put out₀ at (take i text) out next
+Inv-loop out₀ at text next₀ i₀ i-end out next i = (i-end ≡ length text) × (i ≤ length text) ×
+    (length out ≡ length out₀) × Put out₀ at (take i text) out next
 
 abbrev μ-loop : tie.MeasureT-loop
 μ-loop out₀ at text next₀ i₀ i-end out next i = length text - i
@@ -39,8 +40,13 @@ loop-again c =
     let at-loop = c .before .before .before .before .before .before .loop in
     let at-put = c .before .before .put in
     let at-args = c .before .before .before .before .before .before .before .before .before .args in
-    let i = (at-loop .inv) in
-    (i .0, omega arith, (at-put .kept .0) ∙ i .2, put-more (at-args .text .now) (at-loop .i) (omega arith) (i .3) (at-put .ensures))
+    let i = (at-loop .inv) in (
+      i .0,
+      omega arith,
+      (at-put .kept .0) ∙ i .2,
+      put-more (at-args .text .now) (at-loop .i) (omega arith) (i .3)
+          (at-put .ensures),
+    )
 
 same-length : tie.Need-same-length Inv-loop μ-loop
 same-length c = (c .before .loop .inv .2)

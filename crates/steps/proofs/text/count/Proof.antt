@@ -10,7 +10,8 @@ use Rattle.steps.proofs.text.count.Statement.{statement}
 use Rattle.steps.proofs.text.count.Tie as tie
 
 abbrev Inv-loop : tie.InvT-loop
-Inv-loop array n₀ i₀ i-end n i = (i-end ≡ length array) × (i ≤ length array) × (n ≤ i) × (n + programmed (drop i array) ≡ programmed array)
+Inv-loop array n₀ i₀ i-end n i = (i-end ≡ length array) × (i ≤ length array) × (n ≤ i) × (n + programmed
+    (drop i array) ≡ programmed array)
 
 abbrev μ-loop : tie.MeasureT-loop
 μ-loop array n₀ i₀ i-end n i = length array - i
@@ -40,8 +41,17 @@ loop-again : tie.Need-loop-again Inv-loop μ-loop
 loop-again c =
     let at-loop = c .before .before .before .loop in
     let at-args = c .before .before .before .before .before .args in
-    let i = (at-loop .inv) in
-    (i .0, omega arith, omega (arith, (c .weight .ensures), light (eqb (getD (at-args .array .now) (at-loop .i) 0) 255)), rw (c .weight .ensures) (count-on (at-args .array .now) (at-loop .i) (at-loop .n) (omega arith) (i .3)))
+    let i = (at-loop .inv) in (
+      i .0,
+      omega arith,
+      omega (
+        arith,
+        (c .weight .ensures),
+        light (eqb (getD (at-args .array .now) (at-loop .i) 0)
+            255),
+      ),
+      rw (c .weight .ensures) (count-on (at-args .array .now) (at-loop .i) (at-loop .n) (omega arith) (i .3)),
+    )
 
 returns : tie.Need-returns Inv-loop μ-loop
 returns c =

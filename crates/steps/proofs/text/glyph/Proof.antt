@@ -3,12 +3,6 @@ use borrow.Author.Needs.{needs}
 use Rattle.steps.proofs.text.glyph.Statement.{statement}
 use Rattle.steps.proofs.text.glyph.Tie as tie
 
-add-result : tie.Need-add-result
-add-result c = search needs
-
-add-result-2 : tie.Need-add-result-2
-add-result-2 c = search needs
-
 returns : tie.Need-returns
 returns c = simp (lt-ltb _ _ (c .if1 .taken))
 
@@ -16,4 +10,4 @@ returns-2 : tie.Need-returns-2
 returns-2 c = simp (le-ltb _ _ (c .if1 .left))
 
 pub glyph-spec : {M : Type 1} → statement M
-glyph-spec = tie.close (tie.spec add-result add-result-2 returns returns-2)
+glyph-spec = tie.close (tie.spec (λ c. search needs) (λ c. search needs) returns returns-2)

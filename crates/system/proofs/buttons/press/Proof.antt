@@ -4,31 +4,23 @@ use borrow.Author.Needs.{needs}
 use Rattle.system.proofs.buttons.press.Statement.{statement}
 use Rattle.system.proofs.buttons.press.Tie as tie
 
-parts-of-requires : tie.Need-parts-of-requires
-parts-of-requires c κs = search needs
-
-put-parts-requires : tie.Need-put-parts-requires
-put-parts-requires c κs = search needs
-
-press-requires : tie.Need-press-requires
-press-requires c κs = search needs
-
-parts-of-requires-2 : tie.Need-parts-of-requires-2
-parts-of-requires-2 c κs = search needs
-
-with-parts-requires : tie.Need-with-parts-requires
-with-parts-requires c κs = search needs
-
 returns : tie.Need-returns
-returns c = let a = (c .before .before .before .before .before .before .before .before .before .before .before .before .before .before .before .before .args) in rw ((c .with-parts .ensures), (c .before .parts-of2 .ensures)) (press-done (a .s) (a .key) (a .at) ((c .before .before .before .before .before .before .before .before .before .put-parts .ensures .2) ∙ (c .before .before .before .before .before .before .before .before .before .before .parts-of .ensures)) ((c .before .before .before .before .press .ensures .0)))
+returns c =
+    let c1 = c .before in
+    let c4 = c1 .before .before .before in
+    let c9 = c4 .before .before .before .before .before in
+    let c10 = c9 .before in
+    let c16 = c10 .before .before .before .before .before .before in
+    let a = (c16 .args) in rw ((c .with-parts .ensures), (c1 .parts-of2 .ensures)) (press-done (a .s) (a .key)
+    (a .at) ((c9 .put-parts .ensures .2) ∙ (c10 .parts-of .ensures)) (c4 .press .ensures .0))
 
 pub press-spec : {M : Type 1} → statement M
 press-spec =
     tie.close
     (tie.spec
-    parts-of-requires
-    put-parts-requires
-    press-requires
-    parts-of-requires-2
-    with-parts-requires
+    (λ c κs. search needs)
+    (λ c κs. search needs)
+    (λ c κs. search needs)
+    (λ c κs. search needs)
+    (λ c κs. search needs)
     returns)

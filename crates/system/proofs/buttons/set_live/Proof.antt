@@ -4,31 +4,23 @@ use borrow.Author.Needs.{needs}
 use Rattle.system.proofs.buttons.set_live.Statement.{statement}
 use Rattle.system.proofs.buttons.set_live.Tie as tie
 
-parts-of-requires : tie.Need-parts-of-requires
-parts-of-requires c κs = search needs
-
-put-parts-requires : tie.Need-put-parts-requires
-put-parts-requires c κs = search needs
-
-set-live-requires : tie.Need-set-live-requires
-set-live-requires c κs = search needs
-
-parts-of-requires-2 : tie.Need-parts-of-requires-2
-parts-of-requires-2 c κs = search needs
-
-with-parts-requires : tie.Need-with-parts-requires
-with-parts-requires c κs = search needs
-
 returns : tie.Need-returns
-returns c = let a = (c .before .before .before .before .before .before .before .before .before .before .before .args) in rw ((c .with-parts .ensures), (c .before .parts-of2 .ensures)) (live-done (a .s) ((c .before .before .before .before .before .before .before .put-parts .ensures .2) ∙ (c .before .before .before .before .before .before .before .before .parts-of .ensures)) (a .key) (a .down) ((c .before .before .before .before .set-live .ensures .0)))
+returns c =
+    let c1 = c .before in
+    let c4 = c1 .before .before .before in
+    let c7 = c4 .before .before .before in
+    let c8 = c7 .before in
+    let c11 = c8 .before .before .before in
+    let a = (c11 .args) in rw ((c .with-parts .ensures), (c1 .parts-of2 .ensures)) (live-done (a .s)
+    ((c7 .put-parts .ensures .2) ∙ (c8 .parts-of .ensures)) (a .key) (a .down) (c4 .set-live .ensures .0))
 
 pub set-live-spec : {M : Type 1} → statement M
 set-live-spec =
     tie.close
     (tie.spec
-    parts-of-requires
-    put-parts-requires
-    set-live-requires
-    parts-of-requires-2
-    with-parts-requires
+    (λ c κs. search needs)
+    (λ c κs. search needs)
+    (λ c κs. search needs)
+    (λ c κs. search needs)
+    (λ c κs. search needs)
     returns)

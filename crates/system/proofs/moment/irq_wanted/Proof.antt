@@ -4,18 +4,13 @@ use borrow.Author.Needs.{needs}
 use Rattle.system.proofs.moment.irq_wanted.Statement.{statement}
 use Rattle.system.proofs.moment.irq_wanted.Tie as tie
 
-parts-of-requires : tie.Need-parts-of-requires
-parts-of-requires c κs = search needs
-
-put-parts-requires : tie.Need-put-parts-requires
-put-parts-requires c κs = search needs
-
-irq-wanted-requires : tie.Need-irq-wanted-requires
-irq-wanted-requires c κs = search needs
-
 returns : tie.Need-returns
-returns c = wanted-done ((c .before .before .before .before .before .before .before .before .before .args .s)) ((c .before .before .before .put-parts .ensures .2) ∙ (c .before .before .before .before .parts-of .ensures)) ((c .irq-wanted .ensures) _)
+returns c =
+    let c3 = c .before .before .before in
+    let c4 = c3 .before in
+    let c9 = c4 .before .before .before .before .before in
+    wanted-done (c9 .args .s) ((c3 .put-parts .ensures .2) ∙ (c4 .parts-of .ensures)) ((c .irq-wanted .ensures) _)
 
 pub irq-wanted-spec : {M : Type 1} → statement M
 irq-wanted-spec =
-    tie.close (tie.spec parts-of-requires put-parts-requires irq-wanted-requires returns)
+    tie.close (tie.spec (λ c κs. search needs) (λ c κs. search needs) (λ c κs. search needs) returns)

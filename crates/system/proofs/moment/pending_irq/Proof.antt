@@ -4,18 +4,13 @@ use borrow.Author.Needs.{needs}
 use Rattle.system.proofs.moment.pending_irq.Statement.{statement}
 use Rattle.system.proofs.moment.pending_irq.Tie as tie
 
-parts-of-requires : tie.Need-parts-of-requires
-parts-of-requires c κs = search needs
-
-put-parts-requires : tie.Need-put-parts-requires
-put-parts-requires c κs = search needs
-
-pending-irq-requires : tie.Need-pending-irq-requires
-pending-irq-requires c κs = search needs
-
 returns : tie.Need-returns
-returns c = pending-done ((c .before .before .before .before .before .before .before .before .before .args .s)) ((c .before .before .before .put-parts .ensures .2) ∙ (c .before .before .before .before .parts-of .ensures)) ((c .pending-irq .ensures) _)
+returns c =
+    let c3 = c .before .before .before in
+    let c4 = c3 .before in
+    let c9 = c4 .before .before .before .before .before in
+    pending-done (c9 .args .s) ((c3 .put-parts .ensures .2) ∙ (c4 .parts-of .ensures)) ((c .pending-irq .ensures) _)
 
 pub pending-irq-spec : {M : Type 1} → statement M
 pending-irq-spec =
-    tie.close (tie.spec parts-of-requires put-parts-requires pending-irq-requires returns)
+    tie.close (tie.spec (λ c κs. search needs) (λ c κs. search needs) (λ c κs. search needs) returns)

@@ -4,31 +4,23 @@ use borrow.Author.Needs.{needs}
 use Rattle.system.proofs.moment.set_turbo.Statement.{statement}
 use Rattle.system.proofs.moment.set_turbo.Tie as tie
 
-parts-of-requires : tie.Need-parts-of-requires
-parts-of-requires c κs = search needs
-
-put-parts-requires : tie.Need-put-parts-requires
-put-parts-requires c κs = search needs
-
-set-turbo-requires : tie.Need-set-turbo-requires
-set-turbo-requires c κs = search needs
-
-parts-of-requires-2 : tie.Need-parts-of-requires-2
-parts-of-requires-2 c κs = search needs
-
-with-parts-requires : tie.Need-with-parts-requires
-with-parts-requires c κs = search needs
-
 returns : tie.Need-returns
-returns c = let a = (c .before .before .before .before .before .before .before .before .before .before .args) in rw ((c .with-parts .ensures), (c .before .parts-of2 .ensures)) (turbo-done (a .s) (a .to) ((c .before .before .before .before .before .before .put-parts .ensures .2) ∙ (c .before .before .before .before .before .before .before .parts-of .ensures)) ((c .before .before .before .before .set-turbo .ensures) _ .0))
+returns c =
+    let c1 = c .before in
+    let c4 = c1 .before .before .before in
+    let c6 = c4 .before .before in
+    let c7 = c6 .before in
+    let c10 = c7 .before .before .before in
+    let a = (c10 .args) in rw ((c .with-parts .ensures), (c1 .parts-of2 .ensures)) (turbo-done (a .s) (a .to)
+    ((c6 .put-parts .ensures .2) ∙ (c7 .parts-of .ensures)) ((c4 .set-turbo .ensures) _ .0))
 
 pub set-turbo-spec : {M : Type 1} → statement M
 set-turbo-spec =
     tie.close
     (tie.spec
-    parts-of-requires
-    put-parts-requires
-    set-turbo-requires
-    parts-of-requires-2
-    with-parts-requires
+    (λ c κs. search needs)
+    (λ c κs. search needs)
+    (λ c κs. search needs)
+    (λ c κs. search needs)
+    (λ c κs. search needs)
     returns)

@@ -4,31 +4,23 @@ use borrow.Author.Needs.{needs}
 use Rattle.system.proofs.moment.take_event.Statement.{statement}
 use Rattle.system.proofs.moment.take_event.Tie as tie
 
-parts-of-requires : tie.Need-parts-of-requires
-parts-of-requires c κs = search needs
-
-put-parts-requires : tie.Need-put-parts-requires
-put-parts-requires c κs = search needs
-
-take-event-requires : tie.Need-take-event-requires
-take-event-requires c κs = search needs
-
-parts-of-requires-2 : tie.Need-parts-of-requires-2
-parts-of-requires-2 c κs = search needs
-
-with-parts-requires : tie.Need-with-parts-requires
-with-parts-requires c κs = search needs
-
 returns : tie.Need-returns
-returns c = let a = (c .before .before .before .before .before .before .before .before .before .before .before .before .before .before .before .before .before .before .before .args) in rw ((c .with-parts .ensures), (c .before .before .parts-of2 .ensures)) (take-done (a .s) ((c .before .before .before .before .before .before .before .before .before .before .before .put-parts .ensures .2) ∙ (c .before .before .before .before .before .before .before .before .before .before .before .before .parts-of .ensures)) ((c .before .before .before .before .before .before .take-event .ensures) _ .0))
+returns c =
+    let c2 = c .before .before in
+    let c6 = c2 .before .before .before .before in
+    let c11 = c6 .before .before .before .before .before in
+    let c12 = c11 .before in
+    let c19 = c12 .before .before .before .before .before .before .before in
+    let a = (c19 .args) in rw ((c .with-parts .ensures), (c2 .parts-of2 .ensures)) (take-done (a .s)
+    ((c11 .put-parts .ensures .2) ∙ (c12 .parts-of .ensures)) ((c6 .take-event .ensures) _ .0))
 
 pub take-event-spec : {M : Type 1} → statement M
 take-event-spec =
     tie.close
     (tie.spec
-    parts-of-requires
-    put-parts-requires
-    take-event-requires
-    parts-of-requires-2
-    with-parts-requires
+    (λ c κs. search needs)
+    (λ c κs. search needs)
+    (λ c κs. search needs)
+    (λ c κs. search needs)
+    (λ c κs. search needs)
     returns)

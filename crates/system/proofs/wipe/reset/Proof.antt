@@ -7,39 +7,29 @@ use Rattle.system.proofs.wipe.reset.Statement.{statement}
 use Rattle.system.proofs.wipe.reset.Tie as tie
 use Rattle.registers.proofs.clear.Reads as clear-reads′
 
-clear-requires : tie.Need-clear-requires
-clear-requires c κs = search needs
-
-fresh-requires : tie.Need-fresh-requires
-fresh-requires c κs = search needs
-
-made-requires : tie.Need-made-requires
-made-requires c κs = search needs
-
-empty-in-requires : tie.Need-empty-in-requires
-empty-in-requires c κs = search needs
-
-clear-requires-2 : tie.Need-clear-requires-2
-clear-requires-2 c κs = search needs
-
-fresh-parts-requires : tie.Need-fresh-parts-requires
-fresh-parts-requires c κs = search needs
-
-put-parts-requires : tie.Need-put-parts-requires
-put-parts-requires c κs = search needs
-
 returns : tie.Need-returns
-returns c = (state-fresh ((c .before .before .before .before .before .before .before .before .before .before .before .made .result)) ((c .before .before .before .before .before .before .before .before .before .before .before .before .before .before .before .clear .ensures)) ((c .before .before .before .before .before .before .before .before .before .before .before .before .before .before .fresh .ensures)) ((c .before .before .before .before .before .before .before .before .before .before .before .made .ensures)) ((c .before .before .before .before .before .before .before .empty-in .ensures)) ((c .before .before .before .before .clear2 .ensures)) ((c .put-parts .ensures .2) ∙ (c .before .fresh-parts .ensures)), (c .put-parts .ensures .0) ∙ ap (λ (x : Parts). cellsOf x) ((c .before .fresh-parts .ensures)), (c .put-parts .ensures .1) ∙ ap (λ (x : Parts). floatsOf x) ((c .before .fresh-parts .ensures)))
+returns c =
+    let c1 = c .before in
+    let c4 = c1 .before .before .before in
+    let c7 = c4 .before .before .before in
+    let c11 = c7 .before .before .before .before in
+    let c14 = c11 .before .before .before in
+    let c15 = c14 .before in (
+      state-fresh (c11 .made .result) (c15 .clear .ensures) (c14 .fresh .ensures) (c11 .made .ensures)
+          (c7 .empty-in .ensures) (c4 .clear2 .ensures) ((c .put-parts .ensures .2) ∙ (c1 .fresh-parts .ensures)),
+      (c .put-parts .ensures .0) ∙ ap (λ (x : Parts). cellsOf x) (c1 .fresh-parts .ensures),
+      (c .put-parts .ensures .1) ∙ ap (λ (x : Parts). floatsOf x) (c1 .fresh-parts .ensures),
+    )
 
 pub reset-spec : {M : Type 1} → statement M
 reset-spec =
     tie.close
     (tie.spec
-    clear-requires
-    fresh-requires
-    made-requires
-    empty-in-requires
-    clear-requires-2
-    fresh-parts-requires
-    put-parts-requires
+    (λ c κs. search needs)
+    (λ c κs. search needs)
+    (λ c κs. search needs)
+    (λ c κs. search needs)
+    (λ c κs. search needs)
+    (λ c κs. search needs)
+    (λ c κs. search needs)
     returns)

@@ -3,47 +3,32 @@ use borrow.Author.Needs.{needs}
 use Rattle.system.proofs.wipe.wipe_all.Statement.{statement}
 use Rattle.system.proofs.wipe.wipe_all.Tie as tie
 
-clear-requires : tie.Need-clear-requires
-clear-requires c κs = search needs
-
-clear-requires-2 : tie.Need-clear-requires-2
-clear-requires-2 c κs = search needs
-
-clear-requires-3 : tie.Need-clear-requires-3
-clear-requires-3 c κs = search needs
-
-clear-requires-4 : tie.Need-clear-requires-4
-clear-requires-4 c κs = search needs
-
-reset-requires : tie.Need-reset-requires
-reset-requires c κs = search needs
-
-same-length : tie.Need-same-length
-same-length c = search needs
-
-same-length-2 : tie.Need-same-length-2
-same-length-2 c = search needs
-
-same-length-3 : tie.Need-same-length-3
-same-length-3 c = search needs
-
-same-length-4 : tie.Need-same-length-4
-same-length-4 c = search needs
-
 returns : tie.Need-returns
-returns c = let a = (c .before .before .before .before .before .before .before .before .before .before .before .before .before .before .before .before .before .before .before .before .before .before .before .before .before .before .before .before .before .before .before .before .before .args) in (wiped-by (a .ram .now) (a .sram .now) (a .gpio .now) (a .fb .now) ((c .before .before .before .before .before .before .before .before .before .before .before .before .before .before .before .before .before .before .before .before .before .before .before .before .before .before .before .clear .ensures)) ((c .before .before .before .before .before .before .before .before .before .before .before .before .before .before .before .before .before .before .before .before .before .before .before .clear2 .ensures)) ((c .before .before .before .before .before .before .before .before .before .before .before .before .before .before .before .before .before .before .before .clear3 .ensures)) ((c .before .before .before .before .before .before .before .before .before .before .before .before .before .before .before .clear4 .ensures)) ((c .reset .ensures .0)), (c .reset .ensures .1), (c .reset .ensures .2))
+returns c =
+    let c15 = c .before .before .before .before .before .before .before .before .before .before .before .before
+    .before .before .before in
+    let c19 = c15 .before .before .before .before in
+    let c23 = c19 .before .before .before .before in
+    let c27 = c23 .before .before .before .before in
+    let c33 = c27 .before .before .before .before .before .before in
+    let a = (c33 .args) in (
+      wiped-by (a .ram .now) (a .sram .now) (a .gpio .now) (a .fb .now) (c27 .clear .ensures)
+          (c23 .clear2 .ensures) (c19 .clear3 .ensures) (c15 .clear4 .ensures) (c .reset .ensures .0),
+      (c .reset .ensures .1),
+      (c .reset .ensures .2),
+    )
 
 pub wipe-all-spec : {M : Type 1} → statement M
 wipe-all-spec =
     tie.close
     (tie.spec
-    clear-requires
-    clear-requires-2
-    clear-requires-3
-    clear-requires-4
-    reset-requires
-    same-length
-    same-length-2
-    same-length-3
-    same-length-4
+    (λ c κs. search needs)
+    (λ c κs. search needs)
+    (λ c κs. search needs)
+    (λ c κs. search needs)
+    (λ c κs. search needs)
+    (λ c. search needs)
+    (λ c. search needs)
+    (λ c. search needs)
+    (λ c. search needs)
     returns)

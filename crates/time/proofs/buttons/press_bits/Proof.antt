@@ -1,34 +1,53 @@
-use Rattle.time.proofs.Asks.{press-of}
+use Rattle.time.proofs.Asks.{press-of, count-still}
+use Rattle.state.proofs.Packs.{done-answered, none-put}
+use mathlib.Core.Path.{_∙_}
 use lib.Ieee.{binary64, ofBits}
 use borrow.Author.Needs.{needs}
 use Rattle.time.proofs.buttons.press_bits.Statement.{statement}
 use Rattle.time.proofs.buttons.press_bits.Tie as tie
 
-times-of-requires : tie.Need-times-of-requires
-times-of-requires c κs = search needs
-
-keys-of-requires : tie.Need-keys-of-requires
-keys-of-requires c κs = search needs
-
-press-bits-requires : tie.Need-press-bits-requires
-press-bits-requires c κs = search needs
-
-put-count-requires : tie.Need-put-count-requires
-put-count-requires c κs = search needs
-
-key-number-requires : tie.Need-key-number-requires
-key-number-requires c κs = search needs
-
 returns : tie.Need-returns
-returns c = let a = (c .before .before .before .before .before .before .before .before .before .args) in (press-of (a .times .now) (a .codes .now) (a .cells .now) (a .floats .now) (a .key) (ofBits binary64 (a .bits)) ((c .before .before .before .before .before .before .before .before .times-of .ensures)) ((c .before .before .before .before .before .before .keys-of .ensures)) ((c .before .before .before .press-bits .ensures)) ((c .before .put-count .ensures) _ .parts) ((c .key-number .ensures)), (c .before .put-count .ensures) _ .kept)
+returns c =
+    let c1 = c .before in
+    let c2 = c1 .before in
+    let c5 = c2 .before .before .before in
+    let c7 = c5 .before .before in
+    let c8 = c7 .before in
+    let a = (c8 .args) in
+    let kept = count-still (a .times .now) (a .codes .now) (a .cells .now) (a .floats .now) (a .key) (ofBits
+    binary64 (a .bits)) _ (c5 .keys-of .ensures) (c2 .press-bits .ensures)
+    (λ z. (c .if1 .taken) ((c1 .key-number .ensures) ∙ z))
+    in (
+      press-of (a .times .now) (a .codes .now) (a .cells .now) (a .floats .now) (a .key) (ofBits binary64 (a .bits))
+          (c7 .times-of .ensures) (c5 .keys-of .ensures)
+          (c2 .press-bits .ensures) kept (c1 .key-number .ensures),
+      none-put,
+    )
+
+returns-2 : tie.Need-returns-2
+returns-2 c =
+    let c2 = c .before .before in
+    let c3 = c2 .before in
+    let c4 = c3 .before in
+    let c7 = c4 .before .before .before in
+    let c9 = c7 .before .before in
+    let c10 = c9 .before in
+    let a = (c10 .args) in (
+      press-of (a .times .now) (a .codes .now) (a .cells .now) (a .floats .now) (a .key) (ofBits binary64 (a .bits))
+          (c9 .times-of .ensures) (c7 .keys-of .ensures)
+          (c4 .press-bits .ensures) ((c .put-count .ensures) _ .parts) (c3 .key-number .ensures),
+      done-answered
+          (c2 .if1 .left) ((c .put-count .ensures) _ .kept),
+    )
 
 pub press-bits-spec : {M : Type 1} → statement M
 press-bits-spec =
     tie.close
     (tie.spec
-    times-of-requires
-    keys-of-requires
-    press-bits-requires
-    put-count-requires
-    key-number-requires
-    returns)
+    (λ c κs. search needs)
+    (λ c κs. search needs)
+    (λ c κs. search needs)
+    (λ c κs. search needs)
+    returns
+    (λ c κs. search needs)
+    returns-2)

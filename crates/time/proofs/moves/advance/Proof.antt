@@ -4,21 +4,21 @@ use borrow.Author.Needs.{needs}
 use Rattle.time.proofs.moves.advance.Statement.{statement}
 use Rattle.time.proofs.moves.advance.Tie as tie
 
-times-of-requires : tie.Need-times-of-requires
-times-of-requires c κs = search needs
-
-advance-requires : tie.Need-advance-requires
-advance-requires c κs = search needs
-
-go-requires : tie.Need-go-requires
-go-requires c κs = search needs
-
-same-length : tie.Need-same-length
-same-length c = search needs
-
 returns : tie.Need-returns
-returns c = let a = (c .before .before .before .before .before .before .before .before .before .before .before .before .args) in let x = partsIn (a .cells .now) (a .floats .now) in (goes-by (a .own .now) (a .gpio .now) (a .times .now) (a .codes .now) x (a .sram .now) ((c .before .before .before .before .before .before .before .advance .result)) (a .to) ((c .before .before .before .before .before .before .before .before .times-of .ensures)) ((c .before .before .before .before .before .before .before .advance .ensures)) ((c .before .before .go .ensures .0)), (c .before .before .go .ensures .1))
+returns c =
+    let c2 = c .before .before in
+    let c7 = c2 .before .before .before .before .before in
+    let c8 = c7 .before in
+    let c12 = c8 .before .before .before .before in
+    let a = (c12 .args) in
+    let x = partsIn (a .cells .now) (a .floats .now) in (
+      goes-by (a .own .now) (a .gpio .now) (a .times .now)
+          (a .codes .now) x (a .sram .now) (c7 .advance .result) (a .to) (c8 .times-of .ensures) (c7 .advance .ensures)
+          (c2 .go .ensures .0),
+      (c2 .go .ensures .1),
+    )
 
 pub advance-spec : {M : Type 1} → statement M
 advance-spec =
-    tie.close (tie.spec times-of-requires advance-requires go-requires same-length returns)
+    tie.close (tie.spec (λ c κs. search needs) (λ c κs. search needs) (λ c κs. search needs) (λ c. search needs)
+    returns)

@@ -4,35 +4,30 @@ use borrow.Author.Needs.{needs}
 use Rattle.time.proofs.moves.move_to.Statement.{statement}
 use Rattle.time.proofs.moves.move_to.Tie as tie
 
-devices-advance-requires : tie.Need-devices-advance-requires
-devices-advance-requires c κs = search needs
-
-keys-of-requires : tie.Need-keys-of-requires
-keys-of-requires c κs = search needs
-
-keys-held-requires : tie.Need-keys-held-requires
-keys-held-requires c κs = search needs
-
-sync-gpio-requires : tie.Need-sync-gpio-requires
-sync-gpio-requires c κs = search needs
-
-put-applied-requires : tie.Need-put-applied-requires
-put-applied-requires c κs = search needs
-
-same-length : tie.Need-same-length
-same-length c = search needs
-
 returns : tie.Need-returns
-returns c = let a = (c .before .before .before .before .before .before .before .before .before .before .before .before .before .before .before .args) in let x = partsIn (a .cells .now) (a .floats .now) in (moved-went (a .own .now) (a .gpio .now) (a .times .now) (a .codes .now) x (a .clock) (a .t) ((c .before .before .before .before .before .before .before .before .before .before .devices-advance .ensures .0)) ((c .before .before .before .before .before .before .before .keys-of .ensures)) ((c .before .before .before .before .before .before .keys-held .ensures)) ((c .before .before .before .before .sync-gpio .ensures)) ((c .put-applied .ensures) _ .parts), λ k. (c .put-applied .ensures) _ .kept ((c .before .before .before .before .before .before .before .before .before .before .devices-advance .ensures .1) k))
+returns c =
+    let c4 = c .before .before .before .before in
+    let c6 = c4 .before .before in
+    let c7 = c6 .before in
+    let c10 = c7 .before .before .before in
+    let c15 = c10 .before .before .before .before .before in
+    let a = (c15 .args) in
+    let x = partsIn (a .cells .now) (a .floats .now) in (
+      moved-went (a .own .now) (a .gpio .now) (a .times .now)
+          (a .codes .now) x (a .clock) (a .t) (c10 .devices-advance .ensures .0) (c7 .keys-of .ensures)
+          (c6 .keys-held .ensures) (c4 .sync-gpio .ensures) ((c .put-applied .ensures) _ .parts),
+      λ k.
+          (c .put-applied .ensures) _ .kept ((c10 .devices-advance .ensures .1) k),
+    )
 
 pub move-to-spec : {M : Type 1} → statement M
 move-to-spec =
     tie.close
     (tie.spec
-    devices-advance-requires
-    keys-of-requires
-    keys-held-requires
-    sync-gpio-requires
-    put-applied-requires
-    same-length
+    (λ c κs. search needs)
+    (λ c κs. search needs)
+    (λ c κs. search needs)
+    (λ c κs. search needs)
+    (λ c κs. search needs)
+    (λ c. search needs)
     returns)

@@ -4,31 +4,27 @@ use borrow.Author.Needs.{needs}
 use Rattle.time.proofs.moves.rtc_irq_advance.Statement.{statement}
 use Rattle.time.proofs.moves.rtc_irq_advance.Tie as tie
 
-own-reg-requires : tie.Need-own-reg-requires
-own-reg-requires c κs = search needs
-
-irq-of-requires : tie.Need-irq-of-requires
-irq-of-requires c κs = search needs
-
-rtc-irq-advance-requires : tie.Need-rtc-irq-advance-requires
-rtc-irq-advance-requires c κs = search needs
-
-own-insert-requires : tie.Need-own-insert-requires
-own-insert-requires c κs = search needs
-
-put-irq-requires : tie.Need-put-irq-requires
-put-irq-requires c κs = search needs
-
 returns : tie.Need-returns
-returns c = let a = (c .before .before .before .before .before .before .before .before .before .before .before .args) in let x = partsIn (a .cells .now) (a .floats .now) in (irq-went (a .own .now) x (a .game) ((c .before .before .before .before .before .before .before .before .before .own-reg .ensures)) ((c .before .before .before .before .before .before .irq-of .ensures)) ((c .before .before .before .before .before .rtc-irq-advance .ensures)) ((c .before .before .before .own-insert .ensures)) ((c .put-irq .ensures .parts)), (c .put-irq .ensures .kept))
+returns c =
+    let c3 = c .before .before .before in
+    let c5 = c3 .before .before in
+    let c6 = c5 .before in
+    let c9 = c6 .before .before .before in
+    let c11 = c9 .before .before in
+    let a = (c11 .args) in
+    let x = partsIn (a .cells .now) (a .floats .now) in (
+      irq-went (a .own .now) x (a .game) (c9 .own-reg .ensures)
+          (c6 .irq-of .ensures) (c5 .rtc-irq-advance .ensures) (c3 .own-insert .ensures) (c .put-irq .ensures .parts),
+      (c .put-irq .ensures .kept),
+    )
 
 pub rtc-irq-advance-spec : {M : Type 1} → statement M
 rtc-irq-advance-spec =
     tie.close
     (tie.spec
-    own-reg-requires
-    irq-of-requires
-    rtc-irq-advance-requires
-    own-insert-requires
-    put-irq-requires
+    (λ c κs. search needs)
+    (λ c κs. search needs)
+    (λ c κs. search needs)
+    (λ c κs. search needs)
+    (λ c κs. search needs)
     returns)

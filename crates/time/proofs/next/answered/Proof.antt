@@ -3,9 +3,6 @@ use borrow.Author.Needs.{needs}
 use Rattle.time.proofs.next.answered.Statement.{statement}
 use Rattle.time.proofs.next.answered.Tie as tie
 
-finite-requires : tie.Need-finite-requires
-finite-requires c κs = search needs
-
 returns : tie.Need-returns
 returns c = answers-time _ _ (c .before .finite .ensures) (c .if1 .taken)
 
@@ -13,4 +10,4 @@ returns-2 : tie.Need-returns-2
 returns-2 c = answers-none _ _ (c .before .finite .ensures) (c .if1 .left)
 
 pub answered-spec : {M : Type 1} → statement M
-answered-spec = tie.close (tie.spec finite-requires returns returns-2)
+answered-spec = tie.close (tie.spec (λ c κs. search needs) returns returns-2)

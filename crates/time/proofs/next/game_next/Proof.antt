@@ -3,12 +3,9 @@ use borrow.Author.Needs.{needs}
 use Rattle.time.proofs.next.game_next.Statement.{statement}
 use Rattle.time.proofs.next.game_next.Tie as tie
 
-one-more-requires : tie.Need-one-more-requires
-one-more-requires c κs = search needs
-
 returns : tie.Need-returns
 unfolding gameNext
 returns c = rw (c .before .before .before .one-more .ensures)
 
 pub game-next-spec : {M : Type 1} → statement M
-game-next-spec = tie.close (tie.spec one-more-requires returns)
+game-next-spec = tie.close (tie.spec (λ c κs. search needs) returns)

@@ -2,14 +2,8 @@ use borrow.Author.Needs.{needs}
 use Rattle.time.proofs.next.one_more.Statement.{statement}
 use Rattle.time.proofs.next.one_more.Tie as tie
 
-wrapping-add-u64-requires : tie.Need-wrapping-add-u64-requires
-wrapping-add-u64-requires c κs = search needs
-
-nearest-u64-to-f64-requires : tie.Need-nearest-u64-to-f64-requires
-nearest-u64-to-f64-requires c κs = search needs
-
 returns : tie.Need-returns
 returns c = rw (c .nearest-u64-to-f64 .ensures, c .before .wrapping-add-u64 .ensures)
 
 pub one-more-spec : {M : Type 1} → statement M
-one-more-spec = tie.close (tie.spec wrapping-add-u64-requires nearest-u64-to-f64-requires returns)
+one-more-spec = tie.close (tie.spec (λ c κs. search needs) (λ c κs. search needs) returns)

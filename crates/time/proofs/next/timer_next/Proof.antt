@@ -7,23 +7,19 @@ use borrow.Author.Needs.{needs}
 use Rattle.time.proofs.next.timer_next.Statement.{statement}
 use Rattle.time.proofs.next.timer_next.Tie as tie
 
-one-more-requires : tie.Need-one-more-requires
-one-more-requires c κs = search needs
-
-period-requires : tie.Need-period-requires
-period-requires c κs = search needs
-
 int-to-float-p : tie.Need-int-to-float-p
 unfolding inFloat
-int-to-float-p c = le→leb ((c .before .period .result)) (2 ^ 53) (omega arith)
-
-rate-requires : tie.Need-rate-requires
-rate-requires c κs = search needs
+int-to-float-p c = le→leb (c .before .period .result) (2 ^ 53) (omega arith)
 
 returns : tie.Need-returns
 unfolding timerNext
-returns c = rw (c .before .before .before .before .one-more .ensures, c .before .before .before .period .ensures, c .before .rate .ensures)
+returns c = rw (
+  c .before .before .before .before .one-more .ensures,
+  c .before .before .before .period .ensures,
+  c
+      .before .rate .ensures,
+)
 
 pub timer-next-spec : {M : Type 1} → statement M
 timer-next-spec =
-    tie.close (tie.spec one-more-requires period-requires int-to-float-p rate-requires returns)
+    tie.close (tie.spec (λ c κs. search needs) (λ c κs. search needs) int-to-float-p (λ c κs. search needs) returns)

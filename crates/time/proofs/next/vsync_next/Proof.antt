@@ -3,12 +3,9 @@ use borrow.Author.Needs.{needs}
 use Rattle.time.proofs.next.vsync_next.Statement.{statement}
 use Rattle.time.proofs.next.vsync_next.Tie as tie
 
-one-more-requires : tie.Need-one-more-requires
-one-more-requires c κs = search needs
-
 returns : tie.Need-returns
 unfolding vsyncNext
 returns c = rw (c .one-more .ensures)
 
 pub vsync-next-spec : {M : Type 1} → statement M
-vsync-next-spec = tie.close (tie.spec one-more-requires returns)
+vsync-next-spec = tie.close (tie.spec (λ c κs. search needs) returns)

@@ -4,17 +4,13 @@ use borrow.Author.Needs.{needs}
 use Rattle.time.proofs.pace.set_turbo.Statement.{statement}
 use Rattle.time.proofs.pace.set_turbo.Tie as tie
 
-times-of-requires : tie.Need-times-of-requires
-times-of-requires c κs = search needs
-
-set-turbo-requires : tie.Need-set-turbo-requires
-set-turbo-requires c κs = search needs
-
-pace-requires : tie.Need-pace-requires
-pace-requires c κs = search needs
-
 returns : tie.Need-returns
-returns c = λ l. paced-of (partsIn l ((c .before .before .before .before .before .args .floats .now))) ((c .before .before .before .before .before .args .floats .now)) ((c .before .before .before .before .before .args .to)) ((c .before .before .before .times-of .ensures)) ((c .before .before .set-turbo .ensures)) ((c .pace .ensures) l)
+returns c = λ l.
+    let c2 = c .before .before in
+    let c3 = c2 .before in
+    let c5 = c3 .before .before in
+    paced-of (partsIn l (c5 .args .floats .now)) (c5 .args .floats .now) (c5 .args .to) (c3 .times-of .ensures)
+    (c2 .set-turbo .ensures) ((c .pace .ensures) l)
 
 pub set-turbo-spec : {M : Type 1} → statement M
-set-turbo-spec = tie.close (tie.spec times-of-requires set-turbo-requires pace-requires returns)
+set-turbo-spec = tie.close (tie.spec (λ c κs. search needs) (λ c κs. search needs) (λ c κs. search needs) returns)

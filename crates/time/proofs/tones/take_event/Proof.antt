@@ -1,24 +1,49 @@
-use Rattle.time.proofs.Asks.{take-of}
+use mathlib.Core.Path.{_∙_}
+use Rattle.time.proofs.Asks.{take-of, ring-still}
+use Rattle.state.proofs.Packs.{done-answered, none-put}
 use borrow.Author.Needs.{needs}
 use Rattle.time.proofs.tones.take_event.Statement.{statement}
 use Rattle.time.proofs.tones.take_event.Tie as tie
 
-ring-of-requires : tie.Need-ring-of-requires
-ring-of-requires c κs = search needs
-
-take-from-requires : tie.Need-take-from-requires
-take-from-requires c κs = search needs
-
-put-ring-requires : tie.Need-put-ring-requires
-put-ring-requires c κs = search needs
-
-event-number-requires : tie.Need-event-number-requires
-event-number-requires c κs = search needs
-
 returns : tie.Need-returns
-returns c = λ f. let a = (c .before .before .before .before .before .before .before .before .before .before .args) in (take-of (a .at .now) (a .frequencies .now) (a .duties .now) (a .cells .now) f ((c .before .before .before .before .before .before .before .before .ring-of .ensures)) ((c .before .before .before .before .take-from .ensures)) ((c .before .before .put-ring .ensures) f .parts) ((c .event-number .ensures)), (c .before .before .put-ring .ensures) f .kept)
+returns c = λ f.
+    let c1 = c .before in
+    let c3 = c1 .before .before in
+    let c7 = c3 .before .before .before .before in
+    let c9 = c7 .before .before in
+    let a = (c9 .args) in
+    let kept = ring-still (a .at .now) (a .frequencies .now) (a .duties .now) (a .cells .now) f
+    (c7 .ring-of .ensures) (c3 .take-from .ensures)
+    (λ z. (c .if1 .taken) ((c1 .event-number .ensures) ∙ z))
+    in (
+      take-of (a .at .now) (a .frequencies .now) (a .duties .now) (a .cells .now) f (c7 .ring-of .ensures)
+          (c3 .take-from .ensures) kept
+          (c1 .event-number .ensures),
+      none-put,
+    )
+
+returns-2 : tie.Need-returns-2
+returns-2 c = λ f.
+    let c2 = c .before .before in
+    let c3 = c2 .before in
+    let c5 = c3 .before .before in
+    let c9 = c5 .before .before .before .before in
+    let c11 = c9 .before .before in
+    let a = (c11 .args) in (
+      take-of (a .at .now) (a .frequencies .now) (a .duties .now) (a .cells .now) f (c9 .ring-of .ensures)
+          (c5 .take-from .ensures)
+          ((c .put-ring .ensures) f .parts) (c3 .event-number .ensures),
+      done-answered (c2 .if1 .left)
+          ((c .put-ring .ensures) f .kept),
+    )
 
 pub take-event-spec : {M : Type 1} → statement M
 take-event-spec =
     tie.close
-    (tie.spec ring-of-requires take-from-requires put-ring-requires event-number-requires returns)
+    (tie.spec
+    (λ c κs. search needs)
+    (λ c κs. search needs)
+    (λ c κs. search needs)
+    returns
+    (λ c κs. search needs)
+    returns-2)

@@ -12,14 +12,16 @@ use Rattle.timer.specs.Events.{cleared, placeOf, nought}
 use Rattle.timer.proofs.events.drop_from.Statement.{statement}
 use Rattle.timer.proofs.events.drop_from.Tie as tie
 
-one-more : (ring : Ring) (i place : ℕ) (before now : List Float) → now ≡ cleared ring i before → place ≡ placeOf ring i
+one-more : (ring : Ring) (i place : ℕ) (before now : List Float) → now ≡ cleared ring i before → place ≡ placeOf
+    ring i
     → set now place nought ≡ cleared ring (i + 1) before
 unfolding cleared
 one-more ring i place before now now-is place-is = rw (add-one i, now-is, place-is)
 
 abbrev Inv-loop : tie.InvT-loop
 Inv-loop times₀ frequencies₀ duties₀ ring n i₀ times frequencies duties i =
-    (i ≤ n) × (times ≡ cleared ring i times₀) × (frequencies ≡ cleared ring i frequencies₀) × (duties ≡ cleared ring i duties₀)
+    (i ≤ n) × (times ≡ cleared ring i times₀) × (frequencies ≡ cleared ring i frequencies₀) ×
+    (duties ≡ cleared ring i duties₀)
 
 abbrev μ-loop : tie.MeasureT-loop
 μ-loop times₀ frequencies₀ duties₀ ring n i₀ times frequencies duties i = n - i

@@ -5,11 +5,9 @@ use Rattle.whole.proofs.Good.{turbo-no-nan}
 use Rattle.whole.proofs.limits.turbo_of.Statement.{statement}
 use Rattle.whole.proofs.limits.turbo_of.Tie as tie
 
-turbo-bits-requires : tie.Need-turbo-bits-requires
-turbo-bits-requires c κs = search needs
-
 float-from-bits-t3 : tie.Need-float-from-bits-t3
-float-from-bits-t3 c = turbo-no-nan (c .before .before .args .bits) (sym (c .before .turbo-bits .ensures) ∙ (c .if1 .taken))
+float-from-bits-t3 c = turbo-no-nan (c .before .before .args .bits) (sym (c .before .turbo-bits .ensures) ∙
+    (c .if1 .taken))
 
 returns : tie.Need-returns
 unfolding checkedOf
@@ -20,4 +18,4 @@ unfolding checkedOf
 returns-2 c = rw (sym (c .before .turbo-bits .ensures) ∙ (c .if1 .left))
 
 pub turbo-of-spec : {M : Type 1} → statement M
-turbo-of-spec = tie.close (tie.spec turbo-bits-requires float-from-bits-t3 returns returns-2)
+turbo-of-spec = tie.close (tie.spec (λ c κs. search needs) float-from-bits-t3 returns returns-2)
