@@ -84,7 +84,7 @@ enum tg18_size {
 #define TG18_SCRIPT_BYTES(p, s) (8 + TG18_PRESS_BYTES * (size_t)(p) + TG18_STEP_BYTES * (size_t)(s))
 #define TG18_OUT_BYTES(p, s) (4 + TG18_ANSWER_BYTES * ((size_t)(p) + (size_t)(s)))
 
-/* Proved: for every input the slices and the answer are afterwards what crates/script/specs say. What is left on the caller's stack
+/* Proved: for every input the slices and the answer are afterwards what crates/runner/specs say. What is left on the caller's stack
  * and in registers is not spoken of, and bytes of the memories may be among it, also after a wipe. */
 uint32_t tg18_run_script(uint8_t *ram, size_t ram_len, uint8_t *sram, size_t sram_len, uint8_t *gpio, size_t gpio_len,
                          uint8_t *framebuffer, size_t framebuffer_len, const uint8_t *script, size_t script_len, uint8_t *out,

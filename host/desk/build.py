@@ -121,7 +121,7 @@ def make_archive(kit: Kit) -> None:
 
 
 def archive(kit: Kit) -> Made:
-    """rt proves crate script anew each time, which takes a minute and more; so it is asked only when something has changed."""
+    """rt proves crate script anew each time, which takes half a minute; so it is asked only when something has changed."""
     return Made(ARCHIVE, digest_of(kit, [ROOT / "crates.txt", *sorted((ROOT / "crates").rglob("*"))]))
 
 

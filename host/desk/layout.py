@@ -1,4 +1,4 @@
-"""The binary form of scripts and answers: crates/script/specs/Format.antt and Answers.antt."""
+"""The binary form of scripts and answers: crates/runner/specs/Format.antt and Answers.antt."""
 
 from __future__ import annotations
 

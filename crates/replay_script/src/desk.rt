@@ -41,7 +41,7 @@ pub(crate) fn run(
 ) -> Answer {
     let n = lent(length, script);
     let m = lent(room, out);
-    let refusal = script::run::run(ram, sram, gpio, fb, &script[..n], &mut out[..m]);
+    let refusal = runner::run::run(ram, sram, gpio, fb, &script[..n], &mut out[..m]);
     let count = memory::load(out, 0, 4);
     answered(refusal as u64, count as u64, digest(out))
 }

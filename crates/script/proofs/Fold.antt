@@ -13,13 +13,13 @@ use Rattle.memory.proofs.Stored.{store-length, byte-other, load-store}
 use Rattle.system.specs.System.{Machine, machine}
 use Rattle.system.specs.Steps.{Outcome, step, after, plainly}
 use Rattle.system.proofs.Unchanged.{refused-unchanged}
-use Rattle.script.specs.declared.Entry.{Entry}
-use Rattle.script.specs.Format.{pressesIn, entriesIn, badScript, entriesFrom, entriesOf}
-use Rattle.script.specs.Answers.{reply, inBits, replyOf, answerBytes, laid, laidAll}
-use Rattle.script.specs.Script.{turn, opOf, turnOf, Ran, ran, ranOf, Ended, ended, endOf, badMemory, outTooShort, startOf, runOf, scriptOf}
+use Rattle.runner.specs.declared.Entry.{Entry}
+use Rattle.runner.specs.Format.{pressesIn, entriesIn, badScript, entriesFrom, entriesOf}
+use Rattle.runner.specs.Answers.{reply, inBits, replyOf, answerBytes, laid, laidAll}
+use Rattle.runner.specs.Script.{turn, opOf, turnOf, Ran, ran, ranOf, Ended, ended, endOf, badMemory, outTooShort, startOf, runOf, scriptOf}
 use Rattle.script.specs.Fold.{Accepted, start, opsOf, repliesOf, answered, counted, answerAt, fitted}
-use Rattle.script.proofs.Turns.{no-bits}
-use Rattle.script.proofs.Runs.{few-entries}
+use Rattle.runner.proofs.Turns.{no-bits}
+use Rattle.runner.proofs.Runs.{few-entries}
 use Rattle.script.proofs.Laid.{laid-length, all-length, all-before, all-behind, all-first}
 
 -- ---- entries in turn

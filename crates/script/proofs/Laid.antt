@@ -7,18 +7,15 @@ use native.Mathlib.Omega.{arith}
 use lib.ListN.{length, getD}
 use Rattle.memory.specs.Bytes.{loaded, storedAt}
 use Rattle.memory.proofs.Stored.{store-length, byte-other, load-other, load-store}
-use Rattle.script.specs.declared.Answer.{Answer}
-use Rattle.script.specs.Format.{wide}
-use Rattle.script.specs.Answers.{answerBytes, storedWide, laid, laidAll}
+use Rattle.runner.specs.declared.Answer.{Answer}
+use Rattle.runner.specs.Format.{wide}
+use Rattle.runner.specs.Answers.{answerBytes, storedWide, laid, laidAll}
+use Rattle.runner.proofs.Inside.{wide-length}
 use Rattle.script.specs.Fold.{answerAt, fitted}
 
 -- ---- eight bytes
 
 module _ (l : List ℕ) (o v : ℕ) where
-  pub wide-length : length (storedWide l o v) ≡ length l
-  unfolding storedWide
-  wide-length = store-length (storedAt l o 4 (v % 2 ^ 32)) (o + 4) 4 (v / 2 ^ 32) ∙ store-length l o 4 (v % 2 ^ 32)
-
   -- what lies before
   load-before : (p k : ℕ) → p + k ≤ o → loaded (storedWide l o v) p k ≡ loaded l p k
   unfolding storedWide

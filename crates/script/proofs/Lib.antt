@@ -1,8 +1,5 @@
--- What each entry does, laws of the loops and of the output, and the theorems.
-pub mod Turns
-pub mod Runs
+-- What the output holds, and the theorems.
 pub mod Laid
-pub mod Inside
 pub mod Fold
 pub mod Wiped
 pub mod Within

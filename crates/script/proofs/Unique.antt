@@ -3,7 +3,7 @@ use Prim.Native.Nat.{ℕ}
 use mathlib.Core.Path.{_≡_, ap}
 use mathlib.Core.List.{List}
 use Rattle.whole.proofs.Unique.{unique}
-use Rattle.script.specs.Script.{Ended, ended}
+use Rattle.runner.specs.Script.{Ended, ended}
 
 -- of tg18_run_script and of run::run
 pub one-run : (d : Ended) (i j : ℕ) (m n r q g h f b l k : List ℕ) → ended i m r g f l ≡ d → ended j n q h b k ≡ d

@@ -11,10 +11,10 @@ use Rattle.system.specs.System.{Machine}
 use Rattle.system.specs.Steps.{Op, wipe, step, after}
 use Rattle.system.specs.Lengths.{SameLengths}
 use Rattle.system.proofs.Wiped.{wipe-after}
-use Rattle.script.specs.declared.Entry.{Entry}
-use Rattle.script.specs.Format.{entriesOf}
-use Rattle.script.specs.Answers.{inBits, replyOf, answerBytes}
-use Rattle.script.specs.Script.{opOf, Ended, badMemory, scriptOf}
+use Rattle.runner.specs.declared.Entry.{Entry}
+use Rattle.runner.specs.Format.{entriesOf}
+use Rattle.runner.specs.Answers.{inBits, replyOf, answerBytes}
+use Rattle.runner.specs.Script.{opOf, Ended, badMemory, scriptOf}
 use Rattle.script.specs.Fold.{Accepted, start, opsOf, answerAt, fitted}
 use Rattle.script.proofs.Fold.{script-folds, each-answer}
 

@@ -10,9 +10,9 @@ use Rattle.system.specs.Refusals.{refusalOf}
 use Rattle.system.proofs.Kept.{fresh-limits}
 use Rattle.system.proofs.Limits.{after-limits}
 use Rattle.system.proofs.Refusals.{refused-in-order}
-use Rattle.script.specs.declared.Entry.{Entry}
-use Rattle.script.specs.Answers.{inBits, replyOf}
-use Rattle.script.specs.Script.{opOf, turnOf}
+use Rattle.runner.specs.declared.Entry.{Entry}
+use Rattle.runner.specs.Answers.{inBits, replyOf}
+use Rattle.runner.specs.Script.{opOf, turnOf}
 use Rattle.script.specs.Fold.{start, opsOf}
 
 -- the limits are of the state alone, so whatever memories are lent

@@ -6,11 +6,11 @@ use mathlib.Core.List.{List, [], _∷_}
 use Rattle.memory.specs.Bytes.{loaded, storedAt}
 use Rattle.system.specs.System.{Machine, machine, freshSystem}
 use Rattle.system.specs.Steps.{Op}
-use Rattle.script.specs.declared.Entry.{Entry}
-use Rattle.script.specs.declared.Answer.{Answer}
-use Rattle.script.specs.Format.{wide, entriesIn, entriesOf, badScript}
-use Rattle.script.specs.Answers.{reply}
-use Rattle.script.specs.Script.{opOf, turnOf, badMemory, outTooShort}
+use Rattle.runner.specs.declared.Entry.{Entry}
+use Rattle.runner.specs.declared.Answer.{Answer}
+use Rattle.runner.specs.Format.{wide, entriesIn, entriesOf, badScript}
+use Rattle.runner.specs.Answers.{reply}
+use Rattle.runner.specs.Script.{opOf, turnOf, badMemory, outTooShort}
 
 -- no refusal as a whole
 pub record Accepted (m r g f s l : List ℕ) : Type 0 where

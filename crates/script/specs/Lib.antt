@@ -1,5 +1,2 @@
--- What the crate's contracts cite, and what its theorems are stated with.
-pub mod Format
-pub mod Answers
-pub mod Script
+-- What the crate's theorems are stated with.
 pub mod Fold

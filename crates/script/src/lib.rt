@@ -1,29 +1,15 @@
-// Scripts: presses and steps over lent memories, from the fresh state. 01, Scripts.
+// Scripts for hosts: the entry for C over the four memories of a unit. 01, Scripts.
 //
-// A host calls tg18_run_script. A Rattle caller whose memories have other lengths calls run::run, which is the same but
-// for refusal 7.
-mod act;
-mod format;
-mod replies;
-pub mod run;
-
+// A Rattle caller whose memories have other lengths calls runner::run::run, which is the same but for refusal 7.
 ghost use mathlib.Core.Path.{_≡_};
-ghost use Rattle.script.specs.Script.{ended, scriptOf};
+ghost use Rattle.runner.specs.Script.{ended, badMemory, scriptOf};
 
-// A press or a step. A press has kind 0; its key is the address, the bits of its time the value.
-pub struct Entry {
-    pub kind: u32,
-    pub size: u32,
-    pub address: u32,
-    pub value: u64,
-}
-
-// 01's number, and three numbers; those that an entry does not answer are 0.
-pub struct Answer {
-    pub refusal: u8,
-    pub a: u64,
-    pub b: u64,
-    pub c: u64,
+// 7: a memory has not the length that a unit's has.
+fn bad_memory(ram: &[u8], sram: &[u8], gpio: &[u8], fb: &[u8]) -> bool
+    ensures { λ r. ⌜ r ≡ badMemory (now (ram .entry)) (now (sram .entry)) (now (gpio .entry)) (now (fb .entry)) ⌝ }
+{
+    (ram.len() != 16777216)
+        | ((sram.len() != 1048576) | ((gpio.len() != 4096) | (fb.len() != 32768)))
 }
 
 // Runs a script over the lent memories as they come, and says by 01's number whether it was refused as a whole.
@@ -39,8 +25,8 @@ pub extern "C" fn tg18_run_script(
     ensures { λ r. ⌜ ended r (now (ram .exit)) (now (sram .exit)) (now (gpio .exit)) (now (framebuffer .exit)) (now (out .exit))
         ≡ scriptOf (now (ram .entry)) (now (sram .entry)) (now (gpio .entry)) (now (framebuffer .entry)) (now (script .entry)) (now (out .entry)) ⌝ }
 {
-    if run::bad_memory(ram, sram, gpio, framebuffer) {
+    if bad_memory(ram, sram, gpio, framebuffer) {
         return 7;
     }
-    run::run(ram, sram, gpio, framebuffer, script, out)
+    runner::run::run(ram, sram, gpio, framebuffer, script, out)
 }

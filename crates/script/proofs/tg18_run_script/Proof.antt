@@ -1,4 +1,4 @@
-use Rattle.script.proofs.Runs.{script-bad, script-run}
+use Rattle.runner.proofs.Runs.{script-bad, script-run}
 use borrow.Author.Needs.{needs}
 use Rattle.script.proofs.tg18_run_script.Statement.{statement}
 use Rattle.script.proofs.tg18_run_script.Tie as tie

@@ -1,0 +1,109 @@
+use mathlib.Core.Path.{_∙_}
+use native.Mathlib.Omega.{arith}
+use Rattle.runner.proofs.Runs.{few-presses, few, long, known, run-bad, run-short, run-done}
+use borrow.Author.Needs.{needs}
+use Rattle.runner.proofs.run.run.Statement.{statement}
+use Rattle.runner.proofs.run.run.Tie as tie
+
+returns : tie.Need-returns
+returns c = run-bad _ _ _ _ _ _ (c .before .bad-script .ensures) (c .if1 .taken)
+
+steps-requires : tie.Need-steps-requires
+steps-requires c κs = few-presses _ (c .before .before .bad-script .ensures) (c .before .if1 .left)
+    (c .presses .ensures)
+
+add-n : tie.Need-add-n
+add-n c = let f = few _ (c .before .before .before .bad-script .ensures) (c .before .before .if1 .left)
+    (c .before .presses .ensures) (c .steps .ensures) in omega arith
+
+mul-if2 : tie.Need-mul-if2
+mul-if2 c = let f = few _ (c .before .before .before .bad-script .ensures) (c .before .before .if1 .left)
+    (c .before .presses .ensures) (c .steps .ensures) in omega arith
+
+add-if2 : tie.Need-add-if2
+add-if2 c = let f = few _ (c .before .before .before .bad-script .ensures) (c .before .before .if1 .left)
+    (c .before .presses .ensures) (c .steps .ensures) in omega arith
+
+returns-2 : tie.Need-returns-2
+returns-2 c =
+    let c1 = c .before in
+    let c2 = c1 .before in
+    let c3 = c2 .before in
+    let c4 = c3 .before in
+    run-short _ _ _ _ _ _ (c4 .bad-script .ensures) (c3 .if1 .left) (c2 .presses .ensures) (c1 .steps .ensures)
+    (c .if2 .taken)
+
+cast-store : tie.Need-cast-store
+cast-store c = let f = few _ (c .before .before .before .before .before .bad-script .ensures)
+    (c .before .before .before .before .if1 .left) (c .before .before .before .presses .ensures)
+    (c .before .before .steps .ensures) in omega arith
+
+run-fresh-requires : tie.Need-run-fresh-requires
+run-fresh-requires c κs =
+    let f = few _ (c .before .before .before .before .before .before .before .before .before .before .before .before
+    .before .bad-script .ensures) (c .before .before .before .before .before .before .before .before .before .before
+    .before .before .if1 .left) (c .before .before .before .before .before .before .before .before .before .before
+    .before .presses .ensures) (c .before .before .before .before .before .before .before .before .before .before
+    .steps .ensures) in
+    let l = long _ (c .before .before .before .before .before .before .before .before .before .before .before
+    .before .before .bad-script .ensures) (c .before .before .before .before .before .before .before .before .before
+    .before .before .before .if1 .left) (c .before .before .before .before .before .before .before .before .before
+    .before .before .presses .ensures) (c .before .before .before .before .before .before .before .before .before
+    .before .steps .ensures) in
+    let k = known _ (c .before .before .before .before .before .before .before .before .before .before .before
+    .before .before .bad-script .ensures) (c .before .before .before .before .before .before .before .before .before
+    .before .before .before .if1 .left) (c .before .before .before .before .before .before .before .before .before
+    .before .before .presses .ensures) (c .before .before .before .before .before .before .before .before .before
+    .before .steps .ensures) in (
+      f .0,
+      omega (arith, f .1),
+      omega (arith, l),
+      omega (
+        arith,
+        (c .before .before .before .before .before .before
+            .before .before .before .if2 .left),
+        (c .before .before .before .before .before .before .before .store .kept
+            .0),
+      ),
+      k,
+    )
+
+same-length-5 : tie.Need-same-length-5
+same-length-5 c =
+    let c10 = c .before .before .before .before .before .before .before .before .before .before in
+    let c18 = c10 .before .before .before .before .before .before .before .before in
+    (c10 .run-fresh .kept .1 .1 .1 .1 .1 .1 .1 .0) ∙ (c18 .store .kept .0)
+
+returns-3 : tie.Need-returns-3
+returns-3 c =
+    let c10 = c .before .before .before .before .before .before .before .before .before .before in
+    let c18 = c10 .before .before .before .before .before .before .before .before in
+    let c20 = c18 .before .before in
+    let c21 = c20 .before in
+    let c22 = c21 .before in
+    let c23 = c22 .before in
+    let c24 = c23 .before in
+    run-done _ _ _ _ _ _ (c24 .bad-script .ensures) (c23 .if1 .left) (c22 .presses .ensures) (c21 .steps .ensures)
+    (c20 .if2 .left) (c18 .store .ensures) (c10 .run-fresh .ensures)
+
+pub run-spec : {M : Type 1} → statement M
+run-spec =
+    tie.close
+    (tie.spec
+    (λ c κs. search needs)
+    returns
+    (λ c κs. search needs)
+    steps-requires
+    add-n
+    mul-if2
+    add-if2
+    returns-2
+    cast-store
+    (λ c κs. search needs)
+    run-fresh-requires
+    (λ c. search needs)
+    (λ c. search needs)
+    (λ c. search needs)
+    (λ c. search needs)
+    same-length-5
+    returns-3)
