@@ -31,7 +31,6 @@ use Rattle.bus.specs.World.{Said, said, answer}
 use Rattle.bus.specs.Sounds.{timerSet, soundOf, sounding, soundWritten, timerWritten}
 use Rattle.bus.specs.Words.{controlAt, fieldAt, poweredBy, spiSent, adcAfter, adcWritten, daySet, wordWritten}
 use Rattle.bus.specs.Bank.{Only, Rest, wroteOf, toldOf}
-use Rattle.bus.proofs.Cases as cases
 
 -- ---- beside the devices
 

@@ -21,13 +21,11 @@ use Rattle.memory.specs.declared.Place.the-variants.{Ram, Sram, Gpio, Register,
 use Rattle.memory.specs.Places.{placeOf}
 use Rattle.memory.specs.Bytes.{loaded}
 use Rattle.memory.specs.Access.{goodSize, cutOf}
-use Rattle.memory.specs.Access as access
 use Rattle.panel.specs.Entries.{Screen, screen}
 use Rattle.panel.specs.Lcd.{counted}
 use Rattle.panel.specs.Runs.{byte, ordered, taken}
 use Rattle.clock.specs.declared.Rtc.{Rtc}
 use Rattle.clock.specs.Rtc.{commandedOf}
-use Rattle.clock.specs.Adc as adc
 use Rattle.flash.specs.declared.Chip.{Chip}
 use Rattle.panel.specs.declared.Panel.{Panel}
 use Rattle.state.specs.declared.Devices.{Devices}

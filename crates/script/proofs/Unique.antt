@@ -5,7 +5,7 @@ use mathlib.Core.List.{List}
 use Rattle.whole.proofs.Unique.{unique}
 use Rattle.runner.specs.Script.{Ended, ended}
 
--- of tg18_run_script and of run::run
+-- of tg18_run_script and of runner::run::run
 pub one-run : (d : Ended) (i j : ℕ) (m n r q g h f b l k : List ℕ) → ended i m r g f l ≡ d → ended j n q h b k ≡ d
     → (i ≡ j) × (m ≡ n) × (r ≡ q) × (g ≡ h) × (f ≡ b) × (l ≡ k)
 one-run d i j m n r q g h f b l k x y =

@@ -24,7 +24,7 @@ fn key_number(refusal: Refusal) -> u8
     }
 }
 
-// The keys are put where they changed, so that a refusal leaves every word as it was.
+// The keys are put unless the call is refused, so that a refusal leaves every word as it was.
 fn change(cells: &mut Cells, floats: &mut Floats, to: Changed) -> u8
     requires { ⌜ (numberOf (to .refusal) ≢ 0 → to .keys ≡ keysIn (now cells) (now floats)) ⌝ }
     ensures { λ r. ⌜ (asked (partsIn (now (cells .exit)) (now (floats .exit))) r

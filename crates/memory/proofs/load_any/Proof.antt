@@ -16,21 +16,6 @@ abbrev μ-loop : tie.MeasureT-loop
 loop-holds : tie.Need-loop-holds Inv-loop μ-loop
 loop-holds c = (search needs, le-none _ _ _)
 
-sub-i : tie.Need-sub-i Inv-loop μ-loop
-sub-i c = search needs
-
-add-grown : tie.Need-add-grown Inv-loop μ-loop
-add-grown c = search needs
-
-shared-slice-read-grown : tie.Need-shared-slice-read-grown Inv-loop μ-loop
-shared-slice-read-grown c = search needs
-
-grown-requires : tie.Need-grown-requires Inv-loop μ-loop
-grown-requires c κs = search needs
-
-loop-less : tie.Need-loop-less Inv-loop μ-loop
-loop-less c = search needs
-
 loop-again : tie.Need-loop-again Inv-loop μ-loop
 loop-again c = (
   omega arith,
@@ -48,10 +33,10 @@ load-any-spec =
     Inv-loop
     μ-loop
     loop-holds
-    sub-i
-    add-grown
-    shared-slice-read-grown
-    grown-requires
-    loop-less
+    (λ c. search needs)
+    (λ c. search needs)
+    (λ c. search needs)
+    (λ c κs. search needs)
+    (λ c. search needs)
     loop-again
     returns)

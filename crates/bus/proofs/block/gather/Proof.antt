@@ -24,12 +24,6 @@ loop-holds : tie.Need-loop-holds Inv-loop μ-loop
 unfolding table
 loop-holds c = (refl, omega arith, refl, refl)
 
-along-requires : tie.Need-along-requires Inv-loop μ-loop
-along-requires c κs = search needs
-
-peek8-requires : tie.Need-peek8-requires Inv-loop μ-loop
-peek8-requires c κs = search needs
-
 slice-write-buf : tie.Need-slice-write-buf Inv-loop μ-loop
 slice-write-buf c = omega arith
 
@@ -72,8 +66,8 @@ gather-spec =
     Inv-loop
     μ-loop
     loop-holds
-    along-requires
-    peek8-requires
+    (λ c κs. search needs)
+    (λ c κs. search needs)
     slice-write-buf
     add-i
     loop-less

@@ -21,14 +21,8 @@ loop-holds : tie.Need-loop-holds Inv-loop μ-loop
 unfolding laidOf
 loop-holds c = (refl, omega arith, refl, refl, refl, refl)
 
-along-requires : tie.Need-along-requires Inv-loop μ-loop
-along-requires c κs = search needs
-
 shared-slice-read-poke8 : tie.Need-shared-slice-read-poke8 Inv-loop μ-loop
 shared-slice-read-poke8 c = omega arith
-
-poke8-requires : tie.Need-poke8-requires Inv-loop μ-loop
-poke8-requires c κs = search needs
 
 add-i : tie.Need-add-i Inv-loop μ-loop
 add-i c = omega arith
@@ -38,22 +32,21 @@ loop-less c = omega arith
 
 loop-again : tie.Need-loop-again Inv-loop μ-loop
 loop-again c =
-    let a = (c .before .before .before .before .before .before .before .before .before .before .before .before
-    .before .before .before .before .before .before .args) in
-    let l = (c .before .before .before .before .before .before .before .before .before .before .before .before
-    .before .loop) in
+    let c6 = c .before .before .before .before .before .before in
+    let c8 = c6 .before .before in
+    let c13 = c8 .before .before .before .before .before in
+    let c18 = c13 .before .before .before .before .before in
+    let a = (c18 .args) in
+    let l = (c13 .loop) in
     let i = l .inv in
     let m : l .i < length (a .bytes .now) = omega arith in (
       i .0,
       omega arith,
-      (c .before .before .before .before .before .before .poke8 .kept .0) ∙ i .2,
-      (c .before
-          .before .before .before .before .before .poke8 .kept .1 .0) ∙ i .3,
-      (c .before .before .before .before .before
-          .before .poke8 .kept .1 .1 .0) ∙ i .4,
+      (c6 .poke8 .kept .0) ∙ i .2,
+      (c6 .poke8 .kept .1 .0) ∙ i .3,
+      (c6 .poke8 .kept .1 .1 .0) ∙ i .4,
       lay-step (plain (l .ram) (l .sram) (l .gpio)) (a .addr) (l .i)
-          (a .bytes .now) m (c .before .before .before .before .before .before .before .before .along .ensures) (c .before
-          .before .before .before .before .before .poke8 .ensures) ∙ i .5,
+          (a .bytes .now) m (c8 .along .ensures) (c6 .poke8 .ensures) ∙ i .5,
     )
 
 same-length : tie.Need-same-length Inv-loop μ-loop
@@ -75,9 +68,9 @@ poke-spec =
     Inv-loop
     μ-loop
     loop-holds
-    along-requires
+    (λ c κs. search needs)
     shared-slice-read-poke8
-    poke8-requires
+    (λ c κs. search needs)
     add-i
     loop-less
     loop-again

@@ -11,7 +11,8 @@ returns c =
     let c6 = c5 .before in
     let a = (c6 .args) in
     let x = partsIn (a .cells .now) (a .floats .now) in (
-      word-timer (a .own .now) x (a .clock) (a .full) (a .word) (a .old) (a .new) (a .part) (c5 .control-at .ensures)
+      word-timer (a .own .now) x (a .clock) (a .full) (a .word) (a .old) (a .new) (a .part)
+          (c5 .control-at .ensures)
           (c4 .if1 .taken) ((c .timer-write-ctrl .ensures) .0),
       (c .timer-write-ctrl .ensures) .1,
     )
@@ -131,7 +132,8 @@ returns-8 c =
     let c9 = c8 .before in
     let a = (c9 .args) in
     let x = partsIn (a .cells .now) (a .floats .now) in (
-      word-sound (a .own .now) x (a .clock) (a .full) (a .word) (a .old) (a .new) (a .part) (c8 .control-at .ensures)
+      word-sound (a .own .now) x (a .clock) (a .full) (a .word) (a .old) (a .new) (a .part)
+          (c8 .control-at .ensures)
           (c7 .if1 .left) (c6 .field-at .ensures) (c5 .if2 .left) (c4 .match .rest .0 .0 .0 .0 .1)
           (c4 .match .rest .0 .0 .0 .1) (c4 .match .rest .0 .0 .1) (c4 .match .rest .0 .1) (c4 .match .rest .1)
           ((c .sound-write .ensures) .0),

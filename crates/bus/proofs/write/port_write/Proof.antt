@@ -17,7 +17,8 @@ returns c =
     let r = registersOf (a .own .now) (a .addresses .now) (a .values .now) in
     let x = partsIn (a .cells .now) (a .floats .now) in
     let p = (c1 .put-chip .ensures) (a .floats .now) in (
-      port-select r (a .rtc .now) (a .page .now) (a .ram .now) (a .sram .now) (a .gpio .now) (a .fb .now) x (a .full)
+      port-select r (a .rtc .now) (a .page .now) (a .ram .now) (a .sram .now) (a .gpio .now) (a .fb .now) x
+          (a .full)
           (a .word) (a .old) (a .new) (a .part) (c .done .ensures) (c11 .match .keys1) (c9 .chip-of .ensures)
           (c5 .select-write .ensures) (p .parts),
       rest-put (done-number (c .done .ensures)) (only-put (p .parts)) (p .kept),
@@ -87,7 +88,8 @@ returns-5 c =
     let x = partsIn (a .cells .now) (a .floats .now) in (
       port-word r (a .rtc .now) (a .page .now) (a .ram .now) (a .sram .now) (a .gpio .now) (a .fb .now) x (a .full)
           (a .word) (a .old) (a .new) (a .part) (c7 .match .rest .0 .0 .0 .1) (c7 .match .rest .0 .0 .1)
-          (c7 .match .rest .0 .1) (c7 .match .rest .1) (c6 .acts .ensures) (c5 .if1 .taken) (c4 .sysclk-var .ensures)
+          (c7 .match .rest .0 .1) (c7 .match .rest .1) (c6 .acts .ensures) (c5 .if1 .taken)
+          (c4 .sysclk-var .ensures)
           ((c .word-write .ensures) .0),
       (c .word-write .ensures) .1,
     )
@@ -101,7 +103,8 @@ returns-6 c =
     let a = (c11 .args) in
     let r = registersOf (a .own .now) (a .addresses .now) (a .values .now) in
     let x = partsIn (a .cells .now) (a .floats .now) in (
-      port-stored r (a .rtc .now) (a .page .now) (a .ram .now) (a .sram .now) (a .gpio .now) (a .fb .now) x (a .full)
+      port-stored r (a .rtc .now) (a .page .now) (a .ram .now) (a .sram .now) (a .gpio .now) (a .fb .now) x
+          (a .full)
           (a .word) (a .old) (a .new) (a .part) (c6 .match .rest .0 .0 .0 .1) (c6 .match .rest .0 .0 .1)
           (c6 .match .rest .0 .1) (c6 .match .rest .1) (c5 .acts .ensures) (c4 .if1 .left) (c .store .ensures),
       rest-none (stored-quiet r (x .devices) (a .word) (a .new) ((c .store .ensures) (x .devices))),

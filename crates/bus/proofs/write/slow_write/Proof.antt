@@ -11,7 +11,8 @@ returns c =
     let a = (c .before .before .before .before .before .before .before .args) in
     let r = registersOf (a .own .now) (a .addresses .now) (a .values .now) in
     let x = partsIn (a .cells .now) (a .floats .now) in (
-      write-size r (a .rtc .now) (a .page .now) (a .ram .now) (a .sram .now) (a .gpio .now) (a .fb .now) (x .devices)
+      write-size r (a .rtc .now) (a .page .now) (a .ram .now) (a .sram .now) (a .gpio .now) (a .fb .now)
+          (x .devices)
           (a .full) (a .addr) (a .size) (a .value) (c .before .before .good-size .ensures) (c .before .if1 .taken)
           (c .refused .ensures),
       rest-none (quiet (c .refused .ensures)),
@@ -45,7 +46,8 @@ returns-3 c =
     let a = (c15 .args) in
     let r = registersOf (a .own .now) (a .addresses .now) (a .values .now) in
     let x = partsIn (a .cells .now) (a .floats .now) in (
-      write-sram r (a .rtc .now) (a .page .now) (a .ram .now) (a .sram .now) (a .gpio .now) (a .fb .now) (x .devices)
+      write-sram r (a .rtc .now) (a .page .now) (a .ram .now) (a .sram .now) (a .gpio .now) (a .fb .now)
+          (x .devices)
           (a .full) (a .addr) (a .size) (a .value) (c10 .good-size .ensures) (c9 .if1 .left) (c8 .locate .ensures)
           (c .done2 .ensures) (c6 .place2 .given .1) (c3 .store2 .ensures),
       rest-none (quiet (c .done2 .ensures)),
@@ -62,7 +64,8 @@ returns-4 c =
     let a = (c15 .args) in
     let r = registersOf (a .own .now) (a .addresses .now) (a .values .now) in
     let x = partsIn (a .cells .now) (a .floats .now) in (
-      write-gpio r (a .rtc .now) (a .page .now) (a .ram .now) (a .sram .now) (a .gpio .now) (a .fb .now) (x .devices)
+      write-gpio r (a .rtc .now) (a .page .now) (a .ram .now) (a .sram .now) (a .gpio .now) (a .fb .now)
+          (x .devices)
           (a .full) (a .addr) (a .size) (a .value) (c10 .good-size .ensures) (c9 .if1 .left) (c8 .locate .ensures)
           (c .done3 .ensures) (c6 .place3 .given .1) (c3 .store3 .ensures),
       rest-none (quiet (c .done3 .ensures)),

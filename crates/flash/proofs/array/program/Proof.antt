@@ -46,14 +46,8 @@ loop-holds c = (omega arith, refl, refl)
 slice-read-part : tie.Need-slice-read-part Inv-loop μ-loop
 slice-read-part c = omega arith
 
-element-copy-out-part : tie.Need-element-copy-out-part Inv-loop μ-loop
-element-copy-out-part c = search needs
-
 slice-write-part : tie.Need-slice-write-part Inv-loop μ-loop
 slice-write-part c = omega arith
-
-add-k : tie.Need-add-k Inv-loop μ-loop
-add-k c = search needs
 
 loop-less : tie.Need-loop-less Inv-loop μ-loop
 loop-less c = omega arith
@@ -81,5 +75,6 @@ returns c =
 pub program-spec : {M : Type 1} → statement M
 program-spec =
     tie.close
-    (tie.spec Inv-loop μ-loop loop-holds slice-read-part element-copy-out-part slice-write-part add-k loop-less
+    (tie.spec Inv-loop μ-loop loop-holds slice-read-part (λ c. search needs) slice-write-part (λ c. search needs)
+    loop-less
     loop-again same-length returns)

@@ -7,8 +7,7 @@ returns c = simp (
   c .keep3 .ensures,
   c .before .keep2 .ensures,
   c .before .before .keep .ensures,
-  c .before .before
-      .before .strict .ensures,
+  c .before .before .before .strict .ensures,
 )
 
 pub maker-spec : {M : Type 1} → statement M

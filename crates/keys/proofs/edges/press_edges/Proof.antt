@@ -13,9 +13,6 @@ Inv-loop times count time t n r₀ i₀ r i = (i ≤ n) × (n ≤ 64) × (r ≡ 
 abbrev μ-loop : tie.MeasureT-loop
 μ-loop times count time t n r₀ i₀ r i = n - i
 
-places-requires : tie.Need-places-requires Inv-loop μ-loop
-places-requires c κs = search needs
-
 loop-holds : tie.Need-loop-holds Inv-loop μ-loop
 loop-holds c = (
   search needs,
@@ -23,21 +20,6 @@ loop-holds c = (
   edges-none
       _ _ _,
 )
-
-mul-edges : tie.Need-mul-edges Inv-loop μ-loop
-mul-edges c = search needs
-
-element-copy-out-edges : tie.Need-element-copy-out-edges Inv-loop μ-loop
-element-copy-out-edges c = search needs
-
-edges-requires : tie.Need-edges-requires Inv-loop μ-loop
-edges-requires c κs = search needs
-
-add-i : tie.Need-add-i Inv-loop μ-loop
-add-i c = search needs
-
-loop-less : tie.Need-loop-less Inv-loop μ-loop
-loop-less c = search needs
 
 loop-again : tie.Need-loop-again Inv-loop μ-loop
 loop-again c = (
@@ -57,12 +39,12 @@ press-edges-spec =
     (tie.spec
     Inv-loop
     μ-loop
-    places-requires
+    (λ c κs. search needs)
     loop-holds
-    mul-edges
-    element-copy-out-edges
-    edges-requires
-    add-i
-    loop-less
+    (λ c. search needs)
+    (λ c. search needs)
+    (λ c κs. search needs)
+    (λ c. search needs)
+    (λ c. search needs)
     loop-again
     returns)

@@ -13,12 +13,6 @@ Inv-loop times codes time n held₀ i₀ held i = (i ≤ n) × (n ≤ 64) × (he
 abbrev μ-loop : tie.MeasureT-loop
 μ-loop times codes time n held₀ i₀ held i = n - i
 
-places-requires : tie.Need-places-requires Inv-loop μ-loop
-places-requires c κs = search needs
-
-tapped-requires : tie.Need-tapped-requires Inv-loop μ-loop
-tapped-requires c κs = search needs
-
 loop-holds : tie.Need-loop-holds Inv-loop μ-loop
 loop-holds c = (
   search needs,
@@ -30,24 +24,6 @@ loop-holds c = (
   ),
   held-none _ _ _ _,
 )
-
-mul-also : tie.Need-mul-also Inv-loop μ-loop
-mul-also c = search needs
-
-element-copy-out-also : tie.Need-element-copy-out-also Inv-loop μ-loop
-element-copy-out-also c = search needs
-
-element-copy-out-also-2 : tie.Need-element-copy-out-also-2 Inv-loop μ-loop
-element-copy-out-also-2 c = search needs
-
-also-requires : tie.Need-also-requires Inv-loop μ-loop
-also-requires c κs = search needs
-
-add-i : tie.Need-add-i Inv-loop μ-loop
-add-i c = search needs
-
-loop-less : tie.Need-loop-less Inv-loop μ-loop
-loop-less c = search needs
 
 loop-again : tie.Need-loop-again Inv-loop μ-loop
 loop-again c = (
@@ -67,14 +43,14 @@ keys-held-spec =
     (tie.spec
     Inv-loop
     μ-loop
-    places-requires
-    tapped-requires
+    (λ c κs. search needs)
+    (λ c κs. search needs)
     loop-holds
-    mul-also
-    element-copy-out-also
-    element-copy-out-also-2
-    also-requires
-    add-i
-    loop-less
+    (λ c. search needs)
+    (λ c. search needs)
+    (λ c. search needs)
+    (λ c κs. search needs)
+    (λ c. search needs)
+    (λ c. search needs)
     loop-again
     returns)

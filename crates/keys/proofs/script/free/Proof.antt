@@ -13,9 +13,6 @@ Inv-loop times count time n i₀ i = (i ≤ n) × (n ≤ 64) × (freeOf times co
 abbrev μ-loop : tie.MeasureT-loop
 μ-loop times count time n i₀ i = n - i
 
-places-requires : tie.Need-places-requires Inv-loop μ-loop
-places-requires c κs = search needs
-
 loop-holds : tie.Need-loop-holds Inv-loop μ-loop
 loop-holds c = (
   search needs,
@@ -24,24 +21,9 @@ loop-holds c = (
       _ _ _ _ (c .places .ensures),
 )
 
-mul-expired : tie.Need-mul-expired Inv-loop μ-loop
-mul-expired c = search needs
-
-element-copy-out-expired : tie.Need-element-copy-out-expired Inv-loop μ-loop
-element-copy-out-expired c = search needs
-
-expired-requires : tie.Need-expired-requires Inv-loop μ-loop
-expired-requires c κs = search needs
-
 returns : tie.Need-returns Inv-loop μ-loop
 returns c = free-here _ _ _ _ _ _ (search needs) (c .before .before .before .before .loop .inv .2)
     (c .before .expired .ensures) (c .if1 .taken)
-
-add-i : tie.Need-add-i Inv-loop μ-loop
-add-i c = search needs
-
-loop-less : tie.Need-loop-less Inv-loop μ-loop
-loop-less c = search needs
 
 loop-again : tie.Need-loop-again Inv-loop μ-loop
 loop-again c = (
@@ -60,13 +42,13 @@ free-spec =
     (tie.spec
     Inv-loop
     μ-loop
-    places-requires
+    (λ c κs. search needs)
     loop-holds
-    mul-expired
-    element-copy-out-expired
-    expired-requires
+    (λ c. search needs)
+    (λ c. search needs)
+    (λ c κs. search needs)
     returns
-    add-i
-    loop-less
+    (λ c. search needs)
+    (λ c. search needs)
     loop-again
     returns-2)

@@ -17,21 +17,6 @@ abbrev μ-loop : tie.MeasureT-loop
 loop-holds : tie.Need-loop-holds Inv-loop μ-loop
 loop-holds c = (omega arith, number-none _ _)
 
-add-shifted : tie.Need-add-shifted Inv-loop μ-loop
-add-shifted c = search needs
-
-element-copy-out-shifted : tie.Need-element-copy-out-shifted Inv-loop μ-loop
-element-copy-out-shifted c = search needs
-
-shifted-requires : tie.Need-shifted-requires Inv-loop μ-loop
-shifted-requires c κs = search needs
-
-add-i : tie.Need-add-i Inv-loop μ-loop
-add-i c = search needs
-
-loop-less : tie.Need-loop-less Inv-loop μ-loop
-loop-less c = search needs
-
 loop-again : tie.Need-loop-again Inv-loop μ-loop
 loop-again c = (omega arith, number-more _ _ _ (c .before .before .before .loop .inv .1) (c .shifted .ensures))
 
@@ -46,10 +31,10 @@ number-at-spec =
     Inv-loop
     μ-loop
     loop-holds
-    add-shifted
-    element-copy-out-shifted
-    shifted-requires
-    add-i
-    loop-less
+    (λ c. search needs)
+    (λ c. search needs)
+    (λ c κs. search needs)
+    (λ c. search needs)
+    (λ c. search needs)
     loop-again
     returns)

@@ -18,21 +18,6 @@ abbrev μ-loop : tie.MeasureT-loop
 loop-holds : tie.Need-loop-holds Inv-loop μ-loop
 loop-holds c = (omega arith, refl, refl, none-shown _ _)
 
-mul-lay : tie.Need-mul-lay Inv-loop μ-loop
-mul-lay c = search needs
-
-pixel-requires : tie.Need-pixel-requires Inv-loop μ-loop
-pixel-requires c κs = search needs
-
-lay-requires : tie.Need-lay-requires Inv-loop μ-loop
-lay-requires c κs = search needs
-
-add-i : tie.Need-add-i Inv-loop μ-loop
-add-i c = search needs
-
-loop-less : tie.Need-loop-less Inv-loop μ-loop
-loop-less c = search needs
-
 loop-again : tie.Need-loop-again Inv-loop μ-loop
 loop-again c =
     let at-lay = c .before .before .lay in
@@ -60,11 +45,11 @@ screen-spec =
     Inv-loop
     μ-loop
     loop-holds
-    mul-lay
-    pixel-requires
-    lay-requires
-    add-i
-    loop-less
+    (λ c. search needs)
+    (λ c κs. search needs)
+    (λ c κs. search needs)
+    (λ c. search needs)
+    (λ c. search needs)
     loop-again
     same-length
     returns)

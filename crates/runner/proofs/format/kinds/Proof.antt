@@ -21,9 +21,6 @@ loop-holds c = (refl, omega arith, refl)
 kind-at-requires : tie.Need-kind-at-requires Inv-loop μ-loop
 kind-at-requires c κs = omega (arith, (c .before .loop .inv .2), (c .before .before .before .pre))
 
-known-requires : tie.Need-known-requires Inv-loop μ-loop
-known-requires c κs = search needs
-
 returns : tie.Need-returns Inv-loop μ-loop
 returns c =
     let c1 = c .before in
@@ -39,12 +36,6 @@ add-at c = omega (
   (c .before .before .before .before .loop .inv .2),
   (c .before .before .before .before .before .before .pre),
 )
-
-sub-left : tie.Need-sub-left Inv-loop μ-loop
-sub-left c = search needs
-
-loop-less : tie.Need-loop-less Inv-loop μ-loop
-loop-less c = search needs
 
 loop-again : tie.Need-loop-again Inv-loop μ-loop
 loop-again c = (
@@ -65,10 +56,10 @@ kinds-spec =
     μ-loop
     loop-holds
     kind-at-requires
-    known-requires
+    (λ c κs. search needs)
     returns
     add-at
-    sub-left
-    loop-less
+    (λ c. search needs)
+    (λ c. search needs)
     loop-again
     returns-2)

@@ -7,8 +7,7 @@ returns : tie.Need-returns
 unfolding storedWide
 returns c = rw (
   (c .before .before .store2 .ensures),
-  (c .before .before .before .before .before .before .store
-      .ensures),
+  (c .before .before .before .before .before .before .store .ensures),
 )
 
 pub store-wide-spec : {M : Type 1} → statement M

@@ -40,30 +40,22 @@ cast-store c = let f = few _ (c .before .before .before .before .before .bad-scr
 
 run-fresh-requires : tie.Need-run-fresh-requires
 run-fresh-requires c κs =
-    let f = few _ (c .before .before .before .before .before .before .before .before .before .before .before .before
-    .before .bad-script .ensures) (c .before .before .before .before .before .before .before .before .before .before
-    .before .before .if1 .left) (c .before .before .before .before .before .before .before .before .before .before
-    .before .presses .ensures) (c .before .before .before .before .before .before .before .before .before .before
-    .steps .ensures) in
-    let l = long _ (c .before .before .before .before .before .before .before .before .before .before .before
-    .before .before .bad-script .ensures) (c .before .before .before .before .before .before .before .before .before
-    .before .before .before .if1 .left) (c .before .before .before .before .before .before .before .before .before
-    .before .before .presses .ensures) (c .before .before .before .before .before .before .before .before .before
-    .before .steps .ensures) in
-    let k = known _ (c .before .before .before .before .before .before .before .before .before .before .before
-    .before .before .bad-script .ensures) (c .before .before .before .before .before .before .before .before .before
-    .before .before .before .if1 .left) (c .before .before .before .before .before .before .before .before .before
-    .before .before .presses .ensures) (c .before .before .before .before .before .before .before .before .before
-    .before .steps .ensures) in (
+    let c7 = c .before .before .before .before .before .before .before in
+    let c9 = c7 .before .before in
+    let c10 = c9 .before in
+    let c11 = c10 .before in
+    let c12 = c11 .before in
+    let c13 = c12 .before in
+    let f = few _ (c13 .bad-script .ensures) (c12 .if1 .left) (c11 .presses .ensures) (c10 .steps .ensures) in
+    let l = long _ (c13 .bad-script .ensures) (c12 .if1 .left) (c11 .presses .ensures) (c10 .steps .ensures) in
+    let k = known _ (c13 .bad-script .ensures) (c12 .if1 .left) (c11 .presses .ensures) (c10 .steps .ensures) in (
       f .0,
       omega (arith, f .1),
       omega (arith, l),
       omega (
         arith,
-        (c .before .before .before .before .before .before
-            .before .before .before .if2 .left),
-        (c .before .before .before .before .before .before .before .store .kept
-            .0),
+        (c9 .if2 .left),
+        (c7 .store .kept .0),
       ),
       k,
     )

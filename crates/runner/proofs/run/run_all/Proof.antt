@@ -34,138 +34,119 @@ abbrev μ-loop : tie.MeasureT-loop
     out i =
     n - i
 
-reset-requires : tie.Need-reset-requires Inv-loop μ-loop
-reset-requires c κs = search needs
-
 loop-holds : tie.Need-loop-holds Inv-loop μ-loop
 loop-holds c = (omega arith, refl, refl, refl, refl, refl, run-start _ _ _ _)
 
 entry-at-requires : tie.Need-entry-at-requires Inv-loop μ-loop
-entry-at-requires c κs = omega (
-  arith,
-  (c .before .before .before .before .before .before .before .before .before
-      .before .before .before .before .before .before .before .before .before .before .before .before .pre .0),
-  (c
-      .before .before .before .before .before .before .before .before .before .before .before .before .before .before
-      .before .before .before .before .before .before .before .pre .1),
-  (c .before .before .before .before .before
-      .before .before .before .before .before .before .before .before .before .before .before .before .before .before
-      .before .before .pre .2),
-  (c .loop-test .taken),
-)
+entry-at-requires c κs =
+    let c21 = c .before .before .before .before .before .before .before .before .before .before .before .before
+    .before .before .before .before .before .before .before .before .before in
+    omega (
+      arith,
+      (c21 .pre .0),
+      (c21 .pre .1),
+      (c21 .pre .2),
+      (c .loop-test .taken),
+    )
 
 act-requires : tie.Need-act-requires Inv-loop μ-loop
-act-requires c κs = kind-known _ _ _ _ (c .before .before .before .before .before .before .before .before .before
-    .before .before .before .before .before .before .before .before .before .before .before .before .before .before
-    .before .before .before .before .before .before .before .before .before .before .before .before .before .before
-    .before .pre .4) (c .before .before .before .before .before .before .before .before .before .before .before
-    .before .before .before .before .before .entry-at .ensures) (omega (
+act-requires c κs =
+    let c16 = c .before .before .before .before .before .before .before .before .before .before .before .before
+    .before .before .before .before in
+    let c17 = c16 .before in
+    let c38 = c17 .before .before .before .before .before .before .before .before .before .before .before .before
+    .before .before .before .before .before .before .before .before .before in
+    kind-known _ _ _ _ (c38 .pre .4) (c16 .entry-at .ensures) (omega (
       arith,
-      (c .before .before .before .before
-          .before .before .before .before .before .before .before .before .before .before .before .before .before
-          .loop-test .taken),
+      (c17 .loop-test .taken),
     ))
 
 mul-lay : tie.Need-mul-lay Inv-loop μ-loop
-mul-lay c = omega (
-  arith,
-  (c .before .before .before .before .before .before .before .before .before .before .before
-      .before .before .before .before .before .before .before .before .before .before .before .before .before .before
-      .before .before .before .before .before .before .before .before .before .before .before .before .before .before
-      .before .before .before .before .before .before .before .before .before .pre .0),
-  (c .before .before .before
-      .before .before .before .before .before .before .before .before .before .before .before .before .before .before
-      .before .before .before .before .before .before .before .before .before .before .before .before .before .before
-      .before .before .before .before .before .before .before .before .before .before .before .before .before .before
-      .before .before .before .pre .1),
-  (c .before .before .before .before .before .before .before .before .before
-      .before .before .before .before .before .before .before .before .before .before .before .before .before .before
-      .before .before .before .before .loop-test .taken),
-)
+mul-lay c =
+    let c27 = c .before .before .before .before .before .before .before .before .before .before .before .before
+    .before .before .before .before .before .before .before .before .before .before .before .before .before .before
+    .before in
+    let c48 = c27 .before .before .before .before .before .before .before .before .before .before .before .before
+    .before .before .before .before .before .before .before .before .before in
+    omega (
+      arith,
+      (c48 .pre .0),
+      (c48 .pre .1),
+      (c27 .loop-test .taken),
+    )
 
 add-lay : tie.Need-add-lay Inv-loop μ-loop
-add-lay c = omega (
-  arith,
-  (c .before .before .before .before .before .before .before .before .before .before .before
-      .before .before .before .before .before .before .before .before .before .before .before .before .before .before
-      .before .before .before .before .before .before .before .before .before .before .before .before .before .before
-      .before .before .before .before .before .before .before .before .before .pre .0),
-  (c .before .before .before
-      .before .before .before .before .before .before .before .before .before .before .before .before .before .before
-      .before .before .before .before .before .before .before .before .before .before .before .before .before .before
-      .before .before .before .before .before .before .before .before .before .before .before .before .before .before
-      .before .before .before .pre .1),
-  (c .before .before .before .before .before .before .before .before .before
-      .before .before .before .before .before .before .before .before .before .before .before .before .before .before
-      .before .before .before .before .loop-test .taken),
-)
+add-lay c =
+    let c27 = c .before .before .before .before .before .before .before .before .before .before .before .before
+    .before .before .before .before .before .before .before .before .before .before .before .before .before .before
+    .before in
+    let c48 = c27 .before .before .before .before .before .before .before .before .before .before .before .before
+    .before .before .before .before .before .before .before .before .before in
+    omega (
+      arith,
+      (c48 .pre .0),
+      (c48 .pre .1),
+      (c27 .loop-test .taken),
+    )
 
 lay-requires : tie.Need-lay-requires Inv-loop μ-loop
-lay-requires c κs = omega (
-  arith,
-  (c .before .before .before .before .before .before .before .before .before .before
-      .before .before .before .before .before .before .before .before .before .before .before .before .before .before
-      .before .before .before .before .before .before .before .before .before .before .before .before .before .before
-      .before .before .before .before .before .before .before .before .before .before .pre .3),
-  (c .before .before
-      .before .before .before .before .before .before .before .before .before .before .before .before .before .before
-      .before .before .before .before .before .before .before .before .before .before .before .before .loop .inv .5),
-  (c .before .before .before .before .before .before .before .before .before .before .before .before .before
-      .before .before .before .before .before .before .before .before .before .before .before .before .before .before
-      .loop-test .taken),
-)
+lay-requires c κs =
+    let c27 = c .before .before .before .before .before .before .before .before .before .before .before .before
+    .before .before .before .before .before .before .before .before .before .before .before .before .before .before
+    .before in
+    let c28 = c27 .before in
+    let c48 = c28 .before .before .before .before .before .before .before .before .before .before .before .before
+    .before .before .before .before .before .before .before .before in
+    omega (
+      arith,
+      (c48 .pre .3),
+      (c28 .loop .inv .5),
+      (c27 .loop-test .taken),
+    )
 
 add-i : tie.Need-add-i Inv-loop μ-loop
-add-i c = omega (
-  arith,
-  (c .before .before .before .before .before .before .before .before .before .before .before
-      .before .before .before .before .before .before .before .before .before .before .before .before .before .before
-      .before .before .before .before .before .before .before .before .before .before .before .before .before .before
-      .before .before .before .before .before .before .before .before .before .before .before .before .pre .0),
-  (c
-      .before .before .before .before .before .before .before .before .before .before .before .before .before .before
-      .before .before .before .before .before .before .before .before .before .before .before .before .before .before
-      .before .before .before .before .before .before .before .before .before .before .before .before .before .before
-      .before .before .before .before .before .before .before .before .before .pre .1),
-  (c .before .before .before
-      .before .before .before .before .before .before .before .before .before .before .before .before .before .before
-      .before .before .before .before .before .before .before .before .before .before .before .before .before
-      .loop-test .taken),
-)
+add-i c =
+    let c30 = c .before .before .before .before .before .before .before .before .before .before .before .before
+    .before .before .before .before .before .before .before .before .before .before .before .before .before .before
+    .before .before .before .before in
+    let c51 = c30 .before .before .before .before .before .before .before .before .before .before .before .before
+    .before .before .before .before .before .before .before .before .before in
+    omega (
+      arith,
+      (c51 .pre .0),
+      (c51 .pre .1),
+      (c30 .loop-test .taken),
+    )
 
 loop-less : tie.Need-loop-less Inv-loop μ-loop
 loop-less c = omega (
   arith,
-  (c .before .before .before .before .before .before .before .before .before .before
+  (c .before .before .before .before .before .before .before .before .before .before .before .before .before .before
       .before .before .before .before .before .before .before .before .before .before .before .before .before .before
-      .before .before .before .before .before .before .loop-test .taken),
+      .before .before .loop-test .taken),
 )
 
 loop-again : tie.Need-loop-again Inv-loop μ-loop
 loop-again c =
-    let i = (c .before .before .before .before .before .before .before .before .before .before .before .before
-    .before .before .before .before .before .before .before .before .before .before .before .before .before .before
-    .before .before .before .before .before .loop .inv) in
-    let k = (c .before .before .before .before .before .before .before .before .before .before .before .before .act
-    .kept) .1 .1 .1 .1 .1 .1 .1 .1 .1 .1 .1 .1 in (
+    let c2 = c .before .before in
+    let c12 = c2 .before .before .before .before .before .before .before .before .before .before in
+    let c29 = c12 .before .before .before .before .before .before .before .before .before .before .before .before
+    .before .before .before .before .before in
+    let c30 = c29 .before in
+    let c31 = c30 .before in
+    let i = (c31 .loop .inv) in
+    let k = (c12 .act .kept) .1 .1 .1 .1 .1 .1 .1 .1 .1 .1 .1 .1 in (
       omega (
         arith,
-        (c .before .before .before .before .before .before .before .before .before .before .before
-            .before .before .before .before .before .before .before .before .before .before .before .before .before
-            .before .before .before .before .before .before .loop-test .taken),
+        (c30 .loop-test .taken),
       ),
       k .0 ∙ i .1,
       k .1 .0 ∙ i .2,
       k .1 .1 .0 ∙ i .3,
       k .1 .1 .1 .0 ∙ i .4,
-      (c .before .before .lay .kept .0) ∙ i .5,
-      run-more _ _ _ _ _ _ (c .before .before .before .before .before .before .before .before .before .before
-          .before .before .before .before .before .before .before .before .before .before .before .before .before
-          .before .before .before .before .before .before .before .loop-test .taken) (c .before .before .before .before
-          .before .before .before .before .before .before .before .before .before .before .before .before .before
-          .before .before .before .before .before .before .before .before .before .before .before .before .entry-at
-          .ensures) (c .before .before .before .before .before .before .before .before .before .before .before .before
-          .act .ensures) (c .before .before .lay .ensures) ∙ i .6,
+      (c2 .lay .kept .0) ∙ i .5,
+      run-more _ _ _ _ _ _ (c30 .loop-test .taken) (c29 .entry-at .ensures) (c12 .act .ensures) (c2 .lay .ensures) ∙
+          i .6,
     )
 
 same-length : tie.Need-same-length Inv-loop μ-loop
@@ -197,7 +178,7 @@ run-all-spec =
     (tie.spec
     Inv-loop
     μ-loop
-    reset-requires
+    (λ c κs. search needs)
     loop-holds
     entry-at-requires
     act-requires

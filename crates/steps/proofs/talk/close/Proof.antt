@@ -27,18 +27,21 @@ last-line-requires c κs =
 
 returns-2 : tie.Need-returns-2
 returns-2 c =
-    let at-finish = c .before .before .before .before .before .before .before .before .before .before .before
-    .before .before .before .finish in
-    let at-spell = c .before .before .before .before .before .before .before .before .spell in
-    let at-last-line = c .before .before .last-line in
-    let at-if1 = c .before .before .before .before .before .if1 in
+    let c2 = c .before .before in
+    let c5 = c2 .before .before .before in
+    let c8 = c5 .before .before .before in
+    let c14 = c8 .before .before .before .before .before .before in
+    let c19 = c14 .before .before .before .before .before in
+    let at-finish = c14 .finish in
+    let at-spell = c8 .spell in
+    let at-last-line = c2 .last-line in
+    let at-if1 = c5 .if1 in
     let t = told (at-finish .result) (at-finish .last .1 .0) (at-finish .last .1 .1 .0) in
     let p = chain (at-spell .ensures) (at-last-line .ensures) in
     let l = last-long (t .world .session .chip .wel) (t .world .session .chip .writes) (t .world .array) in (
       counts p (rw length-append (omega (
         arith,
-        (c .before .before .before .before .before .before .before .before
-            .before .before .before .before .before .before .before .before .before .before .before .pre),
+        (c19 .pre),
         text-long
             (t .said),
         l,

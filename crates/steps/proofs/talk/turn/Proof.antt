@@ -39,9 +39,6 @@ loop-holds c = (
 shared-slice-read-feed : tie.Need-shared-slice-read-feed Inv-loop μ-loop
 shared-slice-read-feed c = omega arith
 
-feed-requires : tie.Need-feed-requires Inv-loop μ-loop
-feed-requires c κs = search needs
-
 spell-requires : tie.Need-spell-requires Inv-loop μ-loop
 spell-requires c κs =
     let at-loop = c .before .before .before .before .before .before .before .before .loop in
@@ -56,19 +53,21 @@ loop-less c = omega arith
 
 loop-again : tie.Need-loop-again Inv-loop μ-loop
 loop-again c =
-    let at-loop = c .before .before .before .before .before .before .before .before .before .before .before .before
-    .loop in
-    let at-args = c .before .before .before .before .before .before .before .before .before .before .before .before
-    .before .before .before .before .args in
-    let at-feed = c .before .before .before .before .before .before .before .feed in
-    let at-spell = c .before .before .before .spell in
+    let c3 = c .before .before .before in
+    let c7 = c3 .before .before .before .before in
+    let c11 = c7 .before .before .before .before in
+    let c12 = c11 .before in
+    let c16 = c12 .before .before .before .before in
+    let at-loop = c12 .loop in
+    let at-args = c16 .args in
+    let at-feed = c7 .feed in
+    let at-spell = c3 .spell in
     let i = (at-loop .inv) in
     let w = world (at-loop .s) (at-loop .page) (at-loop .array) in
     let l : at-loop .i < length (at-args .chunk .now) = omega (
       arith,
       at-loop .inv .0,
-      (c .before .before .before
-          .before .before .before .before .before .before .before .before .loop-test .taken),
+      (c11 .loop-test .taken),
     ) in (
       i .0,
       omega arith,
@@ -107,7 +106,7 @@ turn-spec =
     μ-loop
     loop-holds
     shared-slice-read-feed
-    feed-requires
+    (λ c κs. search needs)
     spell-requires
     add-i
     loop-less

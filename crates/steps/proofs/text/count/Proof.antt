@@ -22,9 +22,6 @@ loop-holds c = (refl, omega arith, omega arith, omega arith)
 shared-slice-read-weight : tie.Need-shared-slice-read-weight Inv-loop μ-loop
 shared-slice-read-weight c = omega arith
 
-weight-requires : tie.Need-weight-requires Inv-loop μ-loop
-weight-requires c κs = search needs
-
 add-n : tie.Need-add-n Inv-loop μ-loop
 add-n c =
     let at-args = c .before .before .before .before .before .args in
@@ -68,7 +65,7 @@ count-spec =
     μ-loop
     loop-holds
     shared-slice-read-weight
-    weight-requires
+    (λ c κs. search needs)
     add-n
     add-i
     loop-less

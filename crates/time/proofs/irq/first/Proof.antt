@@ -7,8 +7,7 @@ returns c = rw (
   c .keep4 .ensures,
   c .before .keep3 .ensures,
   c .before .before .keep2 .ensures,
-  c .before .before
-      .before .keep .ensures,
+  c .before .before .before .keep .ensures,
 )
 
 pub first-spec : {M : Type 1} → statement M

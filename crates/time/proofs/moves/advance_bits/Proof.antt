@@ -14,7 +14,8 @@ returns c =
     let a = (c12 .args) in
     let x = partsIn (a .cells .now) (a .floats .now) in (
       goes-by (a .own .now) (a .gpio .now) (a .times .now)
-          (a .codes .now) x (a .sram .now) (c7 .advance-bits .result) (ofBits binary64 (a .bits)) (c8 .times-of .ensures)
+          (a .codes .now) x (a .sram .now) (c7 .advance-bits .result) (ofBits binary64 (a .bits))
+          (c8 .times-of .ensures)
           (c7 .advance-bits .ensures) (c2 .go .ensures .0),
       (c2 .go .ensures .1),
     )

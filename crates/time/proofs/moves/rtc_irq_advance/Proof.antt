@@ -14,7 +14,8 @@ returns c =
     let a = (c11 .args) in
     let x = partsIn (a .cells .now) (a .floats .now) in (
       irq-went (a .own .now) x (a .game) (c9 .own-reg .ensures)
-          (c6 .irq-of .ensures) (c5 .rtc-irq-advance .ensures) (c3 .own-insert .ensures) (c .put-irq .ensures .parts),
+          (c6 .irq-of .ensures) (c5 .rtc-irq-advance .ensures) (c3 .own-insert .ensures)
+          (c .put-irq .ensures .parts),
       (c .put-irq .ensures .kept),
     )
 

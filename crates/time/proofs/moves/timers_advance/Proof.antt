@@ -17,7 +17,8 @@ returns c =
           (c6 .timer-advance4 .ensures .0) (c3 .timer-advance5 .ensures .0) (c .timer-advance6 .ensures .0),
       λ k.
           (c .timer-advance6 .ensures .1) ((c3 .timer-advance5 .ensures .1) ((c6 .timer-advance4 .ensures .1)
-          ((c9 .timer-advance3 .ensures .1) ((c12 .timer-advance2 .ensures .1) ((c15 .timer-advance .ensures .1) k))))),
+          ((c9 .timer-advance3 .ensures .1) ((c12 .timer-advance2 .ensures .1) ((c15 .timer-advance .ensures .1)
+          k))))),
     )
 
 pub timers-advance-spec : {M : Type 1} → statement M

@@ -16,8 +16,7 @@ returns c =
       at-2 .pends2 .ensures,
       at-3 .pends3 .ensures,
       at-4 .pends4 .ensures,
-      at-5 .pends5
-          .ensures,
+      at-5 .pends5 .ensures,
       c .pends6 .ensures,
     )
 

@@ -16,8 +16,7 @@ unfolding timerNext
 returns c = rw (
   c .before .before .before .before .one-more .ensures,
   c .before .before .before .period .ensures,
-  c
-      .before .rate .ensures,
+  c .before .rate .ensures,
 )
 
 pub timer-next-spec : {M : Type 1} → statement M

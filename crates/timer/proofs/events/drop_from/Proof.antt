@@ -30,33 +30,6 @@ loop-holds : tie.Need-loop-holds Inv-loop μ-loop
 unfolding cleared
 loop-holds c = (omega arith, refl, refl, refl)
 
-place-requires : tie.Need-place-requires Inv-loop μ-loop
-place-requires c κs = search needs
-
-mul-times : tie.Need-mul-times Inv-loop μ-loop
-mul-times c = search needs
-
-element-write-times : tie.Need-element-write-times Inv-loop μ-loop
-element-write-times c = search needs
-
-mul-frequencies : tie.Need-mul-frequencies Inv-loop μ-loop
-mul-frequencies c = search needs
-
-element-write-frequencies : tie.Need-element-write-frequencies Inv-loop μ-loop
-element-write-frequencies c = search needs
-
-mul-duties : tie.Need-mul-duties Inv-loop μ-loop
-mul-duties c = search needs
-
-element-write-duties : tie.Need-element-write-duties Inv-loop μ-loop
-element-write-duties c = search needs
-
-add-i : tie.Need-add-i Inv-loop μ-loop
-add-i c = search needs
-
-loop-less : tie.Need-loop-less Inv-loop μ-loop
-loop-less c = search needs
-
 loop-again : tie.Need-loop-again Inv-loop μ-loop
 loop-again c =
     let start = c .before .before .before .args in
@@ -67,9 +40,6 @@ loop-again c =
       one-more (start .ring) (lp .i) _ (start .frequencies .now) (lp .frequencies) (lp .inv .2) at,
       one-more (start .ring) (lp .i) _ (start .duties .now) (lp .duties) (lp .inv .3) at,
     )
-
-skip-requires : tie.Need-skip-requires Inv-loop μ-loop
-skip-requires c κs = search needs
 
 returns : tie.Need-returns Inv-loop μ-loop
 returns c =
@@ -83,15 +53,15 @@ drop-from-spec =
     Inv-loop
     μ-loop
     loop-holds
-    place-requires
-    mul-times
-    element-write-times
-    mul-frequencies
-    element-write-frequencies
-    mul-duties
-    element-write-duties
-    add-i
-    loop-less
+    (λ c κs. search needs)
+    (λ c. search needs)
+    (λ c. search needs)
+    (λ c. search needs)
+    (λ c. search needs)
+    (λ c. search needs)
+    (λ c. search needs)
+    (λ c. search needs)
+    (λ c. search needs)
     loop-again
-    skip-requires
+    (λ c κs. search needs)
     returns)
