@@ -21,7 +21,7 @@ use Rattle.bus.specs.Sounds.{soundOf, sounding, soundWritten}
 use Rattle.bus.specs.Words.{controlAt, fieldAt, actsOf, adcWritten, wordWritten}
 use Rattle.bus.proofs.Branches.{by-timer}
 use Rattle.system.specs.Refusals.{noRoom, soundWord, storedOf, toneThen, addsEvent}
-use Rattle.system.proofs.Unchanged.{Answered, put-number}
+use Rattle.system.proofs.Unchanged.{StoreNumber, put-number}
 
 -- ---- room for a word
 
@@ -73,7 +73,7 @@ module _ (r : Registers) (word new : ℕ) where
       (λ t. rw t (exactly .1 (room-full t)))
       (λ f. rw f (by f (put-number r word new)))
     where
-      by : noRoom r word new ≡ false → Answered (putWord r word new .refusal) → putWord r word new .refusal ≡ 0
+      by : noRoom r word new ≡ false → StoreNumber (putWord r word new .refusal) → putWord r word new .refusal ≡ 0
       by f (inl z) = z
       by f (inr e) = absurd (true≢false (sym (full-room (full-exactly r word new tidy .0 e)) ∙ f))
 

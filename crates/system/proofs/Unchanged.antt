@@ -47,20 +47,20 @@ use Rattle.system.specs.Steps.{peek8, peek32, poke, keysHeld, irqWanted,
 -- ---- a word that is put
 
 -- done, or RegistersFull
-abbrev pub Answered : ℕ → Type 0
-Answered n = (n ≡ 0) ⊎ (n ≡ 4)
+abbrev pub StoreNumber : ℕ → Type 0
+StoreNumber n = (n ≡ 0) ⊎ (n ≡ 4)
 
-other-number : (o : Others) (a v : ℕ) → Answered (putOther o a v .refusal)
+other-number : (o : Others) (a v : ℕ) → StoreNumber (putOther o a v .refusal)
 unfolding putOther
 other-number o a v =
     either In (unstored a) _ _ (inl refl) (either In (eqb v 0) _ _ (inl refl) (either In (ltb (roomFor o a) 256) _ _ (inl refl) (inr refl)))
   where
     In : OtherOutcome → Type 0
-    In x = Answered (x .refusal)
+    In x = StoreNumber (x .refusal)
 
-pub put-number : (r : Registers) (a v : ℕ) → Answered (putWord r a v .refusal)
+pub put-number : (r : Registers) (a v : ℕ) → StoreNumber (putWord r a v .refusal)
 unfolding putWord
-put-number r a v = either (λ (x : words.Outcome). Answered (x .refusal)) (ltb (slotOf a) 76) _ _ (inl refl) (other-number (othersOf r) a v)
+put-number r a v = either (λ (x : words.Outcome). StoreNumber (x .refusal)) (ltb (slotOf a) 76) _ _ (inl refl) (other-number (othersOf r) a v)
 
 -- ---- a write on the bus
 
@@ -92,7 +92,7 @@ store-plain w word new h = by (put-number (w .registers) word new)
     kept : (x : words.Outcome) → x .registers ≡ w .registers → bus.byStore w (bus.settled x (w .devices)) ≡ out w (x .refusal) false
     kept x e = rw e
 
-    by : Answered (putWord (w .registers) word new .refusal)
+    by : StoreNumber (putWord (w .registers) word new .refusal)
         → bus.byStore w (bus.settled (putWord (w .registers) word new) (w .devices)) ≡ out w (putWord (w .registers) word new .refusal) false
     by (inl z) = absurd (h z)
     by (inr e) = kept (putWord (w .registers) word new) (refused-stays (w .registers) word new e)
