@@ -1,7 +1,7 @@
 -- The branches of the definitions, each with the fact that leads to it, and the steps of their loops.
-use Prim.Native.Nat.{ℕ, suc, _+_, _-_, _≤_, _<_}
+use Prim.Native.Nat.{ℕ, zero, suc, _+_, _-_, _≤_, _<_}
 use mathlib.Core.Path.{_≡_, refl, sym, ap, _∙_}
-use mathlib.Core.Bool.{Bool, true, false, cond, not}
+use mathlib.Core.Bool.{Bool, true, false, cond, not, _||_, or-false, and-true, and-false, true≢false}
 use mathlib.Core.List.{List}
 use mathlib.Core.Logic.{_≢_}
 use native.Mathlib.Nat.{sub-zero}
@@ -10,6 +10,7 @@ use native.Mathlib.Omega.{arith}
 use lib.Dec.{T, ltb, leb, eqb}
 use lib.ListN.{getD, set}
 use lib.Ieee.{Float, nan, binary64, ofBits}
+use borrow.Author.Count.{below-more}
 use borrow.Author.Tests.{lt-ltb, le-ltb, le-leb, lt-leb, ltb-true, leb-true, eq-eqb, ne-eqb}
 use Rattle.whole.specs.declared.Checked.{Checked}
 use Rattle.whole.specs.declared.Checked.the-variants.{Good, Bad}
@@ -21,7 +22,7 @@ use Rattle.keys.specs.declared.Keys.{Keys}
 use Rattle.keys.specs.declared.Refusal.the-variants.{Done, BadKey, BadTime, KeysFull}
 use Rattle.keys.specs.Script.{placesOf, waits, freeFrom, freeOf, countedOf, Script, script, Outcome, outcome, placed, putOf, pressOf}
 use Rattle.keys.specs.Live as live
-use Rattle.keys.specs.Live.{withLive, withHolds, liveOf, holdOf, also, heldFrom, heldOf, tapped}
+use Rattle.keys.specs.Live.{withLive, withHolds, liveOf, holdOf, downOf, also, heldFrom, heldOf, tapped}
 use Rattle.keys.specs.Lines.{wanted, driven, lines, syncOf}
 use Rattle.keys.specs.Edges.{edgesOf, edgesFrom, pressEdges}
 
@@ -150,6 +151,25 @@ module _ (k : Keys) (key : ℕ) where
   hold-set until a b c h g p q r = rw (le-leb _ _ h, g, p, q, r)
 
 -- ---- the presses, one at a time
+
+pub down-adds : (h : Held) (t : Float) (code : ℕ) (now : Float) → downOf t now ≡ true
+    → record { a = h .a || eqb code 0; b = h .b || eqb code 1; c = h .c || eqb code 2 } ≡ also h t code now
+down-adds h t code now d = rw (d, and-true (eqb code 0), and-true (eqb code 1), and-true (eqb code 2))
+
+-- no key is down for a press that is not down
+pub up-still : (h : Held) (t : Float) (code : ℕ) (now : Float) → downOf t now ≡ false → also h t code now ≡ h
+up-still h t code now d =
+    rw (d, and-false (eqb code 0), and-false (eqb code 1), and-false (eqb code 2), or-false (h .a), or-false (h .b), or-false (h .c))
+
+module _ (times : List Float) (now : Float) where
+  -- none of n presses from the i-th on is down
+  abbrev pub Up : ℕ → ℕ → Type 0
+  Up i n = (j : ℕ) → j < n → downOf (getD times (i + j) nan) now ≡ false
+
+  pub up-more : (i n : ℕ) (on down : Bool) → down ≡ downOf (getD times (i + n) nan) now → (on ≡ false → Up i n) → (on || down) ≡ false → Up i (n + 1)
+  up-more i n true down e u h = absurd (true≢false h)
+  up-more i n false down e u h = below-more (λ (j : ℕ). downOf (getD times (i + j) nan) now ≡ false) n (u refl) (sym e ∙ h)
+
 module _ (times : List Float) (codes : List ℕ) (now : Float) where
   pub held-none : (h : Held) → h ≡ heldFrom times codes h now 0
   unfolding heldFrom
@@ -160,10 +180,21 @@ module _ (times : List Float) (codes : List ℕ) (now : Float) where
   unfolding heldFrom
   held-more h₀ h i e = rw (add-one, e)
 
-  pub held-all : (k : Keys) (n i : ℕ) (h₀ h : Held) → n ≡ placesOf (k .count) → h₀ ≡ tapped (k .live) (k .holds) now → i ≤ n → n ≤ i
-      → h ≡ heldFrom times codes h₀ now i → h ≡ heldOf times codes k now
+  pub held-upto : (h₀ h : Held) (i to : ℕ) → i ≤ to → to ≤ i → h ≡ heldFrom times codes h₀ now i → h ≡ heldFrom times codes h₀ now to
+  held-upto h₀ h i to a b e = let z : i ≡ to = omega arith in e ∙ rw z
+
+  -- presses that are not down change nothing, however many
+  pub held-past : (h : Held) (i n : ℕ) → Up times now i n → heldFrom times codes h now i ≡ heldFrom times codes h now (i + n)
+  unfolding heldFrom
+  held-past h i zero up = let z : i + 0 ≡ i = omega arith in rw z
+  held-past h i (suc n) up =
+      let z : i + suc n ≡ suc (i + n) = omega arith in
+      rw z (held-past h i n (λ j l. up j (omega arith)) ∙ sym (up-still _ (getD times (i + n) nan) (getD codes (i + n) 0) now (up n (omega arith))))
+
+  pub held-all : (k : Keys) (n : ℕ) (h₀ h : Held) → n ≡ placesOf (k .count) → h₀ ≡ tapped (k .live) (k .holds) now
+      → h ≡ heldFrom times codes h₀ now n → h ≡ heldOf times codes k now
   unfolding heldOf
-  held-all k n i h₀ h p q a b e = let z : i ≡ n = omega arith in e ∙ rw (z, p, q)
+  held-all k n h₀ h p q e = e ∙ rw (p, q)
 
 module _ (times : List Float) (now t : Float) where
   pub edges-none : t ≡ edgesFrom times now t 0

@@ -2,9 +2,9 @@
 -- ahead, and it stays so. And a press is seen: its time lies before its end.
 use Prim.Native.Nat.{ℕ, _*_, _^_}
 use mathlib.Core.Path.{_≡_, refl, ap, _∙_}
-use mathlib.Core.Bool.{Bool, true, false, _&&_, or-false, and-false}
+use mathlib.Core.Bool.{Bool, true, false, _&&_, and-false}
 use native.Mathlib.Nat.{le-of-lt}
-use lib.Dec.{T, eqb, lit<, lit≤}
+use lib.Dec.{T, lit<, lit≤}
 use lib.Ieee.{Float, fin, up, down, binary64, ofBits, lt, le}
 use lib.Ieee.Fits.{down-pos}
 use lib.Ieee.Order.{le-of-values}
@@ -19,6 +19,7 @@ use Rattle.keys.specs.Script.{endOf, waits}
 use Rattle.keys.specs.Live.{downOf, also}
 use Rattle.keys.specs.Edges.{afterOf, edgesOf}
 use Rattle.keys.proofs.Ahead.{ahead}
+use Rattle.keys.proofs.Cases.{up-still}
 
 not-lt-of-le : (x y : Float) → Clear x → Clear y → T (le x y) → lt y x ≡ false
 unfolding lt
@@ -36,8 +37,7 @@ le-of-before x y p q h =
 -- no key is down for it
 pub expired-up : (h : Held) (t : Float) (code : ℕ) (now : Float) → waits t now ≡ false → also h t code now ≡ h
 expired-up h t code now w =
-    let d : downOf t now ≡ false = ap (λ (b : Bool). le t now && b) w ∙ and-false (le t now) in
-    rw (d, and-false (eqb code 0), and-false (eqb code 1), and-false (eqb code 2), or-false (h .a), or-false (h .b), or-false (h .c))
+    up-still h t code now (ap (λ (b : Bool). le t now && b) w ∙ and-false (le t now))
 
 -- 0.15
 abbrev hold : Float

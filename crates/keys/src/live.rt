@@ -1,8 +1,10 @@
 // Keys held down right now, taps that stay held, and which keys are down at a time.
 ghost use mathlib.Core.Path.{_≡_};
-ghost use mathlib.Core.Bool.{cond};
-ghost use lib.Ieee.{ofBits, binary64};
-ghost use Rattle.keys.specs.Live.{changed, liveOf, holdOf, downOf, tapped, also, heldOf};
+ghost use mathlib.Core.Bool.{cond, false};
+ghost use Prim.Native.Nat.{ℕ, _+_, _≤_, _<_};
+ghost use lib.Ieee.{nan, ofBits, binary64};
+ghost use lib.ListN.{getD};
+ghost use Rattle.keys.specs.Live.{changed, liveOf, holdOf, downOf, tapped, also, heldFrom, heldOf};
 use crate::Changed;
 use crate::Held;
 use crate::Holds;
@@ -120,24 +122,77 @@ fn tapped(live: Held, holds: Holds, time: f64) -> Held
 fn also(held: Held, t: f64, code: u8, time: f64) -> Held
     ensures { λ r. ⌜ r ≡ also held t code time ⌝ }
 {
-    let on = down(t, time);
-    Held {
-        a: held.a | ((code == 0) & on),
-        b: held.b | ((code == 1) & on),
-        c: held.c | ((code == 2) & on),
+    if down(t, time) {
+        return Held {
+            a: held.a | (code == 0),
+            b: held.b | (code == 1),
+            c: held.c | (code == 2),
+        };
     }
+    held
 }
 
-// Which keys are down at `time` (scripted, live, or a tap still held).
+// Whether any of the 8 presses from a place on is down. It looks at all of them and never stops early, so that several
+// are compared at once.
+fn any_down(times: &[f64; 64], from: usize, time: f64) -> bool
+    requires { ⌜ from + 8 ≤ 64 ⌝ }
+    ensures { λ r. ⌜ (r ≡ false → (j : ℕ) → j < 8
+        → downOf (getD (now (times .entry)) (from + j) nan) time ≡ false) ⌝ }
+{
+    let mut on = false;
+    let mut i = 0usize;
+    while i < 8 {
+        on = on | down(times[from + i], time);
+        i += 1usize;
+    }
+    on
+}
+
+// The presses from a place up to another more, one by one.
+fn also_each(
+    times: &[f64; 64],
+    codes: &[u8; 64],
+    from: usize,
+    to: usize,
+    time: f64,
+    start: Held,
+) -> Held
+    requires { ⌜ (from ≤ to) × (to ≤ 64) ⌝ }
+    ensures { λ r. ⌜ ((h : Held) → start ≡ heldFrom (now (times .entry)) (now (codes .entry)) h time from
+        → r ≡ heldFrom (now (times .entry)) (now (codes .entry)) h time to) ⌝ }
+{
+    let mut held = start;
+    let mut i = from;
+    while i < to {
+        held = also(held, times[i], codes[i], time);
+        i += 1usize;
+    }
+    held
+}
+
+// The presses of 8 places more. Mostly none of them is down, and then nothing changes.
+fn also_block(times: &[f64; 64], codes: &[u8; 64], from: usize, time: f64, held: Held) -> Held
+    requires { ⌜ from + 8 ≤ 64 ⌝ }
+    ensures { λ r. ⌜ ((h : Held) → held ≡ heldFrom (now (times .entry)) (now (codes .entry)) h time from
+        → r ≡ heldFrom (now (times .entry)) (now (codes .entry)) h time (from + 8)) ⌝ }
+{
+    if any_down(times, from, time) {
+        return also_each(times, codes, from, from + 8, time, held);
+    }
+    held
+}
+
+// Which keys are down at `time` (scripted, live, or a tap still held). The presses are asked 8 at a time, as far as 8
+// are left.
 pub fn keys_held(times: &[f64; 64], codes: &[u8; 64], keys: Keys, time: f64) -> Held
     ensures { λ r. ⌜ r ≡ heldOf (now (times .entry)) (now (codes .entry)) keys time ⌝ }
 {
     let n = places(keys.count);
     let mut held = tapped(keys.live, keys.holds, time);
     let mut i = 0usize;
-    while i < n {
-        held = also(held, times[i], codes[i], time);
-        i += 1usize;
+    while i + 8 <= n {
+        held = also_block(times, codes, i, time, held);
+        i += 8usize;
     }
-    held
+    also_each(times, codes, i, n, time, held)
 }

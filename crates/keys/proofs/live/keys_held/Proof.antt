@@ -2,7 +2,7 @@ use Prim.Native.Nat.{_-_, _≤_}
 use mathlib.Core.Path.{_≡_, _∙_}
 use native.Mathlib.Omega.{arith}
 use Rattle.keys.specs.Live.{heldFrom}
-use Rattle.keys.proofs.Cases.{places-most, held-none, held-more, held-all}
+use Rattle.keys.proofs.Cases.{places-most, held-none, held-all}
 use borrow.Author.Needs.{needs}
 use Rattle.keys.proofs.live.keys_held.Statement.{statement}
 use Rattle.keys.proofs.live.keys_held.Tie as tie
@@ -16,26 +16,17 @@ abbrev μ-loop : tie.MeasureT-loop
 loop-holds : tie.Need-loop-holds Inv-loop μ-loop
 loop-holds c = (
   search needs,
-  omega (
-    arith,
-    (c .before .places .ensures),
-    places-most
-        (c .before .before .args .keys .count),
-  ),
+  omega (arith, c .before .places .ensures, places-most (c .before .before .args .keys .count)),
   held-none _ _ _ _,
 )
 
 loop-again : tie.Need-loop-again Inv-loop μ-loop
-loop-again c = (
-  search needs,
-  search needs,
-  (c .also .ensures) ∙ held-more _ _ _ _ _ _
-      (c .before .before .before .before .loop .inv .2),
-)
+loop-again c = (search needs, search needs, (c .also-block .ensures) _ (c .before .before .loop .inv .2))
 
 returns : tie.Need-returns Inv-loop μ-loop
-returns c = held-all _ _ _ _ _ _ _ _ (c .before .before .before .places .ensures)
-    (c .before .before .tapped .ensures) (c .before .loop .inv .0) (c .loop-test .left) (c .before .loop .inv .2)
+returns c =
+    held-all _ _ _ _ _ _ _ (c .before .before .before .before .places .ensures) (c .before .before .before .tapped .ensures)
+    (c .also-each .ensures _ (c .before .before .loop .inv .2))
 
 pub keys-held-spec : {M : Type 1} → statement M
 keys-held-spec =
@@ -47,10 +38,9 @@ keys-held-spec =
     (λ c κs. search needs)
     loop-holds
     (λ c. search needs)
-    (λ c. search needs)
-    (λ c. search needs)
     (λ c κs. search needs)
     (λ c. search needs)
     (λ c. search needs)
     loop-again
+    (λ c κs. search needs)
     returns)
