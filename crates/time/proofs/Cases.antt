@@ -1,25 +1,26 @@
 -- The branches of the definitions, as the functions meet them.
 use Prim.Native.Nat.{ℕ}
-use mathlib.Core.Path.{_≡_}
-use mathlib.Core.Bool.{Bool, true, false, _||_}
+use mathlib.Core.Path.{_≡_, refl}
+use mathlib.Core.Bool.{Bool, true, false, _||_, and-false, true≢false}
 use mathlib.Core.List.{List}
 use lib.ListN.{getD}
 use lib.Ieee.{Float, binary64, ofBits}
 use Rattle.timer.specs.declared.Timer.{Timer}
+use Rattle.clock.specs.declared.Times.{Times}
 use Rattle.keys.specs.declared.Keys.{Keys}
 use Rattle.keys.specs.Edges.{minOf}
 use Rattle.state.specs.declared.Clocks.{Clocks}
 use Rattle.time.specs.Clocks.{controlAt, reloadAt}
-use Rattle.time.specs.Irq.{wantedOf}
+use Rattle.time.specs.Irq.{pendingAt, timerLine, wantedOf}
 use Rattle.state.specs.Parts.{none}
-use Rattle.time.specs.Next.{timerNext, runs, anyPends, withTimer, withTimers, earliest, eventOf, finite, answered}
+use Rattle.time.specs.Next.{timerNext, runs, pends, anyPends, withTimer, withTimers, earliest, eventOf, finite, answered}
 
 -- ---- the next event
 module _ (own : List ℕ) (n : ℕ) (t : Timer) (clock : ℕ) (so : Float) (control : ℕ) (b : Bool) (h : control ≡ controlAt own n) (e : b ≡ runs control) where
-  pub timer-runs : (reload : ℕ) (next r : Float) → b ≡ true → reload ≡ reloadAt own n → next ≡ timerNext t clock control reload → r ≡ minOf so next
-      → r ≡ withTimer own n t clock so
+  pub timer-runs : {u : Timer} {reload : ℕ} {next r : Float} → b ≡ true → reload ≡ reloadAt own n → u ≡ t
+      → next ≡ timerNext u clock control reload → r ≡ minOf so next → r ≡ withTimer own n t clock so
   unfolding withTimer
-  timer-runs reload next r y k f g = rw (← h, ← e, y, ← k, ← f) g
+  timer-runs y k u f g = rw (← h, ← e, y, ← k, ← u, ← f) g
 
   pub timer-stands : b ≡ false → so ≡ withTimer own n t clock so
   unfolding withTimer
@@ -31,19 +32,35 @@ pub timers-ahead : (own : List ℕ) (ts : List Timer) (clock : ℕ) (so a b c d 
 unfolding withTimers
 timers-ahead own ts clock so a b c d e f g h i j k l = rw (← g, ← h, ← i, ← j, ← k) l
 
-module _ (own : List ℕ) (times : List Float) (c : Clocks) (k : Keys) (clock : ℕ) (wanted : Bool) (w : wanted ≡ wantedOf own (c .timers)) where
-  pub event-wanted : (c .converting || wanted) ≡ true → c .times .now ≡ eventOf own times c k clock
+none-of : (x y : Bool) → (x || y) ≡ false → (x ≡ false) × (y ≡ false)
+none-of true y h = absurd (true≢false h)
+none-of false y h = (refl, h)
+
+-- where no timer is pending, none runs and is pending
+pub none-pends : (own : List ℕ) (ts : List Timer) → timerLine ts ≡ false → anyPends own ts ≡ false
+unfolding timerLine anyPends pends
+none-pends own ts h =
+    let a = none-of (pendingAt ts 0) _ h in
+    let b = none-of (pendingAt ts 1) _ (a .1) in
+    let c = none-of (pendingAt ts 2) _ (b .1) in
+    let d = none-of (pendingAt ts 3) _ (c .1) in
+    let e = none-of (pendingAt ts 4) _ (d .1) in
+    simp (a .0, b .0, c .0, d .0, e .0, e .1, and-false)
+
+module _ (own : List ℕ) (times : List Float) (c : Clocks) (k : Keys) (clock : ℕ) {on wanted : Bool}
+    (f : on ≡ c .converting) (w : wanted ≡ wantedOf own (c .timers)) where
+  pub event-wanted : {t : Times} → t ≡ c .times → (on || wanted) ≡ true → t .now ≡ eventOf own times c k clock
   unfolding eventOf
-  event-wanted h = rw (← w, h)
+  event-wanted e h = let g = rw (f, w) at h in rw (g, e)
 
-  module _ (p : Bool) (q : p ≡ anyPends own (c .timers)) (h : (c .converting || wanted) ≡ false) where
-    pub event-pends : p ≡ true → c .times .now ≡ eventOf own times c k clock
+  module _ {p : Bool} (h : (on || wanted) ≡ false) (q : p ≡ anyPends own (c .timers)) where
+    pub event-pends : {t : Times} → t ≡ c .times → p ≡ true → t .now ≡ eventOf own times c k clock
     unfolding eventOf
-    event-pends y = rw (← w, h, ← q, y)
+    event-pends e y = let g = rw (f, w) at h in rw (g, ← q, y, e)
 
-    pub event-ahead : (r : Float) → p ≡ false → r ≡ earliest own times c k clock → r ≡ eventOf own times c k clock
+    pub event-ahead : {r : Float} → p ≡ false → r ≡ earliest own times c k clock → r ≡ eventOf own times c k clock
     unfolding eventOf
-    event-ahead r y e = rw (← w, h, ← q, y) e
+    event-ahead y e = let g = rw (f, w) at h in rw (g, ← q, y) e
 
 module _ (t : Float) (b : Bool) (e : b ≡ finite t) where
   pub answers-time : b ≡ true → record { refusal = 0; time = t } ≡ answered t

@@ -8,7 +8,7 @@ use state::Cells;
 use state::moments::pending_of;
 use whole::forms::keep;
 
-fn timer_irq_line(cells: &Cells) -> bool
+pub(crate) fn timer_irq_line(cells: &Cells) -> bool
     ensures { λ r. ⌜ ((f : List Float) → r ≡ timerLine (timersIn (now (cells .entry)) f)) ⌝ }
 {
     let a = pending_of(cells, 0);

@@ -1,20 +1,28 @@
 // The time of the next thing that can change what the CPU sees: next_event of the Rust.
 ghost use mathlib.Core.Path.{_≡_};
+ghost use mathlib.Core.List.{List};
 ghost use Prim.Native.Nat.{_<_};
 ghost use Rattle.time.specs.Next.{oneMore, vsyncNext, timerNext, gameNext, runs, pends, anyPends, withTimer, withTimers};
-ghost use Rattle.state.specs.Bank.{clocksIn, keysIn};
+ghost use lib.Ieee.{Float};
+ghost use lib.ListN.{getD};
+ghost use Rattle.state.specs.Parts.{none};
+ghost use Rattle.state.specs.Bank.{timersIn, clocksIn, keysIn};
 ghost use Rattle.time.specs.Clocks.{clockIn};
-ghost use Rattle.time.specs.Irq.{wantedOf};
 ghost use Rattle.time.specs.Next.{earliest, eventOf, finite, answered, nextOf};
 use crate::NextTime;
 use crate::irq::irq_wanted;
+use crate::irq::timer_irq_line;
 use crate::sysclk_var;
 use clock::Times;
-use keys::Keys;
 use keys::edges::min;
 use state::Cells;
-use state::Clocks;
 use state::Floats;
+use state::moments::converting_of;
+use state::moments::irq_of;
+use state::moments::pending_of;
+use state::moments::timer_of;
+use state::moments::times_of;
+use state::moments::vsync_of;
 use timer::Timer;
 
 // (n + 1) as f64, of a release build.
@@ -51,79 +59,98 @@ fn runs(control: u32) -> bool
 }
 
 // Whether timer n runs with its interrupt pending.
-fn pends(own: &[u32; 76], n: u32, t: Timer) -> bool
+fn pends(own: &[u32; 76], cells: &Cells, n: u32) -> bool
     requires { ⌜ n < 6 ⌝ }
-    ensures { λ r. ⌜ r ≡ pends (now (own .entry)) n t ⌝ }
+    ensures { λ r. ⌜ ((f : List Float) → r ≡ pends (now (own .entry)) n
+        (getD (timersIn (now (cells .entry)) f) n none)) ⌝ }
 {
-    runs(registers::own_reg(own, 0xC002_0000 + 0x20 * n)) & t.pending
+    runs(registers::own_reg(own, 0xC002_0000 + 0x20 * n)) & pending_of(cells, n as usize)
 }
 
-fn any_pends(own: &[u32; 76], timers: [Timer; 6]) -> bool
-    ensures { λ r. ⌜ r ≡ anyPends (now (own .entry)) timers ⌝ }
+fn each_pends(own: &[u32; 76], cells: &Cells) -> bool
+    ensures { λ r. ⌜ ((f : List Float) → r ≡ anyPends (now (own .entry)) (timersIn (now (cells .entry)) f)) ⌝ }
 {
-    let a = pends(own, 0, timers[0]);
-    let b = pends(own, 1, timers[1]);
-    let c = pends(own, 2, timers[2]);
-    let d = pends(own, 3, timers[3]);
-    let e = pends(own, 4, timers[4]);
-    let f = pends(own, 5, timers[5]);
+    let a = pends(own, cells, 0);
+    let b = pends(own, cells, 1);
+    let c = pends(own, cells, 2);
+    let d = pends(own, cells, 3);
+    let e = pends(own, cells, 4);
+    let f = pends(own, cells, 5);
     a | (b | (c | (d | (e | f))))
 }
 
+// Mostly no timer is pending, and then no control word needs to be looked at.
+fn any_pends(own: &[u32; 76], cells: &Cells) -> bool
+    ensures { λ r. ⌜ ((f : List Float) → r ≡ anyPends (now (own .entry)) (timersIn (now (cells .entry)) f)) ⌝ }
+{
+    if timer_irq_line(cells) {
+        return each_pends(own, cells);
+    }
+    false
+}
+
 // The earlier of `so` and what timer n waits for.
-fn with_timer(own: &[u32; 76], n: u32, t: Timer, clock: u32, so: f64) -> f64
+fn with_timer(own: &[u32; 76], cells: &Cells, floats: &Floats, n: u32, clock: u32, so: f64) -> f64
     requires { ⌜ n < 6 ⌝ }
-    ensures { λ r. ⌜ r ≡ withTimer (now (own .entry)) n t clock so ⌝ }
+    ensures { λ r. ⌜ r ≡ withTimer (now (own .entry)) n (getD (timersIn (now (cells .entry)) (now (floats .entry)))
+        n none) clock so ⌝ }
 {
     let control = registers::own_reg(own, 0xC002_0000 + 0x20 * n);
     if runs(control) {
         let reload = registers::own_reg(own, 0xC002_0008 + 0x20 * n);
+        let t = timer_of(cells, floats, n as usize);
         return min(so, timer_next(t, clock, control, reload));
     }
     so
 }
 
-fn with_timers(own: &[u32; 76], timers: [Timer; 6], clock: u32, so: f64) -> f64
-    ensures { λ r. ⌜ r ≡ withTimers (now (own .entry)) timers clock so ⌝ }
+fn with_timers(own: &[u32; 76], cells: &Cells, floats: &Floats, clock: u32, so: f64) -> f64
+    ensures { λ r. ⌜ r ≡ withTimers (now (own .entry)) (timersIn (now (cells .entry)) (now (floats .entry)))
+        clock so ⌝ }
 {
-    let a = with_timer(own, 0, timers[0], clock, so);
-    let b = with_timer(own, 1, timers[1], clock, a);
-    let c = with_timer(own, 2, timers[2], clock, b);
-    let d = with_timer(own, 3, timers[3], clock, c);
-    let e = with_timer(own, 4, timers[4], clock, d);
-    with_timer(own, 5, timers[5], clock, e)
+    let a = with_timer(own, cells, floats, 0, clock, so);
+    let b = with_timer(own, cells, floats, 1, clock, a);
+    let c = with_timer(own, cells, floats, 2, clock, b);
+    let d = with_timer(own, cells, floats, 3, clock, c);
+    let e = with_timer(own, cells, floats, 4, clock, d);
+    with_timer(own, cells, floats, 5, clock, e)
 }
 
 // The earliest of the vertical sync, the timers, the 1 Hz tick and the keys' edges.
-fn earliest(own: &[u32; 76], times: &[f64; 64], c: Clocks, k: Keys, clock: u32) -> f64
-    ensures { λ r. ⌜ r ≡ earliest (now (own .entry)) (now (times .entry)) c k clock ⌝ }
+fn earliest(own: &[u32; 76], cells: &Cells, floats: &Floats, times: &[f64; 64], clock: u32) -> f64
+    ensures { λ r. ⌜ r ≡ earliest (now (own .entry)) (now (times .entry)) (clocksIn (now (cells .entry))
+        (now (floats .entry)))
+        (keysIn (now (cells .entry)) (now (floats .entry))) clock ⌝ }
 {
-    let timers = c.timers;
-    let timer = with_timers(own, timers, clock, vsync_next(c.vsync));
-    let tick = min(timer, game_next(c.times, c.irq.fired));
-    keys::edges::next_edge(times, k, c.times.now, tick)
+    let t = times_of(floats);
+    let irq = irq_of(cells, floats);
+    let timer = with_timers(own, cells, floats, clock, vsync_next(vsync_of(cells)));
+    let tick = min(timer, game_next(t, irq.fired));
+    let k = state::rests::keys_of(cells, floats);
+    keys::edges::next_edge(times, k, t.now, tick)
 }
 
 // The Rust returns at the first timer that is pending, whatever the timers before it wait for; so all are asked first.
 fn event_time(
     own: &[u32; 76],
+    cells: &Cells,
+    floats: &Floats,
+    sram: &[u8],
     times: &[f64; 64],
-    c: Clocks,
-    k: Keys,
-    clock: u32,
-    wanted: bool,
 ) -> f64
-    requires { ⌜ wanted ≡ wantedOf (now own) (c .timers) ⌝ }
-    ensures { λ r. ⌜ r ≡ eventOf (now (own .entry)) (now (times .entry)) c k clock ⌝ }
+    ensures { λ r. ⌜ r ≡ eventOf (now (own .entry)) (now (times .entry)) (clocksIn (now (cells .entry))
+        (now (floats .entry)))
+        (keysIn (now (cells .entry)) (now (floats .entry))) (clockIn (now (sram .entry))) ⌝ }
 {
-    let timers = c.timers;
-    if c.converting | wanted {
-        return c.times.now;
+    let t = times_of(floats);
+    if converting_of(cells) | irq_wanted(own, cells) {
+        return t.now;
     }
-    if any_pends(own, timers) {
-        return c.times.now;
+    if any_pends(own, cells) {
+        return t.now;
     }
-    earliest(own, times, c, k, clock)
+    let clock = sysclk_var(sram);
+    earliest(own, cells, floats, times, clock)
 }
 
 // Between the least and the greatest f64.
@@ -160,9 +187,5 @@ pub fn next_event(
         (now (floats .entry)))
         (keysIn (now (cells .entry)) (now (floats .entry))) (clockIn (now (sram .entry))) ⌝ }
 {
-    let wanted = irq_wanted(own, cells);
-    let clock = sysclk_var(sram);
-    let c = state::moments::clocks_of(cells, floats);
-    let k = state::rests::keys_of(cells, floats);
-    answered(event_time(own, times, c, k, clock, wanted))
+    answered(event_time(own, cells, floats, sram, times))
 }

@@ -19,7 +19,8 @@ loop-holds c = (search needs, λ e j l. absurd (omega arith))
 loop-again : tie.Need-loop-again Inv-loop μ-loop
 loop-again c =
     let a = c .before .before .before .before .args in
-    (search needs, up-more (a .times .now) (a .time) (a .from) _ _ _ (c .down .ensures) (c .before .before .before .loop .inv .1))
+    let s = c .before .before .before .loop in
+    (search needs, up-more (a .times .now) (a .time) (a .from) _ _ _ (c .down .ensures) (s .inv .1))
 
 returns : tie.Need-returns Inv-loop μ-loop
 returns c e j l = (c .before .loop .inv .1) e j (omega arith)

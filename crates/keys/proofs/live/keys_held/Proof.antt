@@ -25,7 +25,8 @@ loop-again c = (search needs, search needs, (c .also-block .ensures) _ (c .befor
 
 returns : tie.Need-returns Inv-loop μ-loop
 returns c =
-    held-all _ _ _ _ _ _ _ (c .before .before .before .before .places .ensures) (c .before .before .before .tapped .ensures)
+    let c3 = c .before .before .before in
+    held-all _ _ _ _ _ _ _ (c3 .before .places .ensures) (c3 .tapped .ensures)
     (c .also-each .ensures _ (c .before .before .loop .inv .2))
 
 pub keys-held-spec : {M : Type 1} → statement M

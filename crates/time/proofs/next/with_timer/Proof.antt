@@ -5,14 +5,20 @@ use Rattle.time.proofs.next.with_timer.Tie as tie
 
 returns : tie.Need-returns
 returns c =
-    let at-if1 = c .before .before .before in
-    timer-runs _ _ _ _ _ _ _ (at-if1 .before .before .own-reg .ensures) (at-if1 .before .runs .ensures) _ _ _
-    (at-if1 .if1 .taken)
-    (c .before .before .own-reg2 .ensures) (c .before .timer-next .ensures) (c .min .ensures)
+    let c1 = c .before in
+    let c2 = c1 .before in
+    let c3 = c2 .before in
+    let c4 = c3 .before in
+    let c5 = c4 .before in
+    let c6 = c5 .before in
+    timer-runs _ _ _ _ _ _ _ (c6 .own-reg .ensures) (c5 .runs .ensures) (c4 .if1 .taken)
+    (c3 .own-reg2 .ensures) (c2 .timer-of .ensures) (c1 .timer-next .ensures) (c .min .ensures)
 
 returns-2 : tie.Need-returns-2
-returns-2 c = timer-stands _ _ _ _ _ _ _ (c .before .before .own-reg .ensures) (c .before .runs .ensures)
-    (c .if1 .left)
+returns-2 c =
+    let c1 = c .before in
+    let c2 = c1 .before in
+    timer-stands _ _ _ _ _ _ _ (c2 .own-reg .ensures) (c1 .runs .ensures) (c .if1 .left)
 
 pub with-timer-spec : {M : Type 1} → statement M
 with-timer-spec =
@@ -24,6 +30,7 @@ with-timer-spec =
     (λ c κs. search needs)
     (λ c. search needs)
     (λ c. search needs)
+    (λ c κs. search needs)
     (λ c κs. search needs)
     (λ c κs. search needs)
     (λ c κs. search needs)
