@@ -159,16 +159,19 @@ down-adds h t code now d = rw (d, and-true (eqb code 0), and-true (eqb code 1), 
 -- no key is down for a press that is not down
 pub up-still : (h : Held) (t : Float) (code : ℕ) (now : Float) → downOf t now ≡ false → also h t code now ≡ h
 up-still h t code now d =
-    rw (d, and-false (eqb code 0), and-false (eqb code 1), and-false (eqb code 2), or-false (h .a), or-false (h .b), or-false (h .c))
+    rw (d, and-false (eqb code 0), and-false (eqb code 1), and-false (eqb code 2))
+    (rw (or-false (h .a), or-false (h .b), or-false (h .c)))
 
 module _ (times : List Float) (now : Float) where
   -- none of n presses from the i-th on is down
   abbrev pub Up : ℕ → ℕ → Type 0
   Up i n = (j : ℕ) → j < n → downOf (getD times (i + j) nan) now ≡ false
 
-  pub up-more : (i n : ℕ) (on down : Bool) → down ≡ downOf (getD times (i + n) nan) now → (on ≡ false → Up i n) → (on || down) ≡ false → Up i (n + 1)
+  pub up-more : (i n : ℕ) (on down : Bool) → down ≡ downOf (getD times (i + n) nan) now → (on ≡ false → Up i n)
+      → (on || down) ≡ false → Up i (n + 1)
   up-more i n true down e u h = absurd (true≢false h)
-  up-more i n false down e u h = below-more (λ (j : ℕ). downOf (getD times (i + j) nan) now ≡ false) n (u refl) (sym e ∙ h)
+  up-more i n false down e u h =
+      below-more (λ (j : ℕ). downOf (getD times (i + j) nan) now ≡ false) n (u refl) (sym e ∙ h)
 
 module _ (times : List Float) (codes : List ℕ) (now : Float) where
   pub held-none : (h : Held) → h ≡ heldFrom times codes h now 0
@@ -180,16 +183,19 @@ module _ (times : List Float) (codes : List ℕ) (now : Float) where
   unfolding heldFrom
   held-more h₀ h i e = rw (add-one, e)
 
-  pub held-upto : (h₀ h : Held) (i to : ℕ) → i ≤ to → to ≤ i → h ≡ heldFrom times codes h₀ now i → h ≡ heldFrom times codes h₀ now to
+  pub held-upto : (h₀ h : Held) (i to : ℕ) → i ≤ to → to ≤ i → h ≡ heldFrom times codes h₀ now i
+      → h ≡ heldFrom times codes h₀ now to
   held-upto h₀ h i to a b e = let z : i ≡ to = omega arith in e ∙ rw z
 
   -- presses that are not down change nothing, however many
-  pub held-past : (h : Held) (i n : ℕ) → Up times now i n → heldFrom times codes h now i ≡ heldFrom times codes h now (i + n)
+  pub held-past : (h : Held) (i n : ℕ) → Up times now i n
+      → heldFrom times codes h now i ≡ heldFrom times codes h now (i + n)
   unfolding heldFrom
   held-past h i zero up = let z : i + 0 ≡ i = omega arith in rw z
   held-past h i (suc n) up =
       let z : i + suc n ≡ suc (i + n) = omega arith in
-      rw z (held-past h i n (λ j l. up j (omega arith)) ∙ sym (up-still _ (getD times (i + n) nan) (getD codes (i + n) 0) now (up n (omega arith))))
+      rw z (held-past h i n (λ j l. up j (omega arith))
+      ∙ sym (up-still _ (getD times (i + n) nan) (getD codes (i + n) 0) now (up n (omega arith))))
 
   pub held-all : (k : Keys) (n : ℕ) (h₀ h : Held) → n ≡ placesOf (k .count) → h₀ ≡ tapped (k .live) (k .holds) now
       → h ≡ heldFrom times codes h₀ now n → h ≡ heldOf times codes k now

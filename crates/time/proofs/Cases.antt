@@ -13,7 +13,8 @@ use Rattle.state.specs.declared.Clocks.{Clocks}
 use Rattle.time.specs.Clocks.{controlAt, reloadAt}
 use Rattle.time.specs.Irq.{pendingAt, timerLine, wantedOf}
 use Rattle.state.specs.Parts.{none}
-use Rattle.time.specs.Next.{timerNext, runs, pends, anyPends, withTimer, withTimers, earliest, eventOf, finite, answered}
+use Rattle.time.specs.Next.{timerNext, runs, pends, anyPends, withTimer, withTimers, earliest, eventOf}
+use Rattle.time.specs.Next.{finite, answered}
 
 -- ---- the next event
 module _ (own : List ℕ) (n : ℕ) (t : Timer) (clock : ℕ) (so : Float) (control : ℕ) (b : Bool) (h : control ≡ controlAt own n) (e : b ≡ runs control) where

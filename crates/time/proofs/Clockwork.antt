@@ -1,11 +1,15 @@
 -- Time over the bank.
-use Prim.Native.Nat.{ℕ}
-use mathlib.Core.Path.{_≡_, sym, ap, _∙_}
-use mathlib.Core.Bool.{Bool}
-use mathlib.Core.List.{List}
+use Prim.Native.Nat.{ℕ, zero, suc, _<_}
+use mathlib.Core.Path.{_≡_, refl, sym, ap, _∙_}
+use mathlib.Core.Bool.{Bool, true, false, cond, not, false≢true}
+use mathlib.Core.List.{List, [], _∷_}
+use native.Mathlib.Omega.{arith}
+use lib.Bits.{bitAnd, bitOr}
+use lib.Dec.{ltb}
 use lib.Ieee.{Float}
-use lib.ListN.{getD}
-use Rattle.registers.specs.Words.{ownAt, ownWith}
+use lib.ListN.{getD, set}
+use borrow.Author.Tests.{eq-eqb, ltb-true}
+use Rattle.registers.specs.Words.{slotOf, ownAt, ownWith}
 use Rattle.clock.specs.declared.Times.{Times}
 use Rattle.clock.specs.declared.RtcIrq.{RtcIrq}
 use Rattle.clock.specs.declared.Signal.{Signal}
@@ -14,7 +18,7 @@ use Rattle.clock.specs.declared.Adc.{Adc}
 use Rattle.clock.specs.declared.Moved.{Moved}
 use Rattle.clock.specs.declared.Moved.the-variants.{To, BadTime}
 use Rattle.clock.specs.Times.{movedOf}
-use Rattle.clock.specs.Sources.{vsyncOf, tickedOf}
+use Rattle.clock.specs.Sources.{signalOf, vsyncOf, tickOf, tickedOf}
 use Rattle.clock.specs.Adc.{convertedOf}
 use Rattle.keys.specs.declared.Held.{Held}
 use Rattle.keys.specs.declared.Keys.{Keys}
@@ -31,11 +35,52 @@ use Rattle.state.specs.Parts.{none, timersPut, timerPut, timesPut, vsyncPut, co
 use Rattle.state.specs.Bank.{timersIn, partsIn}
 use Rattle.time.specs.Bank.{Went, went, syncedPut, convertedPut, tickedPut, wentOf, Moves, moves, movesOf}
 
+-- ---- where nothing happens the same values would be put back, which changes nothing
+
+put-same : {A : Type 0} (l : List A) (i : ℕ) (d : A) → set l i (getD l i d) ≡ l
+put-same [] i d = refl
+put-same (x ∷ xs) zero d = refl
+put-same (x ∷ xs) (suc i) d = ap (λ (z : List _). x ∷ z) (put-same xs i d)
+
+own-same : (own : List ℕ) (a : ℕ) {v : ℕ} → v ≡ ownAt own a → own ≡ ownWith own a v
+unfolding ownAt ownWith
+own-same own a e = sym (ap (λ (z : ℕ). ownWith own a z) e ∙ by (ltb (slotOf a) 76))
+  where
+    by : (b : Bool) → cond b (set own (slotOf a) (cond b (getD own (slotOf a) 0) 0)) own ≡ own
+    by true = put-same own (slotOf a) 0
+    by false = refl
+
+-- no more periods than were seen leave the status alone
+signal-still : (n seen status bit : ℕ) {s : Signal} → s ≡ signalOf n seen status bit → s .seen ≡ seen
+    → s .status ≡ status
+unfolding signalOf
+signal-still n seen status bit e h =
+    ap (λ (z : Signal). z .status) e ∙ by (ltb seen n) refl (ap (λ (z : Signal). z .seen) (sym e) ∙ h)
+  where
+    either : Bool → Signal
+    either b = cond b (record { seen = n; status = bitOr status bit }) (record { seen = seen; status = status })
+
+    by : (b : Bool) → ltb seen n ≡ b → either b .seen ≡ seen → either b .status ≡ status
+    by true l z = let m : seen < n = ltb-true seen n l in absurd (omega arith)
+    by false l z = refl
+
+-- ---- the timers
+
 pub timer-stepped : (own l : List ℕ) (f : List Float) (n : ℕ) (now : Float) (clock : ℕ) {control reload : ℕ} {t r : Timer} {y : Parts}
     → control ≡ controlAt own n → reload ≡ reloadAt own n → t ≡ getD (timersIn l f) n none → r ≡ advancedOf t now clock control reload → y ≡ timerPut (partsIn l f) n r
     → y ≡ timerPut (partsIn l f) n (timerAfter own n (getD (timersIn l f) n none) now clock)
 unfolding timerAfter
 timer-stepped own l f n now clock c d e h i = rw (i, h, e, c, d)
+
+-- a timer that does not run
+pub timer-stays : (own l : List ℕ) (f : List Float) (n : ℕ) (now : Float) (clock : ℕ) {control : ℕ}
+    → control ≡ controlAt own n → bitAnd control 0x2000 ≡ 0
+    → partsIn l f ≡ timerPut (partsIn l f) n (timerAfter own n (getD (timersIn l f) n none) now clock)
+unfolding advancedOf
+timer-stays own l f n now clock {control} c h =
+    let t : Timer = getD (timersIn l f) n none in
+    timer-stepped own l f n now clock {reload = reloadAt own n} {t = t} {r = t} c refl refl (rw (eq-eqb _ _ h))
+    (ap (λ (z : List Timer). timersPut (partsIn l f) z) (sym (put-same (timersIn l f) n none)))
 
 abbrev stepped : List ℕ → Float → ℕ → Parts → ℕ → Parts
 stepped own now clock x n = timerPut x n (timerAfter own n (getD (x .devices .clocks .timers) n none) now clock)
@@ -62,6 +107,36 @@ module _ (own : List ℕ) (x : Parts) where
       → o ≡ ownWith own 0xC0040054 (t .status) → y ≡ irqPut x (t .irq) → went o y ≡ tickedPut x (tickedIn own (x .devices .clocks .irq) game)
   unfolding tickedIn
   irq-went game a b e h i = rw (h, i, e, b, a)
+
+  -- no period has passed
+  pub vsync-stays : (now : Float) {status last : ℕ} {s : Signal} → status ≡ ownAt own 0xD050018C
+      → last ≡ x .devices .clocks .vsync → s ≡ vsyncOf last now status → s .seen ≡ last
+      → went own x ≡ syncedPut x (syncedOf own (x .devices .clocks .vsync) now)
+  vsync-stays now a b e h =
+      vsync-went now a b e (own-same own 0xD050018C (signal-still _ _ _ _ e h ∙ a))
+      (ap (λ (v : ℕ). vsyncPut x v) (sym (h ∙ b)))
+
+  -- nothing converts
+  pub adc-stays : {on : Bool} → on ≡ x .devices .clocks .converting → not on ≡ true
+      → went own x ≡ convertedPut x (convertedIn own (x .devices .clocks .converting))
+  unfolding convertedOf
+  adc-stays {on = true} c h = absurd (false≢true h)
+  adc-stays {on = false} c h =
+      let adc : Adc = record { converting = false; control = ownAt own 0xC00C0004; result = ownAt own 0xC00C0008 } in
+      adc-went {adc = adc} refl refl c refl
+      (own-same own 0xC00C0008 refl) (own-same own 0xC00C0004 refl) (ap (λ (b : Bool). convertingPut x b) (sym c))
+
+  -- no second has passed
+  pub irq-stays : (game : Float) {status : ℕ} {irq : RtcIrq} {t : Ticked} → status ≡ ownAt own 0xC0040054
+      → irq ≡ x .devices .clocks .irq → t ≡ tickedOf irq game status → t .irq .fired ≡ irq .fired
+      → went own x ≡ tickedPut x (tickedIn own (x .devices .clocks .irq) game)
+  irq-stays game {status} {irq} {t} a b e h =
+      let k : tickOf (irq .fired) game status .seen ≡ irq .fired = ap (λ (z : Ticked). z .irq .fired) (sym e) ∙ h in
+      let s : t .status ≡ status
+      = ap (λ (z : Ticked). z .status) e ∙ signal-still _ _ _ _ {s = tickOf (irq .fired) game status} refl k in
+      let i : t .irq ≡ irq
+      = ap (λ (z : Ticked). z .irq) e ∙ ap (λ (z : ℕ). record { fired = z; base = irq .base; set = irq .set }) k in
+      irq-went game a b e (own-same own 0xC0040054 (s ∙ a)) (ap (λ (z : RtcIrq). irqPut x z) (sym (i ∙ b)))
 
 pub devices-went : (own : List ℕ) (x : Parts) (clock : ℕ) (t : Times) {o₁ o₂ o₃ : List ℕ} {x₁ x₂ x₃ x₄ x₅ : Parts}
     → x₁ ≡ timersPut x (timersAfter own (x .devices .clocks .timers) (t .now) clock) → went o₁ x₂ ≡ syncedPut x₁ (syncedOf own (x₁ .devices .clocks .vsync) (t .now))

@@ -1,6 +1,7 @@
 // Time goes on: advance of the Rust, and what it calls, in the Rust's order.
 //
-// Where the Rust leaves a word alone the same value is put back, which changes nothing.
+// Where the Rust leaves the words alone, so does a step here; the definitions put the same values back, which changes
+// nothing.
 ghost use mathlib.Core.Path.{_≡_};
 ghost use mathlib.Core.List.{List};
 ghost use Prim.Native.Nat.{_<_};
@@ -36,6 +37,9 @@ fn timer_advance(
         × Kept (now (cells .entry)) (now (floats .entry)) (now (cells .exit)) (now (floats .exit)) ⌝ }
 {
     let control = registers::own_reg(own, 0xC002_0000 + 0x20 * n);
+    if control & 0x2000 == 0 {
+        return;
+    }
     let reload = registers::own_reg(own, 0xC002_0008 + 0x20 * n);
     let t = state::moments::timer_of(cells, floats, n as usize);
     let next = timer::advance(t, time, clock, control, reload);
@@ -66,6 +70,9 @@ fn vsync(own: &mut [u32; 76], cells: &mut Cells, time: f64)
     let status = registers::own_reg(own, 0xD050_018C);
     let last = state::moments::vsync_of(cells);
     let s = clock::sources::vsync(last, time, status);
+    if s.seen == last {
+        return;
+    }
     registers::own_insert(own, 0xD050_018C, s.status);
     state::moments::put_vsync(cells, s.seen);
 }
@@ -76,9 +83,12 @@ fn adc_advance(own: &mut [u32; 76], cells: &mut Cells)
         (clocksIn (now (cells .entry)) f .converting)))
         × Kept (now (cells .entry)) f (now (cells .exit)) f) ⌝ }
 {
+    let converting = state::moments::converting_of(cells);
+    if !converting {
+        return;
+    }
     let control = registers::own_reg(own, 0xC00C_0004);
     let result = registers::own_reg(own, 0xC00C_0008);
-    let converting = state::moments::converting_of(cells);
     let adc = clock::convert::adc_advance(Adc {
         converting,
         control,
@@ -98,6 +108,9 @@ fn rtc_irq_advance(own: &mut [u32; 76], cells: &mut Cells, floats: &mut Floats, 
     let status = registers::own_reg(own, 0xC004_0054);
     let irq = state::moments::irq_of(cells, floats);
     let t = clock::sources::rtc_irq_advance(irq, game, status);
+    if t.irq.fired == irq.fired {
+        return;
+    }
     registers::own_insert(own, 0xC004_0054, t.status);
     state::moments::put_irq(cells, floats, t.irq);
 }

@@ -1,4 +1,4 @@
-use Rattle.time.proofs.Clockwork.{irq-went}
+use Rattle.time.proofs.Clockwork.{irq-stays, irq-went}
 use Rattle.state.specs.Bank.{partsIn}
 use borrow.Author.Needs.{needs}
 use Rattle.time.proofs.moves.rtc_irq_advance.Statement.{statement}
@@ -7,14 +7,27 @@ use Rattle.time.proofs.moves.rtc_irq_advance.Tie as tie
 returns : tie.Need-returns
 returns c =
     let c3 = c .before .before .before in
-    let c5 = c3 .before .before in
-    let c6 = c5 .before in
-    let c9 = c6 .before .before .before in
-    let c11 = c9 .before .before in
-    let a = (c11 .args) in
+    let c4 = c3 .before in
+    let c7 = c4 .before .before .before in
+    let c9 = c7 .before .before in
+    let a = c9 .args in
+    let x = partsIn (a .cells .now) (a .floats .now) in
+    let stays =
+    irq-stays (a .own .now) x (a .game) (c7 .own-reg .ensures) (c4 .irq-of .ensures) (c3 .rtc-irq-advance .ensures)
+    (c .if1 .taken) in
+    (stays, λ k. k)
+
+returns-2 : tie.Need-returns-2
+returns-2 c =
+    let c3 = c .before .before .before in
+    let c8 = c3 .before .before .before .before .before in
+    let c9 = c8 .before in
+    let c12 = c9 .before .before .before in
+    let c14 = c12 .before .before in
+    let a = c14 .args in
     let x = partsIn (a .cells .now) (a .floats .now) in (
-      irq-went (a .own .now) x (a .game) (c9 .own-reg .ensures)
-          (c6 .irq-of .ensures) (c5 .rtc-irq-advance .ensures) (c3 .own-insert .ensures)
+      irq-went (a .own .now) x (a .game) (c12 .own-reg .ensures)
+          (c9 .irq-of .ensures) (c8 .rtc-irq-advance .ensures) (c3 .own-insert .ensures)
           (c .put-irq .ensures .parts),
       (c .put-irq .ensures .kept),
     )
@@ -26,6 +39,7 @@ rtc-irq-advance-spec =
     (λ c κs. search needs)
     (λ c κs. search needs)
     (λ c κs. search needs)
+    returns
     (λ c κs. search needs)
     (λ c κs. search needs)
-    returns)
+    returns-2)
