@@ -4,6 +4,9 @@
 #[path = "../oracle/bus_kinds.rs"]
 #[allow(dead_code)]
 mod bus_kinds;
+#[path = "../oracle/bus_map.rs"]
+#[allow(dead_code)]
+mod bus_map;
 #[path = "../oracle/device.rs"]
 mod device;
 mod families;
@@ -77,8 +80,9 @@ impl Bench {
         let (memories, out) = &mut self.rust;
         memories.swap(&mut system);
         let start = Instant::now();
-        measured_rust(&mut system, &self.fresh, &self.script, out);
+        let returned = measured_rust(&mut system, &self.fresh, &self.script, out);
         let took = start.elapsed();
+        assert_eq!(returned, 0, "the Rust refused the script");
         memories.swap(&mut system);
         took
     }
@@ -95,13 +99,28 @@ impl Bench {
     fn alike(&self) -> bool {
         self.rust.1 == self.port.1 && self.rust.0 .0 == self.port.0 .0
     }
+
+    /// Both sides run once, and what came out is compared.
+    fn agreed(family: &Family) -> Result<Bench, String> {
+        let mut bench = Bench::new(family);
+        bench.rust_run();
+        bench.port_run();
+        match bench.alike() {
+            true => Ok(bench),
+            false => Err(format!("{}: Rust and port differ", family.name)),
+        }
+    }
+}
+
+fn wished<'a>(part: &'a str) -> impl Iterator<Item = &'static Family> + 'a {
+    FAMILIES.iter().filter(move |family| family.name.contains(part))
 }
 
 // Their names are what a counter of instructions is told.
 #[no_mangle]
 #[inline(never)]
-fn measured_rust(system: &mut System, fresh: &System, script: &[u8], out: &mut [u8]) {
-    rust_side::run(system, fresh, black_box(script), out);
+fn measured_rust(system: &mut System, fresh: &System, script: &[u8], out: &mut [u8]) -> u32 {
+    rust_side::run(system, fresh, black_box(script), out)
 }
 
 #[no_mangle]
@@ -127,19 +146,17 @@ fn time(bench: &mut Bench) -> (f64, f64) {
     (median(rust) / steps, median(port) / steps)
 }
 
-fn time_all(wished: &str) -> Result<(), String> {
-    println!("{:<26}{:>10}{:>10}{:>8}", "ns a step (medians)", "Rust", "port", "ratio");
-    for family in FAMILIES.iter().filter(|family| family.name.contains(wished)) {
-        let mut bench = Bench::new(family);
-        bench.rust_run();
-        bench.port_run();
-        if !bench.alike() {
-            return Err(format!("{}: Rust and port differ", family.name));
-        }
-        let (rust, port) = time(&mut bench);
-        println!("{:<26}{rust:>10.1}{port:>10.1}{:>8.2}", family.name, port / rust);
+fn time_all(part: &str) -> Result<(), String> {
+    println!("{:<30}{:>10}{:>10}{:>8}", "ns a step (medians)", "Rust", "port", "ratio");
+    for family in wished(part) {
+        let (rust, port) = time(&mut Bench::agreed(family)?);
+        println!("{:<30}{rust:>10.1}{port:>10.1}{:>8.2}", family.name, port / rust);
     }
     Ok(())
+}
+
+fn agree_all(part: &str) -> Result<(), String> {
+    wished(part).try_for_each(|family| Bench::agreed(family).map(drop))
 }
 
 /// One run of one side, for a counter of instructions.
@@ -153,21 +170,31 @@ fn count(number: usize, side: &str) -> Option<()> {
     Some(())
 }
 
+fn list_families() {
+    for (number, family) in FAMILIES.iter().enumerate() {
+        println!("{number} {} {}", family.script().steps.len(), family.name);
+    }
+}
+
+const USAGE: &str = "usage: time|agree [PART OF A NAME] | families | count NUMBER rust|port";
+
 fn main() -> ExitCode {
     let arguments: Vec<String> = env::args().skip(1).collect();
     let words: Vec<&str> = arguments.iter().map(String::as_str).collect();
     let said = match *words {
         ["time"] => time_all(""),
-        ["time", wished] => time_all(wished),
+        ["time", part] => time_all(part),
+        ["agree"] => agree_all(""),
+        ["agree", part] => agree_all(part),
         ["families"] => {
-            let name = |(n, family): (usize, &Family)| println!("{n} {} {}", family.script().steps.len(), family.name);
-            FAMILIES.iter().enumerate().for_each(name);
+            list_families();
             Ok(())
         }
         ["count", number, side] => {
-            number.parse().ok().and_then(|number| count(number, side)).ok_or("no such run".to_string())
+            let counted = number.parse().ok().and_then(|number| count(number, side));
+            counted.ok_or("no such run".to_string())
         }
-        _ => Err("usage: time [PART OF A NAME] | families | count NUMBER rust|port".to_string()),
+        _ => Err(USAGE.to_string()),
     };
     match said {
         Ok(()) => ExitCode::SUCCESS,

@@ -1,6 +1,8 @@
 //! What is timed: a script for each thing that a unit's program does, as many
 //! steps of it as a script holds. No step is refused.
 
+use crate::bus_kinds::OTHERS;
+use crate::bus_map::takes_room;
 use crate::random::Random;
 use crate::script::{Press, ScriptStep, MOST};
 
@@ -16,6 +18,8 @@ pub struct Author {
     pub steps: Vec<ScriptStep>,
     random: Random,
     now: f64,
+    /// Register words without storage of their own, for the families that choose theirs once.
+    words: Vec<u32>,
 }
 
 const fn family(name: &'static str, make: fn(&mut Author)) -> Family {
@@ -27,20 +31,25 @@ const fn short(name: &'static str, make: fn(&mut Author), most: usize) -> Family
     Family { name, make, most }
 }
 
-pub const FAMILIES: [Family; 27] = [
+pub const FAMILIES: [Family; 32] = [
+    family("mixed", Author::mixed),
     family("memory, words", |author| author.memory(&[4])),
     family("memory, bytes and halves", |author| author.memory(&[1, 2])),
     family("memory, GPIO", Author::gpio),
     family("registers, own", Author::own),
     family("registers, four others", |author| author.others(4)),
-    family("registers, 256 others", |author| author.others(256)),
+    family("registers, 256 others", |author| author.others(OTHERS)),
     family("registers, zeros read", Author::zeros),
+    family("registers, 64 scattered", |author| author.scattered(64)),
+    family("registers, 256 scattered", |author| author.scattered(OTHERS)),
+    family("registers, scattered zeros", Author::scattered_zeros),
+    family("registers, words come and go", Author::come_and_go),
     family("registers, timers", Author::timer_words),
     family("registers, time of day", Author::time_of_day),
     family("registers, RTC chip", Author::rtc),
     family("registers, interrupts", Author::interrupts),
     family("registers, second SPI", Author::spi),
-    family("flash, read", Author::flash_read),
+    family("flash, read", |author| author.flash_read(256)),
     family("flash, program", Author::flash_program),
     family("flash, erase 4 KiB", |author| author.erase(0x20)),
     family("flash, erase 64 KiB", |author| author.erase(0xD8)),
@@ -59,8 +68,8 @@ pub const FAMILIES: [Family; 27] = [
 
 impl Family {
     pub fn script(&self) -> Author {
-        let random = Random::new(1);
-        let mut author = Author { presses: Vec::new(), steps: Vec::new(), random, now: 0.0 };
+        let (presses, steps, words) = (Vec::new(), Vec::new(), Vec::new());
+        let mut author = Author { presses, steps, random: Random::new(1), now: 0.0, words };
         while author.steps.len() < self.most {
             (self.make)(&mut author);
         }
@@ -70,9 +79,17 @@ impl Family {
 }
 
 /// The words of its own storage that a read shows as written.
+#[rustfmt::skip]
 const PLAIN: [u32; 7] = [
     0xC009_0004, 0xC009_0008, 0xD000_001C, 0xD010_0030, 0xD010_0038, 0xD050_016C, 0xD050_0188,
 ];
+
+/// The ranges of register words: where each begins, and how many words it has.
+const REGISTERS: [(u32, usize); 3] =
+    [(0xC000_1000, 0x3F_FC00), (0xD000_0000, 0x40_0000), (0xFF00_0000, 0x3F_FC00)];
+
+/// Words that come and go: so many beside those that there is room for.
+const AWAY: usize = 64;
 
 impl Author {
     fn step(&mut self, kind: u8, size: u8, address: u32, value: u64) {
@@ -98,7 +115,8 @@ impl Author {
 
     fn memory(&mut self, sizes: &[u8]) {
         let size = self.random.pick(sizes);
-        let (base, length) = self.random.pick(&[(0x2000_0000, 0x100_0000), (0xF800_0000, 0x10_0000)]);
+        let memories = [(0x2000_0000, 0x100_0000), (0xF800_0000, 0x10_0000)];
+        let (base, length) = self.random.pick(&memories);
         let address = base + self.below(length / 4) * 4;
         let value = self.random.next() & 0xFFFF_FFFF;
         self.step(2, size, address, value);
@@ -117,11 +135,16 @@ impl Author {
         self.read(word);
     }
 
-    fn others(&mut self, count: usize) {
-        let word = 0xC010_0000 + 4 * self.below(count);
+    /// Anything but zero, so that the word has a place from then on.
+    fn fill(&mut self, word: u32) {
         let value = self.random.next() as u32 | 1;
         self.write(word, value);
         self.read(word);
+    }
+
+    fn others(&mut self, count: usize) {
+        let word = 0xC010_0000 + 4 * self.below(count);
+        self.fill(word);
     }
 
     fn zeros(&mut self) {
@@ -132,6 +155,60 @@ impl Author {
         }
         let word = 0xC020_0000 + 4 * self.below(4096);
         self.read(word);
+    }
+
+    /// A word anywhere in the registers that takes one of the 256 places while it is not zero,
+    /// and is none of `words`.
+    fn scattered_word(&mut self) -> u32 {
+        loop {
+            let (first, words) = self.random.pick(&REGISTERS);
+            let word = first + 4 * self.below(words);
+            if takes_room(word) && !self.words.contains(&word) {
+                return word;
+            }
+        }
+    }
+
+    fn choose(&mut self, count: usize) {
+        while self.words.len() < count {
+            let word = self.scattered_word();
+            self.words.push(word);
+        }
+    }
+
+    /// All 256 places are taken, by the first of `words`.
+    fn fill_table(&mut self) {
+        self.choose(OTHERS);
+        for at in 0..OTHERS {
+            self.write(self.words[at], 1);
+        }
+    }
+
+    fn scattered(&mut self, count: usize) {
+        self.choose(count);
+        let word = self.random.pick(&self.words);
+        self.fill(word);
+    }
+
+    fn scattered_zeros(&mut self) {
+        if self.steps.is_empty() {
+            self.fill_table();
+        }
+        let word = self.scattered_word();
+        self.read(word);
+    }
+
+    /// A word gives its place back and one that is away takes it, again and again.
+    fn come_and_go(&mut self) {
+        if self.steps.is_empty() {
+            self.fill_table();
+            self.choose(OTHERS + AWAY);
+        }
+        let (here, away) = (self.random.below(OTHERS), OTHERS + self.random.below(AWAY));
+        self.write(self.words[here], 0);
+        self.read(self.words[here]);
+        self.words.swap(here, away);
+        self.fill(self.words[here]);
     }
 
     fn timer_words(&mut self) {
@@ -194,10 +271,11 @@ impl Author {
         [command, address[1], address[2], address[3]]
     }
 
-    fn flash_read(&mut self) {
-        let bytes = self.with_address(0x03);
+    fn flash_read(&mut self, count: usize) {
+        let mut bytes = self.with_address(0x03).to_vec();
+        bytes.resize(bytes.len() + count, 0);
         self.write(0xC015_0000, 0x40);
-        for byte in bytes.into_iter().chain([0; 256]) {
+        for byte in bytes {
             self.write(0xC015_0008, byte.into());
             self.read(0xC015_000C);
         }
@@ -235,6 +313,10 @@ impl Author {
         if self.steps.is_empty() {
             self.command(0x2C, &[]);
         }
+        self.pixel();
+    }
+
+    fn pixel(&mut self) {
         let pixel = self.below(65_536);
         self.write(0xD050_016C, pixel);
         self.write(0xD050_0140, 0xA1);
@@ -299,6 +381,34 @@ impl Author {
         self.step(11, 0, pixel, 0);
         self.step(10, 0, 0, 0);
         self.step(6, 0, 0, 2.0f64.to_bits());
+    }
+
+    /// What a program does, in turns of some steps. Of 100 steps 72 read or write memory, 7 are
+    /// own words, 6 flash bytes, 6 advances with what is asked after them, 4 timers' words,
+    /// 4 pixels and 1 a key.
+    fn mixed(&mut self) {
+        if self.steps.is_empty() {
+            self.command(0x2C, &[]);
+        }
+        match self.below(100) {
+            0..=77 => self.memory(&[1, 2, 4]),
+            78..=85 => self.own(),
+            86..=87 => self.timer_words(),
+            88 => self.flash_read(4),
+            89..=93 => self.pixel(),
+            94..=97 => self.moment(),
+            _ => self.key(),
+        }
+    }
+
+    fn moment(&mut self) {
+        self.go(0.001);
+        self.next();
+    }
+
+    fn key(&mut self) {
+        let (key, down) = (self.below(3), self.below(2));
+        self.step(7, 0, key, down.into());
     }
 
     fn wipes(&mut self) {

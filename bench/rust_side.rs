@@ -1,9 +1,10 @@
 //! The Rust device at a script's steps, with nothing around it that it does not
-//! need: no step of these scripts is refused, so nothing is tested here that
-//! the device does not test itself.
+//! need: no step of these scripts is refused, so of what a step may be refused
+//! for nothing is tested here that the device does not test itself. The kinds of
+//! all steps are read before the first is run, as the port must.
 
 use crate::cpu::Bus;
-use crate::script::{ANSWER_BYTES, PRESS_BYTES, STEP_BYTES};
+use crate::script::{ANSWER_BYTES, BAD_SCRIPT, KINDS, PRESS_BYTES, STEP_BYTES};
 use crate::sys::{Key, System};
 
 fn word(bytes: &[u8], at: usize) -> u32 {
@@ -38,7 +39,8 @@ fn write(system: &mut System, size: u8, address: u32, value: u32) {
 fn colour(system: &System, pixel: u32) -> u64 {
     let at = 2 * (pixel as usize % 16_384);
     let v = u32::from(u16::from_le_bytes([system.lcd.fb[at], system.lcd.fb[at + 1]]));
-    let (r, g, b) = ((v >> 11 & 0x1F) * 255 / 31, (v >> 5 & 0x3F) * 255 / 63, (v & 0x1F) * 255 / 31);
+    let (r, g, b) = (v >> 11 & 0x1F, v >> 5 & 0x3F, v & 0x1F);
+    let (r, g, b) = (r * 255 / 31, g * 255 / 63, b * 255 / 31);
     (r << 16 | g << 8 | b).into()
 }
 
@@ -95,8 +97,26 @@ fn lay(answer: [u64; 3], to: &mut [u8]) {
     }
 }
 
-/// As `tg18_run_script`, from a device that is new.
-pub fn run(system: &mut System, fresh: &System, script: &[u8], out: &mut [u8]) {
+/// All of them, and no end at the first bad one: so it is quickest for a script that is right.
+fn kinds_known(steps: &[u8]) -> bool {
+    let known = |step: &[u8]| KINDS.contains(&step[0]);
+    steps.chunks_exact(STEP_BYTES).fold(true, |all, step| all & known(step))
+}
+
+/// As `tg18_run_script`, from a device that is new, for a script whose counts are right.
+pub fn run(system: &mut System, fresh: &System, script: &[u8], out: &mut [u8]) -> u32 {
+    let presses = word(script, 0) as usize;
+    let first = 8 + PRESS_BYTES * presses;
+    if !kinds_known(&script[first..]) {
+        return BAD_SCRIPT;
+    }
+    run_all(system, fresh, script, out);
+    0
+}
+
+/// By itself, so that it is compiled as if no kinds had been read.
+#[inline(never)]
+fn run_all(system: &mut System, fresh: &System, script: &[u8], out: &mut [u8]) {
     let presses = word(script, 0) as usize;
     let first = 8 + PRESS_BYTES * presses;
     let steps = word(script, first - 4) as usize;

@@ -1,0 +1,42 @@
+# shellcheck shell=sh disable=SC2154
+# What bench/run and .ci/speed have in common; they read it in. They set `root`
+# (the repository) and `library` (the port's static library).
+
+sources=${ORACLE_SOURCES:-$root/../shared/docs/src}
+out=${ORACLE_OUT:-$root/target/oracle}
+
+# Makes $out/bench, with rustc's own optimisation for a release.
+build() {
+    # shellcheck source-path=SCRIPTDIR
+    . "$root/oracle/sources.sh"
+    rustc --edition 2021 -C opt-level=3 -C "link-arg=$library" \
+        -o "$out/bench" "$root/bench/bench.rs"
+}
+
+# Instructions from the call of one side to its end, for one run of a script.
+instructions() {
+    valgrind --tool=callgrind --callgrind-out-file=/dev/null \
+        "--toggle-collect=measured_$2" "$out/bench" count "$1" "$2" 2>&1 |
+        sed -n 's/^.*Collected : \([0-9]*\).*$/\1/p'
+}
+
+# Of each family with this in its name a line: its steps, the Rust's
+# instructions, the port's (0 if there are none to read), and its name.
+counts() {
+    "$out/bench" families | grep -F -- "$1" | while read -r number steps name; do
+        rust=$(instructions "$number" rust)
+        port=$(instructions "$number" port)
+        printf '%s %s %s %s\n' "$steps" "${rust:-0}" "${port:-0}" "$name"
+    done
+}
+
+# The same lines as a table.
+table() {
+    printf '%-30s%14s%14s%8s\n' 'instructions a step' Rust port ratio
+    while read -r steps rust port name; do
+        awk -v steps="$steps" -v rust="$rust" -v port="$port" -v name="$name" 'BEGIN {
+            ratio = rust ? port / rust : 0
+            printf "%-30s%14.1f%14.1f%8.2f\n", name, rust / steps, port / steps, ratio
+        }'
+    done
+}
