@@ -88,8 +88,8 @@ const PLAIN: [u32; 7] = [
 const REGISTERS: [(u32, usize); 3] =
     [(0xC000_1000, 0x3F_FC00), (0xD000_0000, 0x40_0000), (0xFF00_0000, 0x3F_FC00)];
 
-/// Words that come and go: so many beside those that there is room for.
-const AWAY: usize = 64;
+/// Words that come and go: so many are there, and as many are away.
+const SOME: usize = 64;
 
 impl Author {
     fn step(&mut self, kind: u8, size: u8, address: u32, value: u64) {
@@ -176,10 +176,10 @@ impl Author {
         }
     }
 
-    /// All 256 places are taken, by the first of `words`.
-    fn fill_table(&mut self) {
-        self.choose(OTHERS);
-        for at in 0..OTHERS {
+    /// So many places are taken, by the first of `words`.
+    fn fill_table(&mut self, count: usize) {
+        self.choose(count);
+        for at in 0..count {
             self.write(self.words[at], 1);
         }
     }
@@ -192,7 +192,7 @@ impl Author {
 
     fn scattered_zeros(&mut self) {
         if self.steps.is_empty() {
-            self.fill_table();
+            self.fill_table(OTHERS);
         }
         let word = self.scattered_word();
         self.read(word);
@@ -201,10 +201,10 @@ impl Author {
     /// A word gives its place back and one that is away takes it, again and again.
     fn come_and_go(&mut self) {
         if self.steps.is_empty() {
-            self.fill_table();
-            self.choose(OTHERS + AWAY);
+            self.fill_table(SOME);
+            self.choose(2 * SOME);
         }
-        let (here, away) = (self.random.below(OTHERS), OTHERS + self.random.below(AWAY));
+        let (here, away) = (self.random.below(SOME), SOME + self.random.below(SOME));
         self.write(self.words[here], 0);
         self.read(self.words[here]);
         self.words.swap(here, away);

@@ -1,7 +1,7 @@
 -- The branches of the definitions, each with the facts that lead to it.
 use Prim.Native.Nat.{ℕ, _+_, _-_, _/_, _%_, _^_, _<_, _≤_}
 use mathlib.Core.Path.{_≡_, refl, sym, ap, _∙_}
-use mathlib.Core.Bool.{Bool, true, false, not}
+use mathlib.Core.Bool.{Bool, true, false, not, cond}
 use mathlib.Core.List.{List, _∷_}
 use mathlib.Core.Logic.{_≢_, ⊎-elim}
 use native.Mathlib.Omega.{arith}
@@ -15,7 +15,8 @@ use borrow.Author.Tests.{lt-leb, le-leb, eq-eqb, ne-eqb}
 use Rattle.whole.proofs.Bits.{lt-or-ge}
 use Rattle.whole.specs.Words.{has}
 use Rattle.registers.specs.declared.Registers.{Registers}
-use Rattle.registers.specs.Words.{ownAt, ownWith, wordAt}
+use Rattle.registers.specs.Words.{slotOf, slotWord, ownAt, ownWith, wordAt}
+use Rattle.registers.proofs.Own.{slot-hit, own-word}
 use Rattle.memory.specs.declared.Place.{Place}
 use Rattle.memory.specs.declared.Place.the-variants.{Ram, Sram, Gpio, Register, Stray}
 use Rattle.memory.specs.Places.{placeOf}
@@ -37,7 +38,9 @@ use Rattle.bus.specs.Block.{Block, peekOf, joinedOf, blockOf, wholeOf, P
 use Rattle.bus.specs.Screen.{fedWord, Copied, copied, dmaDone, acted, quieted, controlled}
 use Rattle.bus.specs.Words.{spiSent}
 use Rattle.bus.specs.Write.{wordOf}
-use Rattle.bus.specs.Read.{afterRead, valueOf, given, regRead, got, reads, readAt, readOf}
+use Rattle.bus.specs.declared.Got.{Got}
+use Rattle.bus.specs.Read.{afterRead, valueOf, otherValue, Given, given, regRead, got, sizedGot, reads, readAt, readOf}
+use Rattle.bus.proofs.Values.{other-after, other-reads}
 
 -- ---- a block that fits
 
@@ -144,35 +147,55 @@ other b c h = sym (not-not b) ∙ ap not h
 
 -- ---- reads
 
-pub reg-read : (r : Registers) (s : List ℕ) (d : Devices) (a n : ℕ) {own₁ : List ℕ} {old clock v x : ℕ} → old ≡ wordAt r (wordOf a) → clock ≡ clockIn s
-    → v ≡ valueOf (r .own) d clock (wordOf a) old → own₁ ≡ afterRead (r .own) (wordOf a) → x ≡ cutOf v a n → given own₁ x ≡ regRead r s d a n
-unfolding regRead
-reg-read r s d a n i e h k l = rw (← i, ← e, ← h, ← l, k)
+module _ (r : Registers) (s : List ℕ) (d : Devices) (a n : ℕ) where
+  pub reg-own : {own₁ : List ℕ} {v x slot : ℕ} → slot ≡ slotOf (wordOf a) → slot < 76
+      → given own₁ v ≡ given (afterRead (r .own) (slotWord slot)) (valueOf (r .own) d (clockIn s) (slotWord slot) (getD (r .own) slot 0))
+      → x ≡ cutOf v a n → given own₁ x ≡ regRead r s d a n
+  unfolding regRead ownAt
+  reg-own {own₁} {v} {slot = slot} e h k l =
+      let less : slotOf (wordOf a) < 76 = omega arith in
+      let w : slotWord slot ≡ wordOf a = ap slotWord e ∙ slot-hit (wordOf a) less in
+      let o : getD (r .own) slot 0 ≡ wordAt r (wordOf a) = ap (λ (z : ℕ). getD (r .own) z 0) e ∙ sym (own-word r (wordOf a) less) in
+      rw l (ap (λ (z : Given). given (z .own) (cutOf (z .value) a n)) k ∙ rw (w, o))
 
-module _ (r : Registers) (m s g : List ℕ) (d : Devices) (a n : ℕ) {good : Bool} (e : good ≡ goodSize n) where
-  pub read-size : not good ≡ true → got (r .own) (record { refusal = 9; value = 0 }) ≡ readOf r m s g d a n
+  pub reg-other : {v x : ℕ} → slotOf (wordOf a) ≡ 76 → v ≡ otherValue r (d .clocks) (wordOf a) → x ≡ cutOf v a n
+      → given (r .own) x ≡ regRead r s d a n
+  unfolding regRead
+  reg-other e h l = rw (l, h, other-after (r .own) (wordOf a) e, other-reads r d (clockIn s) (wordOf a) e)
+
+-- what is read of a memory, by its size
+sized-reads : (own : List ℕ) (b : Bool) (x y : Got) → got own (cond b x y) ≡ cond b (got own x) (got own y)
+sized-reads own true x y = refl
+sized-reads own false x y = refl
+
+module _ (r : Registers) (m s g : List ℕ) (d : Devices) (a n : ℕ) {p : Place} (f : p ≡ placeOf a) where
+  pub read-ram : {o : ℕ} {x : Got} → p ≡ Ram o → x ≡ sizedGot n (loaded m o n) → got (r .own) x ≡ readOf r m s g d a n
   unfolding readOf
-  read-size h = rw (← e, other good true h)
+  read-ram k l = rw (l, ← f, k) (sized-reads (r .own) (goodSize n) _ _)
 
-  module _ (h : not good ≡ false) {p : Place} (f : p ≡ placeOf a) where
-    located : readOf r m s g d a n ≡ readAt p r m s g d a n
+  pub read-sram : {o : ℕ} {x : Got} → p ≡ Sram o → x ≡ sizedGot n (loaded s o n) → got (r .own) x ≡ readOf r m s g d a n
+  unfolding readOf
+  read-sram k l = rw (l, ← f, k) (sized-reads (r .own) (goodSize n) _ _)
+
+  pub read-gpio : {o : ℕ} {x : Got} → p ≡ Gpio o → x ≡ sizedGot n (loaded g o n) → got (r .own) x ≡ readOf r m s g d a n
+  unfolding readOf
+  read-gpio k l = rw (l, ← f, k) (sized-reads (r .own) (goodSize n) _ _)
+
+  module _ {good : Bool} (e : good ≡ goodSize n) where
+    pub read-size : {x : Got} → not good ≡ true → x ≡ record { refusal = 9; value = 0 } → got (r .own) x ≡ readOf r m s g d a n
     unfolding readOf
-    located = rw (← e, other good false h, ← f)
+    read-size h k = rw (k, ← e, other good true h)
 
-    pub read-ram : {o x : ℕ} → p ≡ Ram o → x ≡ loaded m o n → reads (given (r .own) x) ≡ readOf r m s g d a n
-    read-ram k l = rw (located, k, l)
+    module _ (h : not good ≡ false) where
+      located : readOf r m s g d a n ≡ readAt p r m s g d a n
+      unfolding readOf
+      located = rw (← e, other good false h, ← f)
 
-    pub read-sram : {o x : ℕ} → p ≡ Sram o → x ≡ loaded s o n → reads (given (r .own) x) ≡ readOf r m s g d a n
-    read-sram k l = rw (located, k, l)
+      pub read-register : {own₁ : List ℕ} {x : ℕ} → p ≡ Register → given own₁ x ≡ regRead r s d a n → reads (given own₁ x) ≡ readOf r m s g d a n
+      read-register k l = rw (located, k) (ap reads l)
 
-    pub read-gpio : {o x : ℕ} → p ≡ Gpio o → x ≡ loaded g o n → reads (given (r .own) x) ≡ readOf r m s g d a n
-    read-gpio k l = rw (located, k, l)
-
-    pub read-register : {own₁ : List ℕ} {x : ℕ} → p ≡ Register → given own₁ x ≡ regRead r s d a n → reads (given own₁ x) ≡ readOf r m s g d a n
-    read-register k l = rw (located, k) (ap reads l)
-
-    pub read-stray : p ≡ Stray → reads (given (r .own) 0) ≡ readOf r m s g d a n
-    read-stray k = rw (located, k)
+      pub read-stray : p ≡ Stray → reads (given (r .own) 0) ≡ readOf r m s g d a n
+      read-stray k = rw (located, k)
 
 -- ---- a word of four bytes
 

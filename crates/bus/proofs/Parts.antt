@@ -1,7 +1,7 @@
 -- The flash's part of a memory, and a table that a loop fills.
-use Prim.Native.Nat.{ℕ, zero, suc, _+_, _≤_, _<_}
+use Prim.Native.Nat.{ℕ, zero, suc, _+_, _%_, _≤_, _<_}
 use mathlib.Core.Path.{_≡_, refl, sym, ap, _∙_}
-use mathlib.Core.Bool.{Bool}
+use mathlib.Core.Bool.{Bool, true, false}
 use mathlib.Core.List.{List, [], _∷_, _++_, append-nil}
 use mathlib.Core.Logic.{⊎-elim}
 use native.Mathlib.Nat.{le-refl, le-of-eq, not-suc-le-zero, le-of-suc-le-suc}
@@ -12,9 +12,11 @@ use borrow.Author.Tests.{lt-ltb, le-ltb}
 use Rattle.whole.proofs.Bits.{lt-or-ge}
 use Rattle.flash.specs.declared.Chip.{Chip}
 use Rattle.flash.specs.declared.Reply.{Reply}
-use Rattle.flash.specs.Board.{Outcome, board, outcome}
-use Rattle.flash.specs.Flash.{selected, transferred}
-use Rattle.bus.specs.Chip.{partOf, chipped, inRam, selectedOver, sentOver}
+use Rattle.flash.specs.Pick.{pick}
+use Rattle.flash.specs.Board.{Outcome, board, outcome, goodSize, refused, done}
+use Rattle.flash.specs.Flash.{replied, sentBoard, selected, transferred}
+use Rattle.state.specs.Parts.{sentWith}
+use Rattle.bus.specs.Chip.{partOf, chipped, boardOf, inRam, selectedOver, sentOver, Flashed, flashed, sendWritten}
 use Rattle.bus.specs.Block.{table}
 
 -- ---- the flash's part of a memory
@@ -56,6 +58,16 @@ module _ (c : Chip) (p m : List ℕ) {n : ℕ} (e : n ≡ partOf (length m)) whe
       ap (λ (t : List ℕ). chipped (r .chip) p′ t) (sym (take-append-drop 8388608 m))
       ∙ ap (λ (t : List ℕ). chipped (r .chip) p′ (t ++ drop 8388608 m)) (sym all)
       ∙ ap (λ (o : Outcome). inRam (o .board) m) (h ∙ ap (λ (t : List ℕ). transferred (board c p t) b) all)
+
+-- what a transfer changes of the chip
+pub sent-alone : (own : List ℕ) (c : Chip) (p m : List ℕ) (new : ℕ) {own₁ p₁ m₁ : List ℕ} {f : Chip} → flashed own₁ (chipped f p₁ m₁) ≡ sendWritten own c p m new
+    → f ≡ sentWith c (f .rx) (f .tx)
+unfolding sendWritten sentOver transferred
+sent-alone own c p m new {f = f} h = by (goodSize (length (take 8388608 m))) (ap (λ (z : Flashed). z .left .chip) h)
+  where
+    by : (good : Bool) → f ≡ pick good (done (replied (boardOf c p m)) (sentBoard (boardOf c p m) (new % 256))) (refused (boardOf c p m)) .board .chip → f ≡ sentWith c (f .rx) (f .tx)
+    by true e = rw e
+    by false e = rw e
 
 -- ---- a table that a loop fills
 

@@ -8,8 +8,9 @@ use lib.Ieee.{Float}
 use Rattle.registers.specs.Words.{registersOf}
 use Rattle.state.specs.declared.Devices.{Devices}
 use Rattle.state.specs.declared.Parts.{Parts}
-use Rattle.state.specs.Bank.{partsIn}
+use Rattle.state.specs.Bank.{panelIn, partsIn}
 use Rattle.state.specs.Packed.{Kept}
+use Rattle.state.specs.Parts.{panelPut}
 use Rattle.bus.specs.declared.Told.{Told}
 use Rattle.bus.specs.World.{World, world, Out, out, Wrote}
 
@@ -17,6 +18,11 @@ use Rattle.bus.specs.World.{World, world, Out, out, Wrote}
 pub record Only (x y : Parts) : Type 0 where
   pub ring : y .ring ≡ x .ring
   pub keys : y .keys ≡ x .keys
+
+-- from cells to later ones nothing but the panel differs; packed words stay packed. The floats are not lent.
+pub record OnlyPanel (l l′ : List ℕ) : Type 0 where
+  pub parts : (f : List Float) → partsIn l′ f ≡ panelPut (partsIn l f) (panelIn l′)
+  pub kept : (f : List Float) → Kept l f l′ f
 
 -- what a write leaves of the bank beside the devices: ring and keys; packed words packed; and where it is refused it
 -- makes no event and every word is as it was

@@ -1,5 +1,5 @@
 -- What a read on the bus answers, and what it leaves in the registers: slow_read and mmio_read.
-use Prim.Native.Nat.{ℕ, _+_, _-_, _*_, _%_, _^_}
+use Prim.Native.Nat.{ℕ, _+_, _-_, _*_, _/_, _%_, _^_}
 use mathlib.Core.Bool.{cond}
 use mathlib.Core.List.{List}
 use lib.ListN.{getD}
@@ -45,6 +45,11 @@ baseOf n = 0xC0020000 + n * 0x20
 unfoldable pub counterRead : List ℕ → Clocks → ℕ → ℕ → ℕ → ℕ
 counterRead own c clock n old = counterOf (getD (c .timers) n none) (c .times .now) clock (ownAt own (baseOf n)) (ownAt own (baseOf n + 8)) old
 
+-- a word of a timer, by its slot: its control, or its counter, or one that reads as stored
+unfoldable pub timerValue : List ℕ → Clocks → ℕ → ℕ → ℕ → ℕ
+timerValue own c clock s old =
+    cond (eqb (s % 8) 0) (timerRead c (s / 8) old) (cond (eqb (s % 8) 4) (counterRead own c clock (s / 8) old) old)
+
 -- the words that time moves; any other as stored
 unfoldable pub movedValue : List ℕ → Clocks → ℕ → ℕ → ℕ → ℕ
 movedValue own c clock word old =
@@ -62,6 +67,10 @@ valueOf own d clock word old =
     (cond (eqb word 0xD010002C) 0
     (cond (eqb word 0xC0090010) 1
     (cond (eqb word 0xC0090014) (d .latch .out) (movedValue own (d .clocks) clock word old)))))))
+
+-- the same of a word that has no storage of its own
+unfoldable pub otherValue : Registers → Clocks → ℕ → ℕ
+otherValue r c word = cond (ltb (fieldAt word) 3) (dayRead c (fieldAt word)) (wordAt r word)
 
 -- what a read leaves in the registers
 unfoldable pub afterRead : List ℕ → ℕ → List ℕ
@@ -84,6 +93,10 @@ pub record ReadOut : Type 0 where
 
 abbrev pub got : List ℕ → Got → ReadOut
 got o g = record { own = o; got = g }
+
+-- what is read of a memory, where the size is one
+abbrev pub sizedGot : ℕ → ℕ → Got
+sizedGot n v = cond (goodSize n) (record { refusal = 0; value = v }) (record { refusal = 9; value = 0 })
 
 abbrev pub reads : Given → ReadOut
 reads x = got (x .own) (record { refusal = 0; value = x .value })

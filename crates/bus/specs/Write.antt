@@ -2,7 +2,7 @@
 use Prim.Native.Nat.{ℕ, _-_, _%_}
 use mathlib.Core.Bool.{Bool, false, cond}
 use mathlib.Core.List.{List}
-use lib.Dec.{eqb}
+use lib.Dec.{eqb, ltb}
 use Rattle.registers.specs.declared.Registers.{Registers}
 use Rattle.registers.specs.Words.{Outcome, registersOf, wordAt, putWord}
 use Rattle.memory.specs.declared.Place.{Place}
@@ -22,7 +22,7 @@ use Rattle.bus.specs.Chip.{Flashed, selectWritten, sendWritten}
 use Rattle.bus.specs.Rtc.{Ran, commandWritten}
 use Rattle.bus.specs.Screen.{Copied, controlled}
 use Rattle.bus.specs.Sounds.{noted}
-use Rattle.bus.specs.Words.{actsOf, wordWritten}
+use Rattle.bus.specs.Words.{fieldAt, actsOf, daySet, wordWritten}
 
 -- a word that only is stored
 pub record Stored : Type 0 where
@@ -37,6 +37,11 @@ settled o d = stored (o .registers) (answer (o .refusal) d)
 
 unfoldable pub storedWord : Registers → Devices → ℕ → ℕ → Stored
 storedWord r d word new = settled (putWord r word new) d
+
+-- a word that has no storage of its own: a field of the time of day, or one that is only stored
+unfoldable pub otherWritten : Registers → Devices → ℕ → ℕ → Stored
+otherWritten r d word new =
+    cond (ltb (fieldAt word) 3) (stored r (answer 0 (daySet d (fieldAt word) new))) (storedWord r d word new)
 
 -- ---- an outcome in the world
 
@@ -88,6 +93,14 @@ withSram w m = world (w .registers) (w .rtc) (w .page) (w .ram) m (w .gpio) (w .
 
 abbrev pub withGpio : World → List ℕ → World
 withGpio w m = world (w .registers) (w .rtc) (w .page) (w .ram) (w .sram) m (w .fb) (w .devices)
+
+-- a memory that is written, where the size is one
+abbrev pub sizedPut : List ℕ → ℕ → ℕ → ℕ → List ℕ
+sizedPut m o n v = cond (goodSize n) (storedAt m o n v) m
+
+-- and its number
+abbrev pub sizedNumber : ℕ → ℕ
+sizedNumber n = cond (goodSize n) 0 9
 
 abbrev pub writeAt : Place → World → Bool → ℕ → ℕ → ℕ → Out
 writeAt (Ram o) w full a n v = done (withRam w (storedAt (w .ram) o n v))

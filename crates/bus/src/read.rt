@@ -1,11 +1,13 @@
 // Reads on the bus: slow_read and mmio_read.
 ghost use mathlib.Core.Path.{_≡_};
 ghost use Prim.Native.Nat.{_<_};
-ghost use Rattle.registers.specs.Words.{registersOf};
+ghost use lib.ListN.{getD};
+ghost use Rattle.memory.specs.Bytes.{loaded};
+ghost use Rattle.registers.specs.Words.{slotOf, slotWord, registersOf};
+ghost use Rattle.time.specs.Clocks.{clockIn};
 ghost use Rattle.state.specs.Bank.{partsIn};
-ghost use Rattle.bus.specs.Read.{statusOf, counterAt, baseOf, dayRead, timerRead, counterRead, movedValue, valueOf, afterRead, got, given, regRead, readOf};
+ghost use Rattle.bus.specs.Read.{statusOf, baseOf, dayRead, timerRead, counterRead, timerValue, valueOf, otherValue, afterRead, got, given, sizedGot, regRead, readOf};
 use crate::Got;
-use crate::words::control_at;
 use crate::words::field_at;
 use memory::Place;
 use state::Cells;
@@ -24,16 +26,6 @@ fn tod_read(cells: &Cells, floats: &Floats, field: u32) -> u32
     let times = state::moments::times_of(floats);
     let irq = state::moments::irq_of(cells, floats);
     (clock::day::tod_read(irq, times.game, field) % 0x1_0000_0000) as u32
-}
-
-// The timer whose counter it is, or 6.
-fn counter_at(word: u32) -> usize
-    ensures { λ r. ⌜ r ≡ counterAt word ⌝ }
-{
-    if word < 0xC002_0010 {
-        return 6;
-    }
-    control_at(word - 0x10)
 }
 
 fn timer_read(cells: &Cells, floats: &Floats, n: usize, old: u32) -> u32
@@ -71,82 +63,103 @@ fn counter_read(
     timer::counter(t, times.now, clock, control, reload, old)
 }
 
-// The words that time moves, and all that read as stored.
-fn clock_value(
+// A word of a timer, by its slot; old is what it holds.
+fn timer_value(
     own: &[u32; 76],
     cells: &Cells,
     floats: &Floats,
-    clock: u32,
-    word: u32,
+    sram: &[u8],
+    s: usize,
     old: u32,
 ) -> u32
-    ensures { λ r. ⌜ r ≡ movedValue (now (own .entry)) (partsIn (now (cells .entry))
-        (now (floats .entry)) .devices .clocks) clock word old ⌝ }
+    requires { ⌜ s < 48 ⌝ }
+    ensures { λ r. ⌜ r ≡ timerValue (now (own .entry)) (partsIn (now (cells .entry))
+        (now (floats .entry)) .devices .clocks) (clockIn (now (sram .entry))) s old ⌝ }
+{
+    if s % 8 == 0 {
+        return timer_read(cells, floats, s / 8, old);
+    }
+    if s % 8 == 4 {
+        let clock = time::sysclk_var(sram);
+        return counter_read(own, cells, floats, clock, s / 8, old);
+    }
+    old
+}
+
+// What a word in its own storage reads as, before shifting. Reading the answer of the second SPI clears three bits beside
+// it.
+fn own_value(own: &mut [u32; 76], cells: &Cells, floats: &Floats, sram: &[u8], s: usize) -> u32
+    requires { ⌜ s < 76 ⌝ }
+    ensures { λ r. ⌜ given (now (own .exit)) r
+        ≡ given (afterRead (now (own .entry)) (slotWord s)) (valueOf (now (own .entry)) (partsIn (now (cells .entry))
+        (now (floats .entry)) .devices) (clockIn (now (sram .entry))) (slotWord s) (getD (now (own .entry)) s 0)) ⌝ }
+{
+    let old = registers::slot_get(own, s);
+    if s < 48 {
+        return timer_value(own, cells, floats, sram, s, old);
+    }
+    match s {
+        // 0xD000_003C
+        65 => {
+            return clock_status(own);
+        }
+        // 0xC015_0004
+        61 => {
+            return old & 0xFFFF_FFF7;
+        }
+        // 0xC015_000C
+        63 => {
+            let rx = state::chips::rx_of(cells);
+            return rx as u32;
+        }
+        // 0xD010_0028
+        67 => {
+            return time::irq::pending_irq(own, cells);
+        }
+        // 0xD010_002C
+        68 => {
+            return 0;
+        }
+        // 0xC009_0010
+        56 => {
+            return 1;
+        }
+        // 0xC009_0014
+        57 => {
+            return state::rests::out_of(cells);
+        }
+        // 0xC008_0010
+        52 => {
+            let c = registers::own_reg(own, 0xC008_000C);
+            registers::own_insert(own, 0xC008_000C, c & 0xFFFF_FFF8);
+            return old;
+        }
+        _ => {
+            return old;
+        }
+    }
+}
+
+// The same of a word that has none: a field of the time of day, or one of the others.
+fn other_value(
+    own: &[u32; 76],
+    addresses: &[u32; 256],
+    values: &[u32; 256],
+    cells: &Cells,
+    floats: &Floats,
+    word: u32,
+) -> u32
+    requires { ⌜ slotOf word ≡ 76 ⌝ }
+    ensures { λ r. ⌜ r
+        ≡ otherValue (registersOf (now (own .entry)) (now (addresses .entry)) (now (values .entry)))
+        (partsIn (now (cells .entry)) (now (floats .entry)) .devices .clocks) word ⌝ }
 {
     let field = field_at(word);
     if field < 3 {
         return tod_read(cells, floats, field);
     }
-    let n = control_at(word);
-    if n < 6 {
-        return timer_read(cells, floats, n, old);
-    }
-    let k = counter_at(word);
-    if k < 6 {
-        return counter_read(own, cells, floats, clock, k, old);
-    }
-    old
-}
-
-// What a word reads as, before shifting; old is what it holds.
-fn word_value(
-    own: &[u32; 76],
-    cells: &Cells,
-    floats: &Floats,
-    clock: u32,
-    word: u32,
-    old: u32,
-) -> u32
-    ensures { λ r. ⌜ r ≡ valueOf (now (own .entry)) (partsIn (now (cells .entry))
-        (now (floats .entry)) .devices) clock word old ⌝ }
-{
-    match word {
-        0xD000_003C => {
-            return clock_status(own);
-        }
-        0xC015_0004 => {
-            return old & 0xFFFF_FFF7;
-        }
-        0xC015_000C => {
-            let rx = state::chips::rx_of(cells);
-            return rx as u32;
-        }
-        0xD010_0028 => {
-            return time::irq::pending_irq(own, cells);
-        }
-        0xD010_002C => {
-            return 0;
-        }
-        0xC009_0010 => {
-            return 1;
-        }
-        0xC009_0014 => {
-            return state::rests::out_of(cells);
-        }
-        _ => {
-            return clock_value(own, cells, floats, clock, word, old);
-        }
-    }
-}
-
-// Reading the answer of the second SPI clears three bits beside it.
-fn read_effect(own: &mut [u32; 76], word: u32)
-    ensures { λ _. ⌜ now (own .exit) ≡ afterRead (now (own .entry)) word ⌝ }
-{
-    if word == 0xC008_0010 {
-        let c = registers::own_reg(own, 0xC008_000C);
-        registers::own_insert(own, 0xC008_000C, c & 0xFFFF_FFF8);
-    }
+    let spot = registers::find_other(addresses, word);
+    registers::word_in(own, values, spot)
 }
 
 fn mmio_read(
@@ -164,11 +177,50 @@ fn mmio_read(
         (partsIn (now (cells .entry)) (now (floats .entry)) .devices) addr size ⌝ }
 {
     let word = addr - addr % 4;
-    let old = registers::reg(own, addresses, values, word);
-    let clock = time::sysclk_var(sram);
-    let value = word_value(own, cells, floats, clock, word, old);
-    read_effect(own, word);
+    let s = registers::slot(word);
+    if s < 76 {
+        let value = own_value(own, cells, floats, sram, s);
+        return memory::cut(value, addr, size);
+    }
+    let value = other_value(own, addresses, values, cells, floats, word);
     memory::cut(value, addr, size)
+}
+
+fn bad_size() -> Got
+    ensures { λ r. ⌜ r ≡ record { refusal = 9; value = 0 } ⌝ }
+{
+    Got {
+        refusal: 9,
+        value: 0,
+    }
+}
+
+// What an access reads of a memory. Size and refusal are decided together, so that a word takes two tests.
+fn get(m: &[u8], at: usize, size: u32) -> Got
+    ensures { λ r. ⌜ r ≡ sizedGot size (loaded (now (m .entry)) at size) ⌝ }
+{
+    if size > 2 {
+        if size == 4 {
+            return Got {
+                refusal: 0,
+                value: memory::load(m, at, 4),
+            };
+        }
+        return bad_size();
+    }
+    if size == 2 {
+        return Got {
+            refusal: 0,
+            value: memory::load(m, at, 2),
+        };
+    }
+    if size == 1 {
+        return Got {
+            refusal: 0,
+            value: memory::load(m, at, 1),
+        };
+    }
+    bad_size()
 }
 
 pub fn read(
@@ -188,31 +240,28 @@ pub fn read(
         (now (ram .entry)) (now (sram .entry)) (now (gpio .entry)) (partsIn (now (cells .entry))
         (now (floats .entry)) .devices) addr size ⌝ }
 {
-    if !memory::good_size(size) {
-        return Got {
-            refusal: 9,
-            value: 0,
-        };
-    }
     let place = memory::locate(addr);
     match place {
         Place::Ram(at) => {
-            let value = memory::load(ram, at, size as usize);
-            return Got { refusal: 0, value };
+            return get(ram, at, size);
         }
         Place::Sram(at) => {
-            let value = memory::load(sram, at, size as usize);
-            return Got { refusal: 0, value };
+            return get(sram, at, size);
         }
         Place::Gpio(at) => {
-            let value = memory::load(gpio, at, size as usize);
-            return Got { refusal: 0, value };
+            return get(gpio, at, size);
         }
         Place::Register => {
+            if !memory::good_size(size) {
+                return bad_size();
+            }
             let value = mmio_read(own, addresses, values, cells, floats, sram, addr, size);
             return Got { refusal: 0, value };
         }
         Place::Stray => {
+            if !memory::good_size(size) {
+                return bad_size();
+            }
             return Got {
                 refusal: 0,
                 value: 0,

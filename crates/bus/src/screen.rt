@@ -2,18 +2,43 @@
 ghost use mathlib.Core.Path.{_≡_};
 ghost use Rattle.registers.specs.Words.{registersOf};
 ghost use Rattle.panel.specs.Entries.{screen};
+ghost use Rattle.panel.specs.Runs.{byte, taken};
+ghost use Rattle.state.specs.Bank.{panelIn};
+ghost use Rattle.bus.specs.Bank.{OnlyPanel};
 ghost use Rattle.bus.specs.Screen.{fedWord, copied, dmaDone, acted, controlled};
-use panel::Panel;
+use state::Cells;
+
+// A data byte. One of a pixel, the most frequent, moves the pen alone, and so no more is put.
+fn lcd_data(cells: &mut Cells, fb: &mut [u8], b: u8)
+    ensures { λ _. ⌜ (screen (panelIn (now (cells .exit))) (now (fb .exit))
+        ≡ taken (screen (panelIn (now (cells .entry))) (now (fb .entry))) (byte b))
+        × OnlyPanel (now (cells .entry)) (now (cells .exit)) ⌝ }
+{
+    let order = state::panels::order_of(cells);
+    if panel::args::code(order) == 0x2C {
+        let window = state::panels::window_of(cells);
+        let pen = state::panels::pen_of(cells);
+        let next = panel::draw::paint(window, pen, fb, b);
+        state::panels::put_pen(cells, next);
+        return;
+    }
+    let p = state::panels::panel_of(cells);
+    let next = panel::args::argument(p, b);
+    state::panels::put_panel(cells, next);
+}
 
 // A word's one data byte or two, the high one first.
-fn feed(p: Panel, fb: &mut [u8], one: bool, word: u32) -> Panel
-    ensures { λ r. ⌜ screen r (now (fb .exit)) ≡ fedWord (screen p (now (fb .entry))) one word ⌝ }
+fn feed(cells: &mut Cells, fb: &mut [u8], one: bool, word: u32)
+    ensures { λ _. ⌜ (screen (panelIn (now (cells .exit))) (now (fb .exit))
+        ≡ fedWord (screen (panelIn (now (cells .entry))) (now (fb .entry))) one word)
+        × OnlyPanel (now (cells .entry)) (now (cells .exit)) ⌝ }
 {
     if one {
-        return panel::lcd::data(p, fb, memory::low(word));
+        lcd_data(cells, fb, memory::low(word));
+        return;
     }
-    let first = panel::lcd::data(p, fb, memory::low(word / 256));
-    panel::lcd::data(first, fb, memory::low(word))
+    lcd_data(cells, fb, memory::low(word / 256));
+    lcd_data(cells, fb, memory::low(word));
 }
 
 // A whole frame from the address that was set, if one was.
@@ -21,23 +46,28 @@ fn lcd_dma(
     own: &mut [u32; 76],
     addresses: &[u32; 256],
     values: &[u32; 256],
+    cells: &mut Cells,
     ram: &[u8],
     sram: &[u8],
     gpio: &[u8],
     fb: &mut [u8],
-    p: Panel,
-) -> Panel
-    ensures { λ r. ⌜ copied (now (own .exit)) (screen r (now (fb .exit)))
-        ≡ dmaDone (registersOf (now (own .entry)) (now (addresses .entry)) (now (values .entry))) (now (ram .entry)) (now (sram .entry)) (now (gpio .entry)) (screen p (now (fb .entry))) ⌝ }
+)
+    ensures { λ _. ⌜ (copied (now (own .exit)) (screen (panelIn (now (cells .exit))) (now (fb .exit)))
+        ≡ dmaDone (registersOf (now (own .entry)) (now (addresses .entry)) (now (values .entry))) (now (ram .entry))
+        (now (sram .entry)) (now (gpio .entry))
+        (screen (panelIn (now (cells .entry))) (now (fb .entry))))
+        × OnlyPanel (now (cells .entry)) (now (cells .exit)) ⌝ }
 {
     let addr = registers::own_reg(own, 0xD050_033C);
     if addr == 0 {
-        return p;
+        return;
     }
     crate::block::read_block(own, addresses, values, ram, sram, gpio, addr, fb);
     let status = registers::own_reg(own, 0xD050_018C);
     registers::own_insert(own, 0xD050_018C, status | 0x40);
-    panel::lcd::count_frame(p)
+    let p = state::panels::panel_of(cells);
+    let next = panel::lcd::count_frame(p);
+    state::panels::put_panel(cells, next);
 }
 
 // What a control word with bit 0 set asks for.
@@ -45,30 +75,38 @@ fn act(
     own: &mut [u32; 76],
     addresses: &[u32; 256],
     values: &[u32; 256],
+    cells: &mut Cells,
     ram: &[u8],
     sram: &[u8],
     gpio: &[u8],
     fb: &mut [u8],
-    p: Panel,
     val: u32,
-) -> Panel
-    ensures { λ r. ⌜ copied (now (own .exit)) (screen r (now (fb .exit)))
-        ≡ acted (registersOf (now (own .entry)) (now (addresses .entry)) (now (values .entry))) (now (ram .entry)) (now (sram .entry)) (now (gpio .entry)) (screen p (now (fb .entry))) val ⌝ }
+)
+    ensures { λ _. ⌜ (copied (now (own .exit)) (screen (panelIn (now (cells .exit))) (now (fb .exit)))
+        ≡ acted (registersOf (now (own .entry)) (now (addresses .entry)) (now (values .entry))) (now (ram .entry))
+        (now (sram .entry)) (now (gpio .entry))
+        (screen (panelIn (now (cells .entry))) (now (fb .entry))) val)
+        × OnlyPanel (now (cells .entry)) (now (cells .exit)) ⌝ }
 {
     let word = registers::own_reg(own, 0xD050_016C);
     let asked = val & 0xF0;
     match asked {
         0x80 => {
-            return panel::lcd::command(p, memory::low(word));
+            let p = state::panels::panel_of(cells);
+            let next = panel::lcd::command(p, memory::low(word));
+            state::panels::put_panel(cells, next);
+            return;
         }
         0xA0 => {
-            return feed(p, fb, val & 0x2000 != 0, word);
+            feed(cells, fb, val & 0x2000 != 0, word);
+            return;
         }
         0xD0 => {
-            return lcd_dma(own, addresses, values, ram, sram, gpio, fb, p);
+            lcd_dma(own, addresses, values, cells, ram, sram, gpio, fb);
+            return;
         }
         _ => {
-            return p;
+            return;
         }
     }
 }
@@ -78,21 +116,23 @@ pub(crate) fn lcd_write_ctrl(
     own: &mut [u32; 76],
     addresses: &[u32; 256],
     values: &[u32; 256],
+    cells: &mut Cells,
     ram: &[u8],
     sram: &[u8],
     gpio: &[u8],
     fb: &mut [u8],
-    p: Panel,
     val: u32,
-) -> Panel
-    ensures { λ r. ⌜ copied (now (own .exit)) (screen r (now (fb .exit)))
-        ≡ controlled (registersOf (now (own .entry)) (now (addresses .entry)) (now (values .entry))) (now (ram .entry)) (now (sram .entry)) (now (gpio .entry)) (screen p (now (fb .entry))) val ⌝ }
+)
+    ensures { λ _. ⌜ (copied (now (own .exit)) (screen (panelIn (now (cells .exit))) (now (fb .exit)))
+        ≡ controlled (registersOf (now (own .entry)) (now (addresses .entry)) (now (values .entry))) (now (ram .entry))
+        (now (sram .entry)) (now (gpio .entry))
+        (screen (panelIn (now (cells .entry))) (now (fb .entry))) val)
+        × OnlyPanel (now (cells .entry)) (now (cells .exit)) ⌝ }
 {
     registers::own_insert(own, 0xD050_0140, val);
     if val & 1 == 0 {
-        return p;
+        return;
     }
-    let q = act(own, addresses, values, ram, sram, gpio, fb, p, val);
+    act(own, addresses, values, cells, ram, sram, gpio, fb, val);
     registers::own_insert(own, 0xD050_0140, val & 0xFFFF_FFFE);
-    q
 }

@@ -1,10 +1,13 @@
 // The words that reach no memory and no array but their own.
 ghost use mathlib.Core.Path.{_≡_};
+ghost use Prim.Native.Nat.{_<_};
+ghost use Rattle.registers.specs.Words.{slotWord};
+ghost use Rattle.time.specs.Clocks.{clockIn};
 ghost use Rattle.state.specs.Bank.{partsIn};
 ghost use Rattle.state.specs.Packed.{Kept};
 ghost use Rattle.state.specs.Parts.{devicesPut};
 ghost use Rattle.bus.specs.Bank.{Only, Rest, wroteOf, toldOf};
-ghost use Rattle.bus.specs.Words.{controlAt, fieldAt, actsOf, spiSent, adcWritten, daySet, poweredBy, wordWritten};
+ghost use Rattle.bus.specs.Words.{fieldAt, spiSent, adcWritten, daySet, poweredBy, timerWord, ownWritten};
 ghost use Rattle.bus.specs.World.{said, answer};
 use crate::Told;
 use crate::sounds::sound_write;
@@ -12,23 +15,6 @@ use crate::sounds::timer_write_ctrl;
 use clock::Adc;
 use state::Cells;
 use state::Floats;
-
-// The timer whose control word it is, or 6.
-pub(crate) fn control_at(word: u32) -> usize
-    ensures { λ r. ⌜ r ≡ controlAt word ⌝ }
-{
-    if word < 0xC002_0000 {
-        return 6;
-    }
-    let off = (word - 0xC002_0000) as usize;
-    if off >= 0xC0 {
-        return 6;
-    }
-    if off % 0x20 == 0 {
-        return off / 0x20;
-    }
-    6
-}
 
 // Which time-of-day word it is: 0 seconds, 1 minutes, 2 hours, or 3 for none.
 pub(crate) fn field_at(word: u32) -> u32
@@ -40,21 +26,6 @@ pub(crate) fn field_at(word: u32) -> u32
         0xC004_0008 => 2,
         _ => 3,
     }
-}
-
-// Whether a word does more than to be stored.
-pub(crate) fn acts(word: u32) -> bool
-    ensures { λ r. ⌜ r ≡ actsOf word ⌝ }
-{
-    (control_at(word) < 6)
-        | (field_at(word) < 3)
-        | (word == 0xD050_018C)
-        | (word == 0xC00C_0004)
-        | (word == 0xC004_0054)
-        | (word == 0xD000_0078)
-        | (word == 0xC008_0008)
-        | (word == 0xC002_0088)
-        | (word == 0xC002_008C)
 }
 
 pub(crate) fn done() -> Told
@@ -101,7 +72,7 @@ fn adc_write(own: &mut [u32; 76], cells: &mut Cells, floats: &Floats, old: u32, 
     state::moments::put_converting(cells, after.converting);
 }
 
-fn tod_write(cells: &mut Cells, floats: &mut Floats, field: u32, new: u32)
+pub(crate) fn tod_write(cells: &mut Cells, floats: &mut Floats, field: u32, new: u32)
     ensures { λ _. ⌜ (partsIn (now (cells .exit)) (now (floats .exit))
         ≡ devicesPut (partsIn (now (cells .entry)) (now (floats .entry)))
         (daySet (partsIn (now (cells .entry)) (now (floats .entry)) .devices) field new))
@@ -123,56 +94,85 @@ fn power(cells: &mut Cells, floats: &Floats, new: u32)
     state::rests::put_off(cells, off | (new & 1 == 0));
 }
 
-// old is the word, new the merged word, part the bits that were written.
+// A word of a timer, by its slot.
+fn timer_word(
+    own: &mut [u32; 76],
+    cells: &mut Cells,
+    floats: &mut Floats,
+    sram: &[u8],
+    full: bool,
+    s: usize,
+    old: u32,
+    new: u32,
+) -> Told
+    requires { ⌜ s < 48 ⌝ }
+    ensures { λ r. ⌜ (said (now (own .exit)) (wroteOf r (partsIn (now (cells .exit)) (now (floats .exit)) .devices))
+        ≡ timerWord (now (own .entry)) (partsIn (now (cells .entry))
+        (now (floats .entry)) .devices) (clockIn (now (sram .entry))) full s old new)
+        × Rest r (now (cells .entry)) (now (floats .entry)) (now (cells .exit)) (now (floats .exit)) ⌝ }
+{
+    if s % 8 == 0 {
+        let clock = time::sysclk_var(sram);
+        return timer_write_ctrl(own, cells, floats, clock, full, s, old, new);
+    }
+    // 0xC002_0088 and 0xC002_008C
+    if (s == 34) | (s == 35) {
+        let clock = time::sysclk_var(sram);
+        return sound_write(own, cells, floats, clock, full, s, new);
+    }
+    registers::slot_set(own, s, new);
+    done()
+}
+
+// A word in its own storage that reaches no memory and no array but that, by its slot: old is what it holds, new the
+// merged word, part the bits that were written.
 pub(crate) fn word_write(
     own: &mut [u32; 76],
     cells: &mut Cells,
     floats: &mut Floats,
-    clock: u32,
+    sram: &[u8],
     full: bool,
-    word: u32,
+    s: usize,
     old: u32,
     new: u32,
     part: u32,
 ) -> Told
+    requires { ⌜ s < 76 ⌝ }
     ensures { λ r. ⌜ (said (now (own .exit)) (wroteOf r (partsIn (now (cells .exit)) (now (floats .exit)) .devices))
-        ≡ wordWritten (now (own .entry)) (partsIn (now (cells .entry))
-        (now (floats .entry)) .devices) clock full word old new part)
+        ≡ ownWritten (now (own .entry)) (partsIn (now (cells .entry))
+        (now (floats .entry)) .devices) (clockIn (now (sram .entry))) full (slotWord s) old new part)
         × Rest r (now (cells .entry)) (now (floats .entry)) (now (cells .exit)) (now (floats .exit)) ⌝ }
 {
-    let n = control_at(word);
-    if n < 6 {
-        return timer_write_ctrl(own, cells, floats, clock, full, n, word, old, new);
+    if s < 48 {
+        return timer_word(own, cells, floats, sram, full, s, old, new);
     }
-    let field = field_at(word);
-    if field < 3 {
-        tod_write(cells, floats, field, new);
-        return done();
-    }
-    match word {
-        0xD050_018C => {
+    match s {
+        74 => {
             registers::own_insert(own, 0xD050_018C, old & (new ^ 0xFFFF_FFFF));
             return done();
         }
-        0xC00C_0004 => {
+        // 0xC00C_0004
+        58 => {
             adc_write(own, cells, floats, old, new);
             return done();
         }
-        0xC004_0054 => {
+        48 => {
             registers::own_insert(own, 0xC004_0054, old & (part ^ 0xFFFF_FFFF));
             return done();
         }
-        0xD000_0078 => {
+        66 => {
             registers::own_insert(own, 0xD000_0078, new);
             power(cells, floats, new);
             return done();
         }
-        0xC008_0008 => {
+        // 0xC008_0008
+        50 => {
             spi_sent(own, new);
             return done();
         }
         _ => {
-            return sound_write(own, cells, floats, clock, full, word, new);
+            registers::slot_set(own, s, new);
+            return done();
         }
     }
 }

@@ -1,46 +1,31 @@
 // Writes on the bus: slow_write and mmio_write, and the event that a write makes.
 ghost use mathlib.Core.Path.{_≡_};
 ghost use mathlib.Core.Bool.{false};
-ghost use Rattle.registers.specs.Words.{registersOf};
+ghost use Prim.Native.Nat.{_<_};
+ghost use Rattle.memory.specs.Access.{mergedOf};
+ghost use Rattle.registers.specs.Words.{numberOf, slotOf, slotWord, registersOf, wordAt};
 ghost use Rattle.timer.specs.Events.{queueOf};
 ghost use Rattle.state.specs.Bank.{partsIn};
 ghost use Rattle.state.specs.Packed.{Kept, Answered};
 ghost use Rattle.state.specs.Parts.{ringPut};
-ghost use Rattle.state.specs.declared.Devices.{Devices};
-ghost use Rattle.bus.specs.Bank.{Rest, worldOf, wroteOf, outOf};
+ghost use Rattle.bus.specs.Bank.{Rest, worldOf, wroteOf, toldOf, outOf};
 ghost use Rattle.bus.specs.Sounds.{noted};
-ghost use Rattle.bus.specs.Write.{stored, storedWord, portWritten, regWritten, writeOf, together, notedWrite};
+ghost use Rattle.bus.specs.Write.{stored, otherWritten, portWritten, regWritten, sizedPut, sizedNumber, writeOf, together, notedWrite};
 use crate::Told;
-use crate::words::acts;
 use crate::words::done;
+use crate::words::field_at;
 use crate::words::refused;
+use crate::words::tod_write;
 use memory::Place;
 use registers::Refusal;
+use registers::Spot;
 use state::Cells;
 use state::Floats;
 use timer::Event;
 
-// A word that only is stored.
-fn store(
-    own: &mut [u32; 76],
-    addresses: &mut [u32; 256],
-    values: &mut [u32; 256],
-    word: u32,
-    new: u32,
-) -> Told
-    ensures { λ r. ⌜ ((d : Devices) → stored (registersOf (now (own .exit)) (now (addresses .exit))
-        (now (values .exit))) (wroteOf r d)
-        ≡ storedWord (registersOf (now (own .entry)) (now (addresses .entry)) (now (values .entry))) d word new) ⌝ }
-{
-    let refusal = registers::insert(own, addresses, values, word, new);
-    match refusal {
-        Refusal::Done => done(),
-        Refusal::RegistersFull => refused(4),
-    }
-}
-
-// A word is written: old is what it holds, new the merged word, part the bits that were written.
-fn port_write(
+// A word in its own storage is written, by its slot: old is what it holds, new the merged word, part the bits that were
+// written.
+fn own_write(
     own: &mut [u32; 76],
     addresses: &mut [u32; 256],
     values: &mut [u32; 256],
@@ -53,11 +38,12 @@ fn port_write(
     gpio: &[u8],
     fb: &mut [u8],
     full: bool,
-    word: u32,
+    s: usize,
     old: u32,
     new: u32,
     part: u32,
 ) -> Told
+    requires { ⌜ s < 76 ⌝ }
     ensures { λ r. ⌜ (outOf (worldOf (now (own .exit)) (now (addresses .exit)) (now (values .exit))
         (now (rtc .exit)) (now (page .exit))
         (now (ram .exit)) (now (sram .entry)) (now (gpio .entry)) (now (fb .exit)) (partsIn (now (cells .exit))
@@ -66,39 +52,31 @@ fn port_write(
         (now (page .entry))
         (now (ram .entry)) (now (sram .entry)) (now (gpio .entry)) (now (fb .entry)) (partsIn (now (cells .entry))
         (now (floats .entry))))
-        full word old new part)
+        full (slotWord s) old new part)
         × Rest r (now (cells .entry)) (now (floats .entry)) (now (cells .exit)) (now (floats .exit)) ⌝ }
 {
-    match word {
-        0xC015_0000 => {
+    match s {
+        // 0xC015_0000
+        60 => {
             let chip = state::chips::chip_of(cells);
             let next = crate::chip::select_write(own, page, ram, chip, new);
             state::chips::put_chip(cells, next);
             return done();
         }
-        0xC015_0008 => {
+        // 0xC015_0008
+        62 => {
             let chip = state::chips::chip_of(cells);
             let next = crate::chip::send_write(own, page, ram, chip, new);
-            state::chips::put_chip(cells, next);
+            state::chips::put_sent(cells, next.rx, next.tx);
             return done();
         }
-        0xD050_0140 => {
-            let panel = state::panels::panel_of(cells);
-            let next = crate::screen::lcd_write_ctrl(
-                own,
-                addresses,
-                values,
-                ram,
-                sram,
-                gpio,
-                fb,
-                panel,
-                new,
-            );
-            state::panels::put_panel(cells, next);
+        // 0xD050_0140
+        71 => {
+            crate::screen::lcd_write_ctrl(own, addresses, values, cells, ram, sram, gpio, fb, new);
             return done();
         }
-        0xC009_000C => {
+        // 0xC009_000C
+        55 => {
             let times = state::moments::times_of(floats);
             let latch = state::rests::latch_of(cells, floats);
             let next = crate::rtc::command_write(own, rtc, latch, times.game, new);
@@ -106,21 +84,64 @@ fn port_write(
             return done();
         }
         _ => {
-            if acts(word) {
-                let clock = time::sysclk_var(sram);
-                return crate::words::word_write(
-                    own,
-                    cells,
-                    floats,
-                    clock,
-                    full,
-                    word,
-                    old,
-                    new,
-                    part,
-                );
-            }
-            return store(own, addresses, values, word, new);
+            return crate::words::word_write(own, cells, floats, sram, full, s, old, new, part);
+        }
+    }
+}
+
+// What the registers answer to a put of another word.
+fn answer(refusal: Refusal) -> Told
+    ensures { λ r. ⌜ r ≡ toldOf (numberOf refusal) ⌝ }
+{
+    match refusal {
+        Refusal::Done => done(),
+        Refusal::RegistersFull => refused(4),
+    }
+}
+
+// A word that has no storage of its own is written: a field of the time of day, or one of the others.
+fn other_write(
+    own: &[u32; 76],
+    addresses: &mut [u32; 256],
+    values: &mut [u32; 256],
+    cells: &mut Cells,
+    floats: &mut Floats,
+    word: u32,
+    addr: u32,
+    size: u32,
+    value: u32,
+) -> Told
+    requires { ⌜ slotOf word ≡ 76 ⌝ }
+    ensures { λ r. ⌜ (stored (registersOf (now (own .entry)) (now (addresses .exit)) (now (values .exit)))
+        (wroteOf r (partsIn (now (cells .exit)) (now (floats .exit)) .devices))
+        ≡ otherWritten (registersOf (now (own .entry)) (now (addresses .entry)) (now (values .entry)))
+        (partsIn (now (cells .entry)) (now (floats .entry)) .devices) word
+        (mergedOf (wordAt (registersOf (now (own .entry)) (now (addresses .entry)) (now (values .entry))) word) addr size
+        value))
+        × Rest r (now (cells .entry)) (now (floats .entry)) (now (cells .exit)) (now (floats .exit)) ⌝ }
+{
+    let field = field_at(word);
+    if field < 3 {
+        tod_write(cells, floats, field, memory::merged(0, addr, size, value));
+        return done();
+    }
+    let spot = registers::find_other(addresses, word);
+    match spot {
+        Spot::Own(_) => {
+            return done();
+        }
+        Spot::Never => {
+            return done();
+        }
+        Spot::Held(i) => {
+            let old = registers::place_get(values, i);
+            registers::put_held(addresses, values, i, memory::merged(old, addr, size, value));
+            return done();
+        }
+        Spot::Absent(i) => {
+            let new = memory::merged(0, addr, size, value);
+            let refusal = registers::put_absent(addresses, values, i, word, new);
+            return answer(refusal);
         }
     }
 }
@@ -154,27 +175,63 @@ fn mmio_write(
         × Rest r (now (cells .entry)) (now (floats .entry)) (now (cells .exit)) (now (floats .exit)) ⌝ }
 {
     let word = addr - addr % 4;
-    let old = registers::reg(own, addresses, values, word);
-    let new = memory::merged(old, addr, size, value);
-    let part = memory::written(addr, size, value);
-    port_write(
+    let s = registers::slot(word);
+    if s < 76 {
+        let old = registers::slot_get(own, s);
+        let new = memory::merged(old, addr, size, value);
+        let part = memory::written(addr, size, value);
+        return own_write(
+            own,
+            addresses,
+            values,
+            rtc,
+            page,
+            cells,
+            floats,
+            ram,
+            sram,
+            gpio,
+            fb,
+            full,
+            s,
+            old,
+            new,
+            part,
+        );
+    }
+    other_write(
         own,
         addresses,
         values,
-        rtc,
-        page,
         cells,
         floats,
-        ram,
-        sram,
-        gpio,
-        fb,
-        full,
         word,
-        old,
-        new,
-        part,
+        addr,
+        size,
+        value,
     )
+}
+
+// What an access writes to a memory. Size and refusal are decided together, so that a word takes two tests.
+fn put(m: &mut [u8], at: usize, size: u32, value: u32) -> Told
+    ensures { λ r. ⌜ (now (m .exit) ≡ sizedPut (now (m .entry)) at size value) × (r ≡ toldOf (sizedNumber size)) ⌝ }
+{
+    if size > 2 {
+        if size == 4 {
+            memory::store(m, at, 4, value);
+            return done();
+        }
+        return refused(9);
+    }
+    if size == 2 {
+        memory::store(m, at, 2, value);
+        return done();
+    }
+    if size == 1 {
+        memory::store(m, at, 1, value);
+        return done();
+    }
+    refused(9)
 }
 
 // A write to any address. `full` says that 256 sound events wait.
@@ -206,24 +263,21 @@ fn slow_write(
         full addr size value)
         × Rest r (now (cells .entry)) (now (floats .entry)) (now (cells .exit)) (now (floats .exit)) ⌝ }
 {
-    if !memory::good_size(size) {
-        return refused(9);
-    }
     let place = memory::locate(addr);
     match place {
         Place::Ram(at) => {
-            memory::store(ram, at, size as usize, value);
-            return done();
+            return put(ram, at, size, value);
         }
         Place::Sram(at) => {
-            memory::store(sram, at, size as usize, value);
-            return done();
+            return put(sram, at, size, value);
         }
         Place::Gpio(at) => {
-            memory::store(gpio, at, size as usize, value);
-            return done();
+            return put(gpio, at, size, value);
         }
         Place::Register => {
+            if !memory::good_size(size) {
+                return refused(9);
+            }
             return mmio_write(
                 own,
                 addresses,
@@ -243,6 +297,9 @@ fn slow_write(
             );
         }
         Place::Stray => {
+            if !memory::good_size(size) {
+                return refused(9);
+            }
             return refused(6);
         }
     }

@@ -16,12 +16,12 @@ use Rattle.whole.specs.Cut.{twos}
 use Rattle.whole.specs.Limits.{goodTime, goodTurbo, timeOf, turboOf}
 use Rattle.whole.specs.declared.Checked.{Checked}
 use Rattle.whole.specs.declared.Checked.the-variants.{Good, Bad}
-use Rattle.whole.proofs.Numbers.{checked-good, checked-bad}
+use Rattle.whole.proofs.Numbers.{checked-good, checked-then, checked-bad}
 use Rattle.whole.specs.Words.{has}
 use Rattle.whole.proofs.Words.{has-some, has-not}
 use Rattle.clock.specs.declared.Moved.{Moved}
 use Rattle.clock.specs.declared.Paced.{Paced}
-use Rattle.clock.specs.declared.Paced.the-variants.{BadTurbo}
+use Rattle.clock.specs.declared.Paced.the-variants.{By, BadTurbo}
 use Rattle.clock.specs.declared.Times.{Times}
 use Rattle.clock.specs.declared.Moved.the-variants.{To, BadTime}
 use Rattle.clock.specs.declared.Latch.{Latch}
@@ -115,8 +115,10 @@ module _ (s : Times) (bits : ℕ) (t : Checked) where
   pub moves-from-none : t ≡ timeOf bits → t ≡ Bad → BadTime ≡ movedOf s (ofBits binary64 bits)
   moves-from-none h e = moves-not s (ofBits binary64 bits) (checked-bad (goodTime (ofBits binary64 bits)) bits (sym e ∙ h))
 
-  pub paces-from : (x : Float) (r : Paced) → t ≡ turboOf bits → t ≡ Good x → r ≡ pacedOf s x → r ≡ pacedOf s (ofBits binary64 bits)
-  paces-from x r h e k = k ∙ ap (pacedOf s) (checked-good (goodTurbo (ofBits binary64 bits)) bits x (sym e ∙ h))
+  pub paces-from : (x : Float) → t ≡ turboOf bits → t ≡ Good x → By (record { now = s .now; game = s .game; turbo = x }) ≡ pacedOf s (ofBits binary64 bits)
+  unfolding pacedOf
+  paces-from x h e =
+      checked-then (goodTurbo (ofBits binary64 bits)) bits (λ (z : Float). By (record { now = s .now; game = s .game; turbo = z })) BadTurbo x (sym e ∙ h)
 
   pub paces-from-none : t ≡ turboOf bits → t ≡ Bad → BadTurbo ≡ pacedOf s (ofBits binary64 bits)
   unfolding pacedOf

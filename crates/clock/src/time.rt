@@ -67,7 +67,11 @@ pub fn turbo_bits(s: Times, bits: u64) -> Paced
 {
     let to = whole::limits::turbo_of(bits);
     match to {
-        Checked::Good(x) => set_turbo(s, x),
+        Checked::Good(x) => Paced::By(Times {
+            now: s.now,
+            game: s.game,
+            turbo: x,
+        }),
         Checked::Bad => Paced::BadTurbo,
     }
 }

@@ -11,18 +11,21 @@ use lib.Dec.{T, ltb, leb, eqb}
 use lib.ListN.{getD, set}
 use lib.Ieee.{Float, nan, binary64, ofBits}
 use borrow.Author.Count.{below-more}
-use borrow.Author.Tests.{lt-ltb, le-ltb, le-leb, lt-leb, ltb-true, leb-true, eq-eqb, ne-eqb}
+use borrow.Author.Tests.{lt-ltb, le-ltb, le-leb, lt-leb, ltb-true, leb-true, leb-false, eq-eqb, ne-eqb}
 use Rattle.whole.specs.declared.Checked.{Checked}
 use Rattle.whole.specs.declared.Checked.the-variants.{Good, Bad}
 use Rattle.whole.specs.Limits.{goodTime, timeOf}
-use Rattle.whole.proofs.Numbers.{checked-good, checked-bad}
+use Rattle.whole.proofs.Numbers.{checked-good, checked-then, checked-bad}
 use Rattle.memory.specs.Bytes.{loaded, storedAt}
 use Rattle.keys.specs.declared.Held.{Held}
 use Rattle.keys.specs.declared.Keys.{Keys}
+use Rattle.keys.specs.declared.Refusal.{Refusal}
+use Rattle.keys.specs.declared.Tap.{Tap}
+use Rattle.keys.specs.declared.Tap.the-variants.{Until, Refused}
 use Rattle.keys.specs.declared.Refusal.the-variants.{Done, BadKey, BadTime, KeysFull}
 use Rattle.keys.specs.Script.{placesOf, waits, freeFrom, freeOf, countedOf, Script, script, Outcome, outcome, placed, putOf, pressOf}
 use Rattle.keys.specs.Live as live
-use Rattle.keys.specs.Live.{withLive, withHolds, liveOf, holdOf, downOf, also, heldFrom, heldOf, tapped}
+use Rattle.keys.specs.Live.{heldWith, holdsWith, withLive, withHolds, keyRefusal, liveOf, tapOf, tapPut, holdOf, downOf, also, heldFrom, heldOf, tapped}
 use Rattle.keys.specs.Lines.{wanted, driven, lines, syncOf}
 use Rattle.keys.specs.Edges.{edgesOf, edgesFrom, pressEdges}
 
@@ -119,6 +122,10 @@ module _ (bits : ℕ) (t : Checked) (h : t ≡ timeOf bits) where
   pub bits-good : (x : Float) → t ≡ Good x → x ≡ ofBits binary64 bits
   bits-good x e = checked-good (goodTime (ofBits binary64 bits)) bits x (sym e ∙ h)
 
+  pub tap-good : (key : ℕ) (x : Float) → key ≤ 2 → t ≡ Good x → Until x ≡ tapOf key (ofBits binary64 bits)
+  unfolding tapOf
+  tap-good key x l e = rw (le-leb _ _ l) (checked-then (goodTime (ofBits binary64 bits)) bits Until (Refused BadTime) x (sym e ∙ h))
+
   pub bits-bad : t ≡ Bad → goodTime (ofBits binary64 bits) ≡ false
   bits-bad e = checked-bad (goodTime (ofBits binary64 bits)) bits (sym e ∙ h)
 
@@ -127,28 +134,31 @@ module _ (bits : ℕ) (t : Checked) (h : t ≡ timeOf bits) where
 
 -- ---- live keys and taps
 module _ (k : Keys) (key : ℕ) where
-  pub live-bad : (down : Bool) → 2 < key → live.outcome BadKey k ≡ liveOf k key down
-  unfolding liveOf
-  live-bad down h = rw (lt-leb _ _ h)
+  -- a key past the three changes nothing
+  pub live-by : (down : Bool) → live.outcome (keyRefusal key) (withLive k (heldWith (k .live) key down)) ≡ liveOf k key down
+  unfolding keyRefusal liveOf
+  live-by down = by (leb key 2) refl
+    where
+      by : (b : Bool) → leb key 2 ≡ b
+          → live.outcome (cond b Done BadKey) (withLive k (heldWith (k .live) key down)) ≡ cond b (live.outcome Done (withLive k (heldWith (k .live) key down))) (live.outcome BadKey k)
+      by true e = refl
+      by false e =
+          let h : 2 < key = leb-false key 2 e in
+          rw (ne-eqb key 0 (λ z. omega arith), ne-eqb key 1 (λ z. omega arith), ne-eqb key 2 (λ z. omega arith))
 
-  pub live-set : (down a b c : Bool) → key ≤ 2 → a ≡ cond (eqb key 0) down (k .live .a) → b ≡ cond (eqb key 1) down (k .live .b)
-      → c ≡ cond (eqb key 2) down (k .live .c) → live.outcome Done (withLive k (record { a = a; b = b; c = c })) ≡ liveOf k key down
-  unfolding liveOf
-  live-set down a b c h p q r = rw (le-leb _ _ h, p, q, r)
+  pub live-set : (down a b c : Bool) {r : Refusal} → r ≡ keyRefusal key → a ≡ cond (eqb key 0) down (k .live .a) → b ≡ cond (eqb key 1) down (k .live .b)
+      → c ≡ cond (eqb key 2) down (k .live .c) → live.outcome r (withLive k (record { a = a; b = b; c = c })) ≡ liveOf k key down
+  live-set down a b c e p q r = rw (e, p, q, r) (live-by down)
 
-  pub hold-bad-key : (until : Float) → 2 < key → live.outcome BadKey k ≡ holdOf k key until
-  unfolding holdOf
-  hold-bad-key until h = rw (lt-leb _ _ h)
-
-  pub hold-bad-time : (until : Float) → key ≤ 2 → goodTime until ≡ false → live.outcome BadTime k ≡ holdOf k key until
-  unfolding holdOf
-  hold-bad-time until h g = rw (le-leb _ _ h, g)
-
-  pub hold-set : (until a b c : Float) → key ≤ 2 → goodTime until ≡ true → a ≡ cond (eqb key 0) until (k .holds .a)
-      → b ≡ cond (eqb key 1) until (k .holds .b) → c ≡ cond (eqb key 2) until (k .holds .c)
-      → live.outcome Done (withHolds k (record { a = a; b = b; c = c })) ≡ holdOf k key until
-  unfolding holdOf
-  hold-set until a b c h g p q r = rw (le-leb _ _ h, g, p, q, r)
+  pub hold-by : (until : Float) {t : Tap} → t ≡ tapOf key until → tapPut k key t ≡ holdOf k key until
+  unfolding tapOf holdOf
+  hold-by until e = rw e (by (leb key 2) (goodTime until))
+    where
+      by : (b g : Bool) → tapPut k key (cond b (cond g (Until until) (Refused BadTime)) (Refused BadKey))
+          ≡ cond b (cond g (live.outcome Done (withHolds k (holdsWith (k .holds) key until))) (live.outcome BadTime k)) (live.outcome BadKey k)
+      by false g = refl
+      by true false = refl
+      by true true = refl
 
 -- ---- the presses, one at a time
 

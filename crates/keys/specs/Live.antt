@@ -12,6 +12,8 @@ use Rattle.keys.specs.declared.Keys.{Keys}
 use Rattle.keys.specs.declared.Changed.{Changed}
 use Rattle.keys.specs.declared.Refusal.{Refusal}
 use Rattle.keys.specs.declared.Refusal.the-variants.{Done, BadKey, BadTime}
+use Rattle.keys.specs.declared.Tap.{Tap}
+use Rattle.keys.specs.declared.Tap.the-variants.{Until, Refused}
 use Rattle.keys.specs.Keys.{numberOf}
 use Rattle.keys.specs.Script.{endOf, placesOf}
 
@@ -47,6 +49,18 @@ liveOf k key down = cond (leb key 2) (outcome Done (withLive k (heldWith (k .liv
 unfoldable pub holdOf : Keys → ℕ → Float → Outcome
 holdOf k key until =
     cond (leb key 2) (cond (goodTime until) (outcome Done (withHolds k (holdsWith (k .holds) key until))) (outcome BadTime k)) (outcome BadKey k)
+
+-- ---- the same in two steps: what is decided before anything changes, the key first, and then what is put
+
+unfoldable pub keyRefusal : ℕ → Refusal
+keyRefusal key = cond (leb key 2) Done BadKey
+
+unfoldable pub tapOf : ℕ → Float → Tap
+tapOf key until = cond (leb key 2) (cond (goodTime until) (Until until) (Refused BadTime)) (Refused BadKey)
+
+abbrev pub tapPut : Keys → ℕ → Tap → Outcome
+tapPut k key (Until until) = outcome Done (withHolds k (holdsWith (k .holds) key until))
+tapPut k key (Refused r) = outcome r k
 
 -- ---- keys_held
 

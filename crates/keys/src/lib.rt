@@ -39,6 +39,12 @@ pub enum Refusal {
     KeysFull,
 }
 
+// Until when a tap stays held, or why it is refused.
+pub enum Tap {
+    Until(f64),
+    Refused(Refusal),
+}
+
 // What a press answers beside the arrays.
 pub struct Pressed {
     pub refusal: Refusal,

@@ -4,12 +4,13 @@ ghost use mathlib.Core.Bool.{cond, false};
 ghost use Prim.Native.Nat.{ℕ, _+_, _≤_, _<_};
 ghost use lib.Ieee.{nan, ofBits, binary64};
 ghost use lib.ListN.{getD};
-ghost use Rattle.keys.specs.Live.{changed, liveOf, holdOf, downOf, tapped, also, heldFrom, heldOf};
+ghost use Rattle.keys.specs.Live.{changed, keyRefusal, liveOf, tapOf, tapPut, holdOf, downOf, tapped, also, heldFrom, heldOf};
 use crate::Changed;
 use crate::Held;
 use crate::Holds;
 use crate::Keys;
 use crate::Refusal;
+use crate::Tap;
 use crate::script::places;
 use whole::Checked;
 
@@ -25,16 +26,20 @@ fn keep_time(here: bool, new: f64, old: f64) -> f64
     if here { new } else { old }
 }
 
-// A key goes down or up.
+// What a call for a key answers.
+pub fn check_key(key: u32) -> Refusal
+    ensures { λ r. ⌜ r ≡ keyRefusal key ⌝ }
+{
+    if key > 2 {
+        return Refusal::BadKey;
+    }
+    Refusal::Done
+}
+
+// A key goes down or up; no other than the three.
 pub fn set_live(keys: Keys, key: u32, down: bool) -> Changed
     ensures { λ r. ⌜ changed r ≡ liveOf keys key down ⌝ }
 {
-    if key > 2 {
-        return Changed {
-            refusal: Refusal::BadKey,
-            keys,
-        };
-    }
     let live = Held {
         a: keep(key == 0, down, keys.live.a),
         b: keep(key == 1, down, keys.live.b),
@@ -42,9 +47,60 @@ pub fn set_live(keys: Keys, key: u32, down: bool) -> Changed
     };
     let mut next = keys;
     next.live = live;
+    let refusal = check_key(key);
     Changed {
-        refusal: Refusal::Done,
+        refusal,
         keys: next,
+    }
+}
+
+// What is decided of a tap before anything changes: the key is looked at first, then the time.
+pub fn check_hold(key: u32, until: f64) -> Tap
+    ensures { λ r. ⌜ r ≡ tapOf key until ⌝ }
+{
+    if key > 2 {
+        return Tap::Refused(Refusal::BadKey);
+    }
+    if whole::limits::good_time(until) {
+        return Tap::Until(until);
+    }
+    Tap::Refused(Refusal::BadTime)
+}
+
+// The same from the bits of a float, as scripts have them: no NaN's pattern becomes a float.
+pub fn check_hold_bits(key: u32, bits: u64) -> Tap
+    ensures { λ r. ⌜ r ≡ tapOf key (ofBits binary64 bits) ⌝ }
+{
+    if key > 2 {
+        return Tap::Refused(Refusal::BadKey);
+    }
+    let until = whole::limits::time_of(bits);
+    match until {
+        Checked::Good(x) => Tap::Until(x),
+        Checked::Bad => Tap::Refused(Refusal::BadTime),
+    }
+}
+
+fn hold(keys: Keys, key: u32, tap: Tap) -> Changed
+    ensures { λ r. ⌜ changed r ≡ tapPut keys key tap ⌝ }
+{
+    match tap {
+        Tap::Until(until) => {
+            let holds = Holds {
+                a: keep_time(key == 0, until, keys.holds.a),
+                b: keep_time(key == 1, until, keys.holds.b),
+                c: keep_time(key == 2, until, keys.holds.c),
+            };
+            let mut next = keys;
+            next.holds = holds;
+            return Changed {
+                refusal: Refusal::Done,
+                keys: next,
+            };
+        }
+        Tap::Refused(refusal) => {
+            return Changed { refusal, keys };
+        }
     }
 }
 
@@ -52,52 +108,13 @@ pub fn set_live(keys: Keys, key: u32, down: bool) -> Changed
 pub fn hold_until(keys: Keys, key: u32, until: f64) -> Changed
     ensures { λ r. ⌜ changed r ≡ holdOf keys key until ⌝ }
 {
-    if key > 2 {
-        return Changed {
-            refusal: Refusal::BadKey,
-            keys,
-        };
-    }
-    if whole::limits::good_time(until) {
-        let holds = Holds {
-            a: keep_time(key == 0, until, keys.holds.a),
-            b: keep_time(key == 1, until, keys.holds.b),
-            c: keep_time(key == 2, until, keys.holds.c),
-        };
-        let mut next = keys;
-        next.holds = holds;
-        return Changed {
-            refusal: Refusal::Done,
-            keys: next,
-        };
-    }
-    Changed {
-        refusal: Refusal::BadTime,
-        keys,
-    }
+    hold(keys, key, check_hold(key, until))
 }
 
-// The same from the bits of a float, as scripts have them: no NaN's pattern becomes a float.
 pub fn hold_bits(keys: Keys, key: u32, bits: u64) -> Changed
     ensures { λ r. ⌜ changed r ≡ holdOf keys key (ofBits binary64 bits) ⌝ }
 {
-    let until = whole::limits::time_of(bits);
-    match until {
-        Checked::Good(x) => hold_until(keys, key, x),
-        Checked::Bad => {
-            if key > 2 {
-                Changed {
-                    refusal: Refusal::BadKey,
-                    keys,
-                }
-            } else {
-                Changed {
-                    refusal: Refusal::BadTime,
-                    keys,
-                }
-            }
-        }
-    }
+    hold(keys, key, check_hold_bits(key, bits))
 }
 
 // A press is held for 0.15 seconds.

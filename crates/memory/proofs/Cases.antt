@@ -3,52 +3,147 @@ use Prim.Native.Nat.{ℕ, suc, _+_, _-_, _*_, _/_, _%_, _^_, _≤_, _<_}
 use mathlib.Core.Path.{_≡_, refl, sym}
 use mathlib.Core.Bool.{Bool, true, false, _&&_}
 use mathlib.Core.List.{List}
-use mathlib.Core.Logic.{_≢_}
+use mathlib.Core.Logic.{_≢_, ⊎-elim}
 use native.Mathlib.Nat.{add-zero, sub-zero, sub-self, mod-eq-of-lt, div-le-self}
 use native.Mathlib.Numerals.{add-one}
 use native.Mathlib.Omega.{arith}
 use lib.ListN.{length, getD, set, length-set}
 use lib.Seq.{sets}
 use lib.Dec.{leb}
-use borrow.Author.Tests.{le-leb, lt-leb, leb-true, eq-eqb, ne-eqb}
+use borrow.Author.Tests.{le-leb, lt-leb, eq-eqb, ne-eqb}
+use Rattle.whole.proofs.Bits.{lt-or-ge}
 use Rattle.whole.proofs.Words.{either}
 use Rattle.memory.specs.declared.Place.the-variants.{Ram, Sram, Gpio, Register, Stray}
 use Rattle.memory.specs.Places.{within, isRegister, placeOf}
 use Rattle.memory.specs.Bytes.{le, loaded, bytesOf, storedAt}
 use Rattle.memory.specs.Access.{spanOf, cutOf, shifted, maskOf}
 
--- ---- places
-first-of : (x y : Bool) → x && y ≡ true → x ≡ true
-first-of true y h = refl
-first-of false y h = h
+-- ---- places; k is the highest byte of an address
+and-false : (b : Bool) → (b && false) ≡ false
+and-false true = refl
+and-false false = refl
 
-pub within-from : (first last a : ℕ) → within first last a ≡ true → first ≤ a
-unfolding within
-within-from first last a h = leb-true _ _ (first-of (leb first a) (leb a last) h)
+module _ (first last a : ℕ) where
+  pub within-yes : first ≤ a → a ≤ last → within first last a ≡ true
+  unfolding within
+  within-yes h l = rw (le-leb _ _ h, le-leb _ _ l)
+
+  pub within-past : last < a → within first last a ≡ false
+  unfolding within
+  within-past h = rw (lt-leb _ _ h) (and-false (leb first a))
+
+  within-before : a < first → within first last a ≡ false
+  unfolding within
+  within-before h = rw (lt-leb _ _ h)
+
+  -- a range whose addresses have another highest byte
+  pub within-else : (k : ℕ) → k * 0x1000000 ≤ first → last < (k + 1) * 0x1000000 → a / 0x1000000 ≢ k → within first last a ≡ false
+  within-else k h l d =
+      ⊎-elim within-before
+      (λ m. ⊎-elim within-past (λ n. absurd (d (omega arith))) (lt-or-ge last a))
+      (lt-or-ge a first)
 
 module _ (a : ℕ) where
-  pub place-ram : within 0x20000000 0x20FFFFFF a ≡ true → Ram (a - 0x20000000) ≡ placeOf a
-  unfolding placeOf
-  place-ram h = rw h
+  no-ram : a / 0x1000000 ≢ 0x20 → within 0x20000000 0x20FFFFFF a ≡ false
+  no-ram = within-else 0x20000000 0x20FFFFFF a 0x20 (omega arith) (omega arith)
 
-  pub place-sram : within 0x20000000 0x20FFFFFF a ≡ false → within 0xF8000000 0xF80FFFFF a ≡ true → Sram (a - 0xF8000000) ≡ placeOf a
-  unfolding placeOf
-  place-sram r h = rw (r, h)
+  no-sram : a / 0x1000000 ≢ 0xF8 → within 0xF8000000 0xF80FFFFF a ≡ false
+  no-sram = within-else 0xF8000000 0xF80FFFFF a 0xF8 (omega arith) (omega arith)
 
-  pub place-gpio : within 0x20000000 0x20FFFFFF a ≡ false → within 0xF8000000 0xF80FFFFF a ≡ false → within 0xC0000000 0xC0000FFF a ≡ true
-      → Gpio (a - 0xC0000000) ≡ placeOf a
-  unfolding placeOf
-  place-gpio r s h = rw (r, s, h)
+  no-gpio : a / 0x1000000 ≢ 0xC0 → within 0xC0000000 0xC0000FFF a ≡ false
+  no-gpio = within-else 0xC0000000 0xC0000FFF a 0xC0 (omega arith) (omega arith)
 
-  pub place-register : within 0x20000000 0x20FFFFFF a ≡ false → within 0xF8000000 0xF80FFFFF a ≡ false → within 0xC0000000 0xC0000FFF a ≡ false
-      → isRegister a ≡ true → Register ≡ placeOf a
-  unfolding placeOf
-  place-register r s g h = rw (r, s, g, h)
+  no-low : a / 0x1000000 ≢ 0xC0 → within 0xC0001000 0xC0FFFFFF a ≡ false
+  no-low = within-else 0xC0001000 0xC0FFFFFF a 0xC0 (omega arith) (omega arith)
 
-  pub place-stray : within 0x20000000 0x20FFFFFF a ≡ false → within 0xF8000000 0xF80FFFFF a ≡ false → within 0xC0000000 0xC0000FFF a ≡ false
-      → isRegister a ≡ false → Stray ≡ placeOf a
+  no-middle : a / 0x1000000 ≢ 0xD0 → within 0xD0000000 0xD0FFFFFF a ≡ false
+  no-middle = within-else 0xD0000000 0xD0FFFFFF a 0xD0 (omega arith) (omega arith)
+
+  no-high : a / 0x1000000 ≢ 0xFF → within 0xFF000000 0xFFFFEFFF a ≡ false
+  no-high = within-else 0xFF000000 0xFFFFEFFF a 0xFF (omega arith) (omega arith)
+
+  -- 0x20
+  pub place-ram : a / 0x1000000 ≡ 0x20 → Ram (a - 0x20000000) ≡ placeOf a
   unfolding placeOf
-  place-stray r s g h = rw (r, s, g, h)
+  place-ram k = rw (within-yes 0x20000000 0x20FFFFFF a (omega arith) (omega arith))
+
+  -- 0xF8
+  module _ (k : a / 0x1000000 ≡ 0xF8) where
+    pub place-sram : a < 0xF8100000 → Sram (a - 0xF8000000) ≡ placeOf a
+    unfolding placeOf
+    place-sram h = rw (no-ram (λ z. omega arith), within-yes 0xF8000000 0xF80FFFFF a (omega arith) (omega arith))
+
+    pub past-sram : 0xF8100000 ≤ a → Stray ≡ placeOf a
+    unfolding placeOf isRegister
+    past-sram h =
+        rw (
+          no-ram (λ z. omega arith),
+          within-past 0xF8000000 0xF80FFFFF a (omega arith),
+          no-gpio (λ z. omega arith),
+          no-low (λ z. omega arith),
+          no-middle (λ z. omega arith),
+          no-high (λ z. omega arith),
+        )
+
+  -- 0xC0
+  module _ (k : a / 0x1000000 ≡ 0xC0) where
+    pub place-gpio : a < 0xC0001000 → Gpio (a - 0xC0000000) ≡ placeOf a
+    unfolding placeOf
+    place-gpio h =
+        rw (no-ram (λ z. omega arith), no-sram (λ z. omega arith), within-yes 0xC0000000 0xC0000FFF a (omega arith) (omega arith))
+
+    pub place-low : 0xC0001000 ≤ a → Register ≡ placeOf a
+    unfolding placeOf isRegister
+    place-low h =
+        rw (
+          no-ram (λ z. omega arith),
+          no-sram (λ z. omega arith),
+          within-past 0xC0000000 0xC0000FFF a (omega arith),
+          within-yes 0xC0001000 0xC0FFFFFF a (omega arith) (omega arith),
+        )
+
+  -- 0xD0
+  pub place-middle : a / 0x1000000 ≡ 0xD0 → Register ≡ placeOf a
+  unfolding placeOf isRegister
+  place-middle k =
+      rw (
+        no-ram (λ z. omega arith),
+        no-sram (λ z. omega arith),
+        no-gpio (λ z. omega arith),
+        no-low (λ z. omega arith),
+        within-yes 0xD0000000 0xD0FFFFFF a (omega arith) (omega arith),
+      )
+
+  -- 0xFF
+  module _ (k : a / 0x1000000 ≡ 0xFF) where
+    pub place-high : a < 0xFFFFF000 → Register ≡ placeOf a
+    unfolding placeOf isRegister
+    place-high h =
+        rw (
+          no-ram (λ z. omega arith),
+          no-sram (λ z. omega arith),
+          no-gpio (λ z. omega arith),
+          no-low (λ z. omega arith),
+          no-middle (λ z. omega arith),
+          within-yes 0xFF000000 0xFFFFEFFF a (omega arith) (omega arith),
+        )
+
+    pub past-high : 0xFFFFF000 ≤ a → Stray ≡ placeOf a
+    unfolding placeOf isRegister
+    past-high h =
+        rw (
+          no-ram (λ z. omega arith),
+          no-sram (λ z. omega arith),
+          no-gpio (λ z. omega arith),
+          no-low (λ z. omega arith),
+          no-middle (λ z. omega arith),
+          within-past 0xFF000000 0xFFFFEFFF a (omega arith),
+        )
+
+  -- any other
+  pub place-stray : a / 0x1000000 ≢ 0x20 → a / 0x1000000 ≢ 0xC0 → a / 0x1000000 ≢ 0xD0 → a / 0x1000000 ≢ 0xF8 → a / 0x1000000 ≢ 0xFF → Stray ≡ placeOf a
+  unfolding placeOf isRegister
+  place-stray r c d f h = rw (no-ram r, no-sram f, no-gpio c, no-low c, no-middle d, no-high h)
 
 -- ---- bytes
 module _ (m : List ℕ) (o n : ℕ) where

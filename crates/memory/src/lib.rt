@@ -5,7 +5,7 @@
 ghost use mathlib.Core.Path.{_≡_};
 ghost use Prim.Native.Nat.{_+_, _*_, _%_, _^_, _≤_};
 ghost use lib.ListN.{length, getD};
-ghost use Rattle.memory.specs.Places.{within, isRegister, placeOf};
+ghost use Rattle.memory.specs.Places.{placeOf};
 ghost use Rattle.memory.specs.Bytes.{loaded, storedAt};
 ghost use Rattle.memory.specs.Access.{goodSize, shifted, maskOf, cutOf, writtenOf, mergedOf};
 
@@ -20,37 +20,40 @@ pub enum Place {
 
 // ---- places
 
-fn is_within(first: u32, last: u32, addr: u32) -> bool
-    ensures { λ r. ⌜ r ≡ within first last addr ⌝ }
-{
-    (first <= addr) & (addr <= last)
-}
-
-fn is_mmio(addr: u32) -> bool
-    ensures { λ r. ⌜ r ≡ isRegister addr ⌝ }
-{
-    is_within(0xC000_1000, 0xC0FF_FFFF, addr)
-        | is_within(0xD000_0000, 0xD0FF_FFFF, addr)
-        | is_within(0xFF00_0000, 0xFFFF_EFFF, addr)
-}
-
-// The first byte of an access decides.
+// The first byte of an access decides, and of its address mostly the highest byte.
 pub fn locate(addr: u32) -> Place
     ensures { λ r. ⌜ r ≡ placeOf addr ⌝ }
 {
-    if is_within(0x2000_0000, 0x20FF_FFFF, addr) {
-        return Place::Ram((addr - 0x2000_0000) as usize);
+    let high = addr / 0x100_0000;
+    match high {
+        0x20 => {
+            return Place::Ram((addr - 0x2000_0000) as usize);
+        }
+        0xC0 => {
+            if addr < 0xC000_1000 {
+                return Place::Gpio((addr - 0xC000_0000) as usize);
+            }
+            return Place::Register;
+        }
+        0xD0 => {
+            return Place::Register;
+        }
+        0xF8 => {
+            if addr < 0xF810_0000 {
+                return Place::Sram((addr - 0xF800_0000) as usize);
+            }
+            return Place::Stray;
+        }
+        0xFF => {
+            if addr < 0xFFFF_F000 {
+                return Place::Register;
+            }
+            return Place::Stray;
+        }
+        _ => {
+            return Place::Stray;
+        }
     }
-    if is_within(0xF800_0000, 0xF80F_FFFF, addr) {
-        return Place::Sram((addr - 0xF800_0000) as usize);
-    }
-    if is_within(0xC000_0000, 0xC000_0FFF, addr) {
-        return Place::Gpio((addr - 0xC000_0000) as usize);
-    }
-    if is_mmio(addr) {
-        return Place::Register;
-    }
-    Place::Stray
 }
 
 // ---- bytes

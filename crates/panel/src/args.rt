@@ -47,7 +47,7 @@ fn aim(w: Window, c: u16, lo: u16, hi: u16) -> Window
 }
 
 // The first four are kept, and the fourth acts.
-pub(crate) fn argument(p: Panel, b: u8) -> Panel
+pub fn argument(p: Panel, b: u8) -> Panel
     ensures { λ r. ⌜ r ≡ argued p b ⌝ }
 {
     let n = p.count;

@@ -9,9 +9,11 @@ use lib.ListN.{length, getD, set}
 use borrow.Author.Tests.{eq-eqb, ne-eqb, lt-ltb, le-ltb}
 use Rattle.registers.specs.declared.Registers.{Registers}
 use Rattle.registers.specs.declared.Refusal.the-variants.{Done, RegistersFull}
-use Rattle.registers.specs.Words.{wordsFrom, namedWords, ownWords, index, slotOf, ownAt, ownWith, unstored, place}
-use Rattle.registers.specs.Words.{Others, otherAt, placed, without, roomFor, OtherOutcome, otherOutcome, putOther}
-use Rattle.registers.specs.Words.{registersOf, othersOf, wordAt, outcome, beside, putWord}
+use Rattle.registers.specs.declared.Spot.{Spot}
+use Rattle.registers.specs.declared.Spot.the-variants.{Own, Never, Held, Absent}
+use Rattle.registers.specs.Words.{wordsFrom, namedWords, ownWords, index, slotOf, unstored, place, otherSpot, spotOf}
+use Rattle.registers.specs.Words.{removedTo, insertedTo, Others, others, endOf, putHeld, OtherOutcome}
+use Rattle.registers.specs.Words.{otherOutcome, putAbsent, registersOf, othersOf, outcome, beside, putIn}
 
 -- ---- the slot of a word
 
@@ -32,12 +34,14 @@ index-missed a (x ∷ xs) P m =
     rw (ne-eqb x a other, index-missed a xs (P × (a ≢ x)) m)
 
 -- the slots after the timers'
-index-after : (a : ℕ) (n from : ℕ) (l : List ℕ) → ((i : ℕ) → i < n → from + 4 * i ≢ a) → index (wordsFrom n from ++ l) a ≡ n + index l a
+index-after : (a : ℕ) (n from : ℕ) (l : List ℕ) → ((i : ℕ) → i < n → from + 4 * i ≢ a)
+    → index (wordsFrom n from ++ l) a ≡ n + index l a
 unfolding index wordsFrom
 index-after a zero from l none = omega arith
 index-after a (suc n) from l none =
     let first : from ≢ a = λ e. none 0 (omega arith) (omega arith) in
-    rw (ne-eqb from a first, index-after a n (from + 4) l (λ i less e. none (i + 1) (omega arith) (omega arith))) (omega arith)
+    let rest = index-after a n (from + 4) l (λ i less e. none (i + 1) (omega arith) (omega arith)) in
+    rw (ne-eqb from a first, rest) (omega arith)
 
 -- the i-th timer word's slot is i
 index-timer : (i n from : ℕ) (l : List ℕ) → i < n → index (wordsFrom n from ++ l) (from + 4 * i) ≡ i
@@ -74,87 +78,69 @@ slot-timer a from to even =
     let here : 0xC0020000 + 4 * ((a - 0xC0020000) / 4) ≡ a = omega arith in
     sym (timer-slot ((a - 0xC0020000) / 4) less) ∙ ap slotOf here
 
--- ---- the own words; s is the slot that was computed
-module _ (own : List ℕ) (a s : ℕ) (e : s ≡ slotOf a) where
-  pub own-at : s < 76 → getD own s 0 ≡ ownAt own a
-  unfolding ownAt
-  own-at h = rw (← e, lt-ltb _ _ h)
+-- ---- where a word is; s and i are the slot and the place that were computed
+module _ (l : List ℕ) (a s : ℕ) (e : s ≡ slotOf a) where
+  pub spot-own : s < 76 → Own s ≡ spotOf l a
+  unfolding spotOf
+  spot-own h = rw (← e, lt-ltb _ _ h)
 
-  pub own-none : 76 ≤ s → 0 ≡ ownAt own a
-  unfolding ownAt
-  own-none h = rw (← e, le-ltb _ _ h)
+  pub spot-other : 76 ≤ s → otherSpot l a ≡ spotOf l a
+  unfolding spotOf
+  spot-other h = rw (← e, le-ltb _ _ h)
 
-  pub own-with : (v : ℕ) → s < 76 → set own s v ≡ ownWith own a v
-  unfolding ownWith
-  own-with v h = rw (← e, lt-ltb _ _ h)
+module _ (l : List ℕ) (a : ℕ) where
+  pub other-never : unstored a ≡ true → Never ≡ otherSpot l a
+  unfolding otherSpot
+  other-never u = rw u
 
-  pub own-kept : (v : ℕ) → 76 ≤ s → own ≡ ownWith own a v
-  unfolding ownWith
-  own-kept v h = rw (← e, le-ltb _ _ h)
+  module _ (i : ℕ) (f : i ≡ place l a) (u : unstored a ≡ false) where
+    pub other-held : getD l i 0 ≡ a → Held i ≡ otherSpot l a
+    unfolding otherSpot
+    other-held here = rw (u, ← f, eq-eqb _ _ here)
 
--- ---- the others; i is the place that was found
-module _ (o : Others) (a : ℕ) where
-  pub other-unstored : unstored a ≡ true → 0 ≡ otherAt o a
-  unfolding otherAt
-  other-unstored u = rw u
+    pub other-absent : getD l i 0 ≢ a → Absent i ≡ otherSpot l a
+    unfolding otherSpot
+    other-absent none = rw (u, ← f, ne-eqb _ _ none)
 
-  module _ (i : ℕ) (e : i ≡ place (o .addresses) a) where
-    pub other-known : unstored a ≡ false → i < 256 → getD (o .values) i 0 ≡ otherAt o a
-    unfolding otherAt
-    other-known u h = rw (u, ← e, lt-ltb _ _ h)
+-- ---- what is put there; p and q are the addresses and values that were stored
+module _ (o : Others) (i v : ℕ) where
+  pub held-zero : (n : ℕ) (p q : List ℕ) → v ≡ 0 → n ≡ endOf o
+      → p ≡ removedTo n (o .addresses) i → q ≡ removedTo n (o .values) i → others p q ≡ putHeld o i v
+  unfolding putHeld
+  held-zero n p q z e f g = rw (eq-eqb _ _ z, f, g, e)
 
-    pub other-none : unstored a ≡ false → 256 ≤ i → 0 ≡ otherAt o a
-    unfolding otherAt
-    other-none u h = rw (u, ← e, le-ltb _ _ h)
+  pub held-some : (q : List ℕ) → v ≢ 0 → q ≡ set (o .values) i v → others (o .addresses) q ≡ putHeld o i v
+  unfolding putHeld
+  held-some q n g = rw (ne-eqb _ _ n, g)
 
-    pub without-known : i < 256 → placed o i 0 0 ≡ without o a
-    unfolding without
-    without-known h = rw (← e, lt-ltb _ _ h)
+  module _ (a : ℕ) where
+    pub absent-zero : v ≡ 0 → otherOutcome Done o ≡ putAbsent o i a v
+    unfolding putAbsent
+    absent-zero z = rw (eq-eqb _ _ z)
 
-    pub without-none : 256 ≤ i → o ≡ without o a
-    unfolding without
-    without-none h = rw (← e, le-ltb _ _ h)
+    pub absent-full : v ≢ 0 → getD (o .values) 255 0 ≢ 0 → otherOutcome RegistersFull o ≡ putAbsent o i a v
+    unfolding putAbsent
+    absent-full n full = rw (ne-eqb _ _ n, ne-eqb _ _ full)
 
-    pub room-known : i < 256 → i ≡ roomFor o a
-    unfolding roomFor
-    room-known h = rw (← e, lt-ltb _ _ h)
+    pub absent-room : (n : ℕ) (p q : List ℕ) → v ≢ 0 → getD (o .values) 255 0 ≡ 0 → n ≡ endOf o
+        → p ≡ insertedTo n (o .addresses) i a → q ≡ insertedTo n (o .values) i v
+        → otherOutcome Done (others p q) ≡ putAbsent o i a v
+    unfolding putAbsent
+    absent-room n p q some free e f g = rw (ne-eqb _ _ some, eq-eqb _ _ free, f, g, e)
 
-    pub room-free : 256 ≤ i → place (o .values) 0 ≡ roomFor o a
-    unfolding roomFor
-    room-free h = rw (← e, le-ltb _ _ h)
+-- ---- a put in each case of where the word is
+module _ (r : Registers) (spot : Spot) (a v : ℕ) where
+  pub put-own : (s : ℕ) (own : List ℕ) → spot ≡ Own s → own ≡ set (r .own) s v
+      → outcome Done (registersOf own (r .addresses) (r .values)) ≡ putIn r spot a v
+  put-own s own e f = rw (e, f)
 
-  module _ (v : ℕ) where
-    pub put-unstored : unstored a ≡ true → otherOutcome Done o ≡ putOther o a v
-    unfolding putOther
-    put-unstored u = rw u
+  pub put-never : spot ≡ Never → outcome Done r ≡ putIn r spot a v
+  put-never e = rw e
 
-    pub put-zero : (p : Others) → unstored a ≡ false → v ≡ 0 → p ≡ without o a → otherOutcome Done p ≡ putOther o a v
-    unfolding putOther
-    put-zero p u z e = rw (u, eq-eqb _ _ z, e)
+  pub put-held : (i : ℕ) (o : Others) → spot ≡ Held i → o ≡ putHeld (othersOf r) i v
+      → beside (r .own) (otherOutcome Done o) ≡ putIn r spot a v
+  put-held i o e f = rw (e, f)
 
-    pub put-room : (i : ℕ) → unstored a ≡ false → v ≢ 0 → i ≡ roomFor o a → i < 256 → otherOutcome Done (placed o i a v) ≡ putOther o a v
-    unfolding putOther
-    put-room i u z e h = rw (u, ne-eqb _ _ z, ← e, lt-ltb _ _ h)
-
-    pub put-full : (i : ℕ) → unstored a ≡ false → v ≢ 0 → i ≡ roomFor o a → 256 ≤ i → otherOutcome RegistersFull o ≡ putOther o a v
-    unfolding putOther
-    put-full i u z e h = rw (u, ne-eqb _ _ z, ← e, le-ltb _ _ h)
-
--- ---- all words
-module _ (r : Registers) (a s : ℕ) (e : s ≡ slotOf a) where
-  pub word-own : s < 76 → getD (r .own) s 0 ≡ wordAt r a
-  unfolding wordAt
-  word-own h = rw (← e, lt-ltb _ _ h) (own-at (r .own) a s e h)
-
-  pub word-other : 76 ≤ s → otherAt (othersOf r) a ≡ wordAt r a
-  unfolding wordAt
-  word-other h = rw (← e, le-ltb _ _ h)
-
-  module _ (v : ℕ) where
-    pub put-own : s < 76 → outcome Done (registersOf (set (r .own) s v) (r .addresses) (r .values)) ≡ putWord r a v
-    unfolding putWord
-    put-own h = rw (← e, lt-ltb _ _ h, own-with (r .own) a s e v h)
-
-    pub put-other : (o : OtherOutcome) → 76 ≤ s → o ≡ putOther (othersOf r) a v → beside (r .own) o ≡ putWord r a v
-    unfolding putWord
-    put-other o h f = rw (← e, le-ltb _ _ h, f)
+  pub put-absent : (i : ℕ) (o : OtherOutcome) → spot ≡ Absent i → o ≡ putAbsent (othersOf r) i a v
+      → beside (r .own) o ≡ putIn r spot a v
+  put-absent i o e f = rw (e, f)

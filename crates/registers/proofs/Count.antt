@@ -2,18 +2,18 @@
 use Prim.Native.Nat.{ℕ, zero, suc, _+_, _<_, _≤_}
 use mathlib.Core.Path.{_≡_, refl, sym, ap, _∙_}
 use mathlib.Core.Bool.{true, false, true≢false}
-use mathlib.Core.List.{List, [], _∷_}
+use mathlib.Core.List.{List, [], _∷_, _++_}
 use mathlib.Core.Logic.{_≢_, _↔_}
 use native.Mathlib.Omega.{arith}
 use lib.ListN.{length, getD, set}
 use borrow.Author.Tests.{eq-eqb, ne-eqb}
 use Rattle.registers.specs.declared.Registers.{Registers}
-use Rattle.registers.specs.Words.{slotOf, unstored, Others, otherAt, OtherOutcome, putOther, othersOf, wordAt, Outcome, putWord}
-use Rattle.registers.specs.Within.{Other, TidyOthers, Tidy, counted, nonZero, Full}
-use Rattle.registers.proofs.Cases.{put-unstored}
-use Rattle.registers.proofs.Choice.{by-test, by-same}
-use Rattle.registers.proofs.Own.{other-word, put-split}
-use Rattle.registers.proofs.Places.{Spot, word-absent, put-cases}
+use Rattle.registers.specs.Words.{removed, inserted, othersOf, wordAt, Outcome, putWord}
+use Rattle.registers.specs.Within.{Other, Tidy, counted, nonZero, Full}
+use Rattle.registers.proofs.Choice.{by-same}
+use Rattle.registers.proofs.Spots.{placeIn, read-held, read-absent, put-cases}
+use Rattle.registers.proofs.Order.{free-behind, held-within, gap, some-held}
+use Rattle.registers.proofs.Moving.{tidy-cases}
 
 -- ---- counting
 
@@ -52,90 +52,108 @@ count-all [] all = refl
 count-all (x ∷ xs) all =
     omega (arith, counted-some x (all 0 (omega arith)), count-all xs (λ i less. all (suc i) (omega arith)))
 
+count-zero : (l : List ℕ) → nonZero (l ++ (0 ∷ [])) ≡ nonZero l
+unfolding nonZero
+count-zero [] = omega (arith, counted-none 0 refl)
+count-zero (x ∷ xs) = omega (arith, count-zero xs)
+
+count-removed : (l : List ℕ) (i : ℕ) → nonZero (removed l i) + counted (getD l i 0) ≡ nonZero l
+unfolding nonZero removed
+count-removed [] i = omega (arith, counted-none 0 refl)
+count-removed (x ∷ xs) zero = omega (arith, count-zero xs)
+count-removed (x ∷ xs) (suc i) = omega (arith, count-removed xs i)
+
+-- where the last place is free
+count-inserted : (l : List ℕ) (n i y : ℕ) → suc n ≡ length l → i ≤ n → getD l n 0 ≡ 0
+    → nonZero (inserted l i y) ≡ nonZero l + counted y
+unfolding nonZero inserted
+count-inserted [] n i y size upto free = absurd (omega arith)
+count-inserted (x ∷ xs) zero zero y size upto free = last xs (omega arith)
+  where
+    last : (l : List ℕ) → length l ≡ 0 → counted y + nonZero (inserted l 0 x) ≡ counted x + nonZero l + counted y
+    last [] none = omega (arith, counted-none x free)
+    last (z ∷ zs) none = absurd (omega arith)
+count-inserted (x ∷ xs) zero (suc i) y size upto free = absurd (omega arith)
+count-inserted (x ∷ xs) (suc n) zero y size upto free =
+    omega (arith, count-inserted xs n zero x (omega arith) (omega arith) free)
+count-inserted (x ∷ xs) (suc n) (suc i) y size upto free =
+    omega (arith, count-inserted xs n i y (omega arith) (omega arith) free)
+
 -- ---- the room
-
-module _ (o : Others) (tidy : TidyOthers o) (a v : ℕ) (other : Other a) where
-  others-full : (putOther o a v .refusal ≡ 4) ↔ ((v ≢ 0) × (otherAt o a ≡ 0) × (nonZero (o .values) ≡ 256))
-  others-full =
-      put-cases o tidy a v (λ (p : OtherOutcome). (p .refusal ≡ 4) ↔ ((v ≢ 0) × (otherAt o a ≡ 0) × (nonZero (o .values) ≡ 256)))
-      (λ u. absurd (true≢false (sym u ∙ other .stored)))
-      (λ u z absent. (λ four. absurd (omega arith), λ full. absurd (full .0 z)))
-      (λ i u z spot. (λ four. absurd (omega arith), λ full. absurd (full .0 z)))
-      (λ i u n spot. (λ four. absurd (omega arith), λ full. absurd (not-all i spot (full .1) (full .2))))
-      (λ u n absent all. (λ four. (n, word-absent o tidy a u absent, all-held all), λ full. refl))
-    where
-      not-all : (i : ℕ) → Spot o a i → otherAt o a ≡ 0 → nonZero (o .values) ≡ 256 → ⊥
-      not-all i spot z most =
-          let within : i < length (o .values) = omega (arith, tidy .values, spot .within) in
-          omega (arith, tidy .values, count-less (o .values) i within (sym (spot .reads) ∙ z))
-
-      all-held : ((j : ℕ) → j < 256 → getD (o .values) j 0 ≢ 0) → nonZero (o .values) ≡ 256
-      all-held all = count-all (o .values) (λ i less. all i (omega (arith, tidy .values))) ∙ tidy .values
-
-  others-count : putOther o a v .refusal ≡ 0
-      → nonZero (putOther o a v .others .values) + counted (otherAt o a) ≡ nonZero (o .values) + counted v
-  others-count =
-      put-cases o tidy a v
-      (λ (p : OtherOutcome). p .refusal ≡ 0 → nonZero (p .others .values) + counted (otherAt o a) ≡ nonZero (o .values) + counted v)
-      (λ u. absurd (true≢false (sym u ∙ other .stored)))
-      (λ u z absent done. ap (λ (w : ℕ). nonZero (o .values) + counted w) (word-absent o tidy a u absent ∙ sym z))
-      (λ i u z spot done. set-count i 0 spot ∙ ap (λ (w : ℕ). nonZero (o .values) + counted w) (sym z))
-      (λ i u n spot done. set-count i v spot)
-      (λ u n absent all done. absurd (omega arith))
-    where
-      set-count : (i w : ℕ) → Spot o a i → nonZero (set (o .values) i w) + counted (otherAt o a) ≡ nonZero (o .values) + counted w
-      set-count i w spot =
-          ap (λ (x : ℕ). nonZero (set (o .values) i w) + counted x) (spot .reads)
-          ∙ count-set (o .values) i w (omega (arith, tidy .values, spot .within))
 
 -- RegistersFull is given exactly where 01 says so
 pub full-exactly : (r : Registers) (a v : ℕ) → Tidy r → (putWord r a v .refusal ≡ 4) ↔ Full r a v
 full-exactly r a v tidy =
-    put-split r a v (λ (p : Outcome). (p .refusal ≡ 4) ↔ Full r a v)
+    tidy-cases r a v (tidy .others) (λ (p : Outcome). (p .refusal ≡ 4) ↔ Full r a v)
     (λ less. (λ four. absurd (omega arith), λ full. absurd (omega (arith, full .other .slot))))
-    (λ none. by-test (unstored a)
-    (λ never. (λ four. absurd (never-full never four), λ full. absurd (true≢false (sym never ∙ full .other .stored))))
-    (λ stored. told none stored))
+    (λ slot never. (λ four. absurd (omega arith), λ full. absurd (true≢false (sym never ∙ full .other .stored))))
+    (λ other here z. (λ four. absurd (omega arith), λ full. absurd (full .value z)))
+    (λ other here some.
+    (λ four. absurd (omega arith), λ full. absurd (some-held r (tidy .others) a other here (full .word))))
+    (λ other gone z. (λ four. absurd (omega arith), λ full. absurd (full .value z)))
+    (λ other gone some free. (λ four. absurd (omega arith), λ full. absurd (not-all free (full .most))))
+    (λ other gone some last. (
+      λ four. record { value = some; word = read-absent r a other gone; other = other; most = all-held last },
+      λ full. refl,
+    ))
   where
-    never-full : unstored a ≡ true → putOther (othersOf r) a v .refusal ≡ 4 → ⊥
-    never-full never four = omega (arith, ap (λ (p : OtherOutcome). p .refusal) (put-unstored (othersOf r) a v never))
+    not-all : getD (r .values) 255 0 ≡ 0 → nonZero (r .values) ≡ 256 → ⊥
+    not-all free most =
+        let within : 255 < length (r .values) = omega (arith, tidy .others .values) in
+        omega (arith, tidy .others .values, count-less (r .values) 255 within free)
 
-    told : slotOf a ≡ 76 → unstored a ≡ false → (putOther (othersOf r) a v .refusal ≡ 4) ↔ Full r a v
-    told none stored =
-        let other : Other a = record { slot = none; stored = stored } in
-        let exactly = others-full (othersOf r) (tidy .others) a v other in (
-          λ four.
-              let full = exactly .0 four in
-              record { value = full .0; word = other-word r a none ∙ full .1; other = other; most = full .2 },
-          λ full. exactly .1 (full .value, sym (other-word r a none) ∙ full .word, full .most),
-        )
+    all-held : getD (r .values) 255 0 ≢ 0 → nonZero (r .values) ≡ 256
+    all-held last =
+        count-all (r .values)
+        (λ i less z. last (free-behind (othersOf r) (tidy .others) i 255 (omega (arith, tidy .others .values)) z))
+        ∙ tidy .others .values
 
 -- with the word that was there, the later count is the former one with the word that is there now
 pub room-counts : (r : Registers) (a v : ℕ) → Tidy r → Other a → putWord r a v .refusal ≡ 0
     → nonZero (putWord r a v .registers .values) + counted (wordAt r a) ≡ nonZero (r .values) + counted v
 room-counts r a v tidy other =
-    put-split r a v
-    (λ (p : Outcome). p .refusal ≡ 0 → nonZero (p .registers .values) + counted (wordAt r a) ≡ nonZero (r .values) + counted v)
+    tidy-cases r a v (tidy .others) Counts
     (λ less. absurd (omega (arith, other .slot)))
-    (λ none done.
-    ap (λ (w : ℕ). nonZero (putOther (othersOf r) a v .others .values) + counted w) (other-word r a none)
-    ∙ others-count (othersOf r) (tidy .others) a v other done)
+    (λ slot never. absurd (true≢false (sym never ∙ other .stored)))
+    (λ o here z done.
+    omega (arith, counted-none v z, ap counted (read-held r a o here), count-removed (r .values) (placeIn r a)))
+    (λ o here some done.
+    let less : placeIn r a < 256 = held-within (othersOf r) (tidy .others) a o (placeIn r a) here in
+    let within : placeIn r a < length (r .values) = omega (arith, tidy .others .values) in
+    omega (arith, ap counted (read-held r a o here), count-set (r .values) (placeIn r a) v within))
+    (λ o gone z done. omega (arith, counted-none v z, counted-none (wordAt r a) (read-absent r a o gone)))
+    (λ o gone some free done.
+    let upto : placeIn r a ≤ 255 = omega (arith, gap (othersOf r) (tidy .others) a gone free .within) in
+    let size : suc 255 ≡ length (r .values) = omega (arith, tidy .others .values) in
+    let more = count-inserted (r .values) 255 (placeIn r a) v size upto free in
+    omega (arith, counted-none (wordAt r a) (read-absent r a o gone), more))
+    (λ o gone some full done. absurd (omega arith))
+  where
+    Counts : Outcome → Type 0
+    Counts p =
+        p .refusal ≡ 0 → nonZero (p .registers .values) + counted (wordAt r a) ≡ nonZero (r .values) + counted v
 
 module _ (r : Registers) (a v : ℕ) (tidy : Tidy r) (other : Other a) (done : putWord r a v .refusal ≡ 0) where
   pub room-taken : wordAt r a ≡ 0 → v ≢ 0 → nonZero (putWord r a v .registers .values) ≡ nonZero (r .values) + 1
-  room-taken old new = omega (arith, room-counts r a v tidy other done, counted-none (wordAt r a) old, counted-some v new)
+  room-taken old new =
+      omega (arith, room-counts r a v tidy other done, counted-none (wordAt r a) old, counted-some v new)
 
   pub room-given : wordAt r a ≢ 0 → v ≡ 0 → nonZero (putWord r a v .registers .values) + 1 ≡ nonZero (r .values)
-  room-given old new = omega (arith, room-counts r a v tidy other done, counted-some (wordAt r a) old, counted-none v new)
+  room-given old new =
+      omega (arith, room-counts r a v tidy other done, counted-some (wordAt r a) old, counted-none v new)
 
   pub room-kept : counted (wordAt r a) ≡ counted v → nonZero (putWord r a v .registers .values) ≡ nonZero (r .values)
   room-kept same = omega (arith, room-counts r a v tidy other done)
 
 -- a word that takes no place
-pub room-apart : (r : Registers) (a v : ℕ) → (Other a → ⊥) → nonZero (putWord r a v .registers .values) ≡ nonZero (r .values)
+pub room-apart : (r : Registers) (a v : ℕ) → (Other a → ⊥)
+    → nonZero (putWord r a v .registers .values) ≡ nonZero (r .values)
 room-apart r a v not-other =
-    put-split r a v (λ (p : Outcome). nonZero (p .registers .values) ≡ nonZero (r .values))
+    put-cases r a v (λ (p : Outcome). nonZero (p .registers .values) ≡ nonZero (r .values))
     (λ less. refl)
-    (λ none. by-test (unstored a)
-    (λ never. ap (λ (p : OtherOutcome). nonZero (p .others .values)) (sym (put-unstored (othersOf r) a v never)))
-    (λ stored. absurd (not-other (record { slot = none; stored = stored }))))
+    (λ slot never. refl)
+    (λ other here z. absurd (not-other other))
+    (λ other here some. absurd (not-other other))
+    (λ other gone z. refl)
+    (λ other gone some free. absurd (not-other other))
+    (λ other gone some full. refl)

@@ -1,105 +1,131 @@
 -- What was put is read back, and every other word is as it was.
-use Prim.Native.Nat.{ℕ, _<_}
+use Prim.Native.Nat.{ℕ}
 use mathlib.Core.Path.{_≡_, refl, sym, ap, _∙_}
 use mathlib.Core.Bool.{true, false, true≢false}
+use mathlib.Core.List.{List}
 use mathlib.Core.Logic.{_≢_}
 use native.Mathlib.Omega.{arith}
 use lib.ListN.{getD}
+use lib.Seq.{getD-set-other}
 use Rattle.registers.specs.declared.Registers.{Registers}
-use Rattle.registers.specs.Words.{slotOf, unstored, place, Others, otherAt, placed, OtherOutcome, putOther}
-use Rattle.registers.specs.Words.{othersOf, wordAt, Outcome, putWord}
+use Rattle.registers.specs.declared.Spot.{Spot}
+use Rattle.registers.specs.Words.{slotOf, unstored, removed, registersOf, othersOf}
+use Rattle.registers.specs.Words.{wordIn, wordAt, Outcome, putWord}
 use Rattle.registers.specs.Within.{Other, TidyOthers, Tidy}
-use Rattle.registers.proofs.Cases.{other-unstored}
-use Rattle.registers.proofs.Choice.{by-test, by-same, by-less}
-use Rattle.registers.proofs.Search.{place-hit, place-absent}
-use Rattle.registers.proofs.Own.{by-slot, slot-apart, own-own, own-stays, own-word, other-word, put-split}
-use Rattle.registers.proofs.Places.{not-zero, Spot, Absent, held, word-is, word-absent, put-cases}
-use Rattle.registers.proofs.Tidy.{set-here, set-there, tidy-gone, tidy-here}
+use Rattle.registers.proofs.Own.{by-slot, slot-apart, own-own, own-stays, own-word}
+use Rattle.registers.proofs.Spots.{Here, Gone, by-kind, by-spot, read-never, read-absent}
+use Rattle.registers.proofs.Spots.{placeIn, setIn}
+use Rattle.registers.proofs.Order.{once, held, word-is, word-absent, by-place}
+use Rattle.registers.proofs.Moving.{givenBack, takenBy, tidy-cases}
+use Rattle.registers.proofs.Tidy.{set-here, tidy-back, tidy-here, taken-at, tidy-taken}
+use Rattle.registers.proofs.Wider.{past, past-other, wider-removed, wider-inserted, wider-reads}
 
 -- ---- the word itself
 
-gone-absent : (o : Others) (a i : ℕ) → TidyOthers o → unstored a ≡ false → Spot o a i → Absent (placed o i 0 0) a
-gone-absent o a i tidy stored spot j e =
-    by-same j i
-    (λ q. not-zero a stored (sym e ∙ set-here (o .addresses) i 0 (tidy .addresses) (spot .within) j q))
-    (λ n.
-    let there : getD (o .addresses) j 0 ≡ a = sym (set-there (o .addresses) i 0 j n) ∙ e in
-    spot .alone j n (held o tidy a stored j there) there)
-
-same-other : (o : Others) (a v : ℕ) → TidyOthers o → Other a → putOther o a v .refusal ≡ 0 → otherAt (putOther o a v .others) a ≡ v
-same-other o a v tidy other =
-    put-cases o tidy a v (λ (p : OtherOutcome). p .refusal ≡ 0 → otherAt (p .others) a ≡ v)
-    (λ u done. absurd (true≢false (sym u ∙ other .stored)))
-    (λ u z absent done. word-absent o tidy a u absent ∙ sym z)
-    (λ i u z spot done.
-    word-absent (placed o i 0 0) (tidy-gone o tidy i (spot .within)) a u (gone-absent o a i tidy u spot) ∙ sym z)
-    (λ i u n spot done.
-    word-is (placed o i a v) (tidy-here o tidy i a v other n spot) a u i (set-here (o .addresses) i a (tidy .addresses) (spot .within) i refl)
-    ∙ set-here (o .values) i v (tidy .values) (spot .within) i refl)
-    (λ u n absent all done. absurd (omega arith))
+-- a word that has given its place back stands nowhere
+back-absent : (r : Registers) (a : ℕ) → TidyOthers (othersOf r) → Other a → Here (r .addresses) a
+    → (j : ℕ) → getD (removed (r .addresses) (placeIn r a)) j 0 ≢ a
+back-absent r a tidy other here j e =
+    let p = placeIn r a in
+    let stands : getD (r .addresses) (past p j) 0 ≡ a = sym (wider-removed (othersOf r) p .address j) ∙ e in
+    let some = held (othersOf r) tidy a other in
+    past-other p j (once (othersOf r) tidy (past p j) p (some (past p j) stands) (some p here) (stands ∙ sym here))
 
 -- what was put and not refused is read back
-pub get-same : (r : Registers) (a v : ℕ) → Tidy r → unstored a ≡ false → putWord r a v .refusal ≡ 0 → wordAt (putWord r a v .registers) a ≡ v
+pub get-same : (r : Registers) (a v : ℕ) → Tidy r → unstored a ≡ false → putWord r a v .refusal ≡ 0
+    → wordAt (putWord r a v .registers) a ≡ v
 get-same r a v tidy stored =
-    put-split r a v (λ (p : Outcome). p .refusal ≡ 0 → wordAt (p .registers) a ≡ v)
+    tidy-cases r a v (tidy .others) (λ (p : Outcome). p .refusal ≡ 0 → wordAt (p .registers) a ≡ v)
     (λ less done. own-word _ a less ∙ own-own (r .own) a v (tidy .own) less)
-    (λ none done. other-word _ a none ∙ same-other (othersOf r) a v (tidy .others) (record { slot = none; stored = stored }) done)
+    (λ slot never done. absurd (true≢false (sym never ∙ stored)))
+    (λ other here z done.
+    word-absent (givenBack r (placeIn r a)) (tidy-back r (placeIn r a) (tidy .others)) a other
+    (back-absent r a (tidy .others) other here)
+    ∙ sym z)
+    (λ other here some done.
+    word-is (setIn r (placeIn r a) v) (tidy-here r a v (tidy .others) other some here) a other (placeIn r a) here
+    ∙ set-here (r .values) (placeIn r a) v (held (othersOf r) (tidy .others) a other (placeIn r a) here) some)
+    (λ other gone z done. read-absent r a other gone ∙ sym z)
+    (λ other gone some free done.
+    let at = taken-at r a v (tidy .others) other some gone free in
+    word-is (takenBy r (placeIn r a) a v) (tidy-taken r a v (tidy .others) other some gone free) a other (placeIn r a)
+    (at (r .addresses) a (tidy .others .addresses))
+    ∙ at (r .values) v (tidy .others .values))
+    (λ other gone some full done. absurd (omega arith))
 
 -- ---- every other word
 
--- a place that is set is seen by its old and its new word alone
-placed-stays : (o : Others) (i x v b : ℕ) → TidyOthers o → TidyOthers (placed o i x v) → i < 256 → unstored b ≡ false
-    → b ≢ x → getD (o .addresses) i 0 ≢ b → otherAt (placed o i x v) b ≡ otherAt o b
-placed-stays o i x v b tidy after within stored new old =
-    by-less (place (o .addresses) b) 256
-    (λ found.
-    let p = place (o .addresses) b in
-    let hit : getD (o .addresses) p 0 ≡ b = place-hit (o .addresses) b found in
-    let apart : p ≢ i = λ e. old (ap (λ (j : ℕ). getD (o .addresses) j 0) (sym e) ∙ hit) in
-    word-is (placed o i x v) after b stored p (set-there (o .addresses) i x p apart ∙ hit)
-    ∙ set-there (o .values) i v p apart
-    ∙ sym (word-is o tidy b stored p hit))
-    (λ none.
-    let absent : Absent o b = place-absent (o .addresses) b (tidy .addresses) (not-zero b stored) none in
-    word-absent (placed o i x v) after b stored (gone absent) ∙ sym (word-absent o tidy b stored absent))
-  where
-    gone : Absent o b → Absent (placed o i x v) b
-    gone absent j e =
-        by-same j i
-        (λ q. new (sym e ∙ set-here (o .addresses) i x (tidy .addresses) within j q))
-        (λ n. absent j (sym (set-there (o .addresses) i x j n) ∙ e))
+-- a word with no storage of its own is not read there
+other-own : (own own′ addresses values : List ℕ) (b : ℕ) → slotOf b ≡ 76
+    → wordAt (registersOf own addresses values) b ≡ wordAt (registersOf own′ addresses values) b
+unfolding wordAt
+other-own own own′ addresses values b none =
+    by-spot addresses b (λ (s : Spot). wordIn own values s ≡ wordIn own′ values s)
+    (λ less. absurd (omega arith))
+    (λ slot never. refl)
+    (λ other here. refl)
+    (λ other gone. refl)
 
-other-stays : (o : Others) (a b v : ℕ) → TidyOthers o → slotOf a ≡ 76 → b ≢ a → otherAt (putOther o a v .others) b ≡ otherAt o b
-other-stays o a b v tidy slot new =
-    by-test (unstored b)
-    (λ never. sym (other-unstored (putOther o a v .others) b never) ∙ other-unstored o b never)
-    (λ stored.
-    let some : b ≢ 0 = not-zero b stored in
-    put-cases o tidy a v (λ (p : OtherOutcome). otherAt (p .others) b ≡ otherAt o b)
-    (λ u. refl)
-    (λ u z absent. refl)
-    (λ i u z spot. placed-stays o i 0 0 b tidy (tidy-gone o tidy i (spot .within)) (spot .within) stored some (spot .apart b new some))
-    (λ i u n spot.
-    let other : Other a = record { slot = slot; stored = u } in
-    placed-stays o i a v b tidy (tidy-here o tidy i a v other n spot) (spot .within) stored new (spot .apart b new some))
-    (λ u n absent all. refl))
+-- of two tables beside the same own words only the others can tell
+others-tell : (r : Registers) (addresses values : List ℕ) (b : ℕ)
+    → (Other b → wordAt (registersOf (r .own) addresses values) b ≡ wordAt r b)
+    → wordAt (registersOf (r .own) addresses values) b ≡ wordAt r b
+others-tell r addresses values b =
+    by-kind b
+    (λ less told. own-word (registersOf (r .own) addresses values) b less ∙ sym (own-word r b less))
+    (λ none never told.
+    read-never (registersOf (r .own) addresses values) b none never ∙ sym (read-never r b none never))
+    (λ other told. told other)
+
+module _ (r : Registers) (a b v : ℕ) (tidy : TidyOthers (othersOf r)) (other : Other a) (new : b ≢ a)
+    (other-b : Other b) where
+  back-stays : Here (r .addresses) a → wordAt (givenBack r (placeIn r a)) b ≡ wordAt r b
+  back-stays here =
+      wider-reads (givenBack r (placeIn r a)) r (placeIn r a) b (tidy-back r (placeIn r a) tidy) tidy
+      (wider-removed (othersOf r) (placeIn r a))
+      (λ e. new (sym e ∙ here))
+      other-b
+
+  set-stays : Here (r .addresses) a → v ≢ 0 → wordAt (setIn r (placeIn r a) v) b ≡ wordAt r b
+  set-stays here some =
+      let after = tidy-here r a v tidy other some here in
+      by-place r tidy b other-b
+      (λ j e.
+      let apart : j ≢ placeIn r a = λ q. new (sym e ∙ ap (λ (k : ℕ). getD (r .addresses) k 0) q ∙ here) in
+      word-is (setIn r (placeIn r a) v) after b other-b j e
+      ∙ getD-set-other (r .values) (placeIn r a) j v 0 apart
+      ∙ sym (word-is r tidy b other-b j e))
+      (λ absent.
+      word-absent (setIn r (placeIn r a) v) after b other-b absent ∙ sym (word-absent r tidy b other-b absent))
+
+  taken-stays : Gone (r .addresses) a → v ≢ 0 → getD (r .values) 255 0 ≡ 0
+      → wordAt (takenBy r (placeIn r a) a v) b ≡ wordAt r b
+  taken-stays gone some free =
+      sym (wider-reads r (takenBy r (placeIn r a) a v) (placeIn r a) b
+      tidy (tidy-taken r a v tidy other some gone free)
+      (wider-inserted (othersOf r) (placeIn r a) a v tidy free)
+      (λ e. new (sym e ∙ taken-at r a v tidy other some gone free (r .addresses) a (tidy .addresses)))
+      other-b)
 
 -- every other word is as it was, refused or not
 pub get-other : (r : Registers) (a b v : ℕ) → Tidy r → b ≢ a → wordAt (putWord r a v .registers) b ≡ wordAt r b
 get-other r a b v tidy new =
-    put-split r a v (λ (p : Outcome). wordAt (p .registers) b ≡ wordAt r b)
+    tidy-cases r a v (tidy .others) (λ (p : Outcome). wordAt (p .registers) b ≡ wordAt r b)
     (λ less. by-slot b
     (λ own. own-word _ b own ∙ own-stays (r .own) a b v (slot-apart a b less new) ∙ sym (own-word r b own))
-    (λ other. other-word _ b other ∙ sym (other-word r b other)))
-    (λ none. by-slot b
-    (λ own. own-word _ b own ∙ sym (own-word r b own))
-    (λ other. other-word _ b other ∙ other-stays (othersOf r) a b v (tidy .others) none new ∙ sym (other-word r b other)))
+    (λ none. other-own _ (r .own) (r .addresses) (r .values) b none))
+    (λ slot never. refl)
+    (λ other here z. others-tell r _ _ b (λ o. back-stays r a b v (tidy .others) other new o here))
+    (λ other here some. others-tell r _ _ b (λ o. set-stays r a b v (tidy .others) other new o here some))
+    (λ other gone z. refl)
+    (λ other gone some free.
+    others-tell r _ _ b (λ o. taken-stays r a b v (tidy .others) other new o gone some free))
+    (λ other gone some full. refl)
 
 -- ---- the places
 
 -- each place that is not free is the word that its address reads
-pub place-reads : (r : Registers) (i : ℕ) → Tidy r → getD (r .values) i 0 ≢ 0 → wordAt r (getD (r .addresses) i 0) ≡ getD (r .values) i 0
+pub place-reads : (r : Registers) (i : ℕ) → Tidy r → getD (r .values) i 0 ≢ 0
+    → wordAt r (getD (r .addresses) i 0) ≡ getD (r .values) i 0
 place-reads r i tidy some =
-    let other = tidy .others .belongs i some in
-    other-word r (getD (r .addresses) i 0) (other .slot)
-    ∙ word-is (othersOf r) (tidy .others) (getD (r .addresses) i 0) (other .stored) i refl
+    word-is r (tidy .others) (getD (r .addresses) i 0) (tidy .others .belongs i some) i refl

@@ -4,14 +4,20 @@ use mathlib.Core.Path.{_≡_, refl, sym, ap, subst, _∙_}
 use mathlib.Core.List.{List}
 use mathlib.Core.Logic.{_≢_}
 use native.Mathlib.Omega.{arith}
-use lib.ListN.{length, getD, set, replicate, length-set, length-replicate}
+use lib.ListN.{length, getD, set, replicate, length-set, length-replicate, List·getD-eq-default}
 use lib.Seq.{getD-set-same, getD-set-other}
 use Rattle.registers.specs.declared.Registers.{Registers}
-use Rattle.registers.specs.Words.{slotOf, Others, placed, OtherOutcome, putOther, othersOf, freshRegisters, Outcome, putWord}
+use Rattle.registers.specs.Words.{inserted, Others, others, registersOf, othersOf}
+use Rattle.registers.specs.Words.{freshRegisters, Outcome, putWord}
 use Rattle.registers.specs.Within.{Other, TidyOthers, Tidy}
-use Rattle.registers.proofs.Choice.{by-same}
-use Rattle.registers.proofs.Own.{own-length, put-split}
-use Rattle.registers.proofs.Places.{Spot, put-cases}
+use Rattle.registers.proofs.Choice.{by-same, by-less}
+use Rattle.registers.proofs.Own.{own-length}
+use Rattle.registers.proofs.Spots.{Here, Gone, placeIn, setIn}
+use Rattle.registers.proofs.Order.{held, Gap, gap}
+use Rattle.registers.proofs.Moving.{givenBack, takenBy, tidy-cases}
+use Rattle.registers.proofs.Shifts.{length-removed, length-inserted, inserted-here}
+use Rattle.registers.proofs.Wider.{past, past-less, past-back, past-from, past-upto, by-past}
+use Rattle.registers.proofs.Wider.{Wider, wider-removed, wider-inserted}
 
 -- ---- fresh
 
@@ -29,92 +35,154 @@ tidy-fresh = record {
     values = length-replicate {A = ℕ} 256 0;
     free = λ i z. zeros 256 i;
     belongs = λ i some. absurd (some (zeros 256 i));
-    once = λ i j some. absurd (some (zeros 256 i));
+    falls = λ i j less some. absurd (some (zeros 256 j));
   };
 }
 
--- ---- a place that is set
+-- ---- a place is given back
 
-module _ (l : List ℕ) (i x : ℕ) where
-  pub set-here : length l ≡ 256 → i < 256 → (j : ℕ) → j ≡ i → getD (set l i x) j 0 ≡ x
-  set-here size within j e =
-      let less : i < length l = omega arith in
-      ap (λ (k : ℕ). getD (set l i x) k 0) e ∙ getD-set-same l i x 0 less
-
-  pub set-there : (j : ℕ) → j ≢ i → getD (set l i x) j 0 ≡ getD l j 0
-  set-there j other = getD-set-other l i j x 0 other
-
-module _ (o : Others) (tidy : TidyOthers o) (i a v : ℕ) (within : i < 256) (zero-both : v ≡ 0 → a ≡ 0) (other : v ≢ 0 → Other a)
-    (alone : v ≢ 0 → (j : ℕ) → j ≢ i → getD (o .values) j 0 ≢ 0 → getD (o .addresses) j 0 ≢ a) where
-  address-here : (j : ℕ) → j ≡ i → getD (set (o .addresses) i a) j 0 ≡ a
-  address-here = set-here (o .addresses) i a (tidy .addresses) within
-
-  value-here : (j : ℕ) → j ≡ i → getD (set (o .values) i v) j 0 ≡ v
-  value-here = set-here (o .values) i v (tidy .values) within
-
-  -- what is not zero after it
-  some-here : (j : ℕ) → j ≡ i → getD (set (o .values) i v) j 0 ≢ 0 → v ≢ 0
-  some-here j e some z = some (value-here j e ∙ z)
-
-  some-there : (j : ℕ) → j ≢ i → getD (set (o .values) i v) j 0 ≢ 0 → getD (o .values) j 0 ≢ 0
-  some-there j n some z = some (set-there (o .values) i v j n ∙ z)
-
-  placed-free : (j : ℕ) → getD (set (o .values) i v) j 0 ≡ 0 → getD (set (o .addresses) i a) j 0 ≡ 0
-  placed-free j z =
-      by-same j i
-      (λ e. address-here j e ∙ zero-both (sym (value-here j e) ∙ z))
-      (λ n. set-there (o .addresses) i a j n ∙ tidy .free j (sym (set-there (o .values) i v j n) ∙ z))
-
-  placed-belongs : (j : ℕ) → getD (set (o .values) i v) j 0 ≢ 0 → Other (getD (set (o .addresses) i a) j 0)
-  placed-belongs j some =
-      by-same j i
-      (λ e. subst Other (sym (address-here j e)) (other (some-here j e some)))
-      (λ n. subst Other (sym (set-there (o .addresses) i a j n)) (tidy .belongs j (some-there j n some)))
-
-  placed-once : (j k : ℕ) → getD (set (o .values) i v) j 0 ≢ 0 → getD (set (o .values) i v) k 0 ≢ 0
-      → getD (set (o .addresses) i a) j 0 ≡ getD (set (o .addresses) i a) k 0 → j ≡ k
-  placed-once j k some-j some-k same =
-      by-same j i
-      (λ e. by-same k i (λ f. e ∙ sym f)
-      (λ n. absurd (alone (some-here j e some-j) k n (some-there k n some-k)
-      (sym (set-there (o .addresses) i a k n) ∙ sym same ∙ address-here j e))))
-      (λ m. by-same k i
-      (λ f. absurd (alone (some-here k f some-k) j m (some-there j m some-j)
-      (sym (set-there (o .addresses) i a j m) ∙ same ∙ address-here k f)))
-      (λ n. tidy .once j k (some-there j m some-j) (some-there k n some-k)
-      (sym (set-there (o .addresses) i a j m) ∙ same ∙ set-there (o .addresses) i a k n)))
-
-  tidy-placed : TidyOthers (placed o i a v)
-  tidy-placed = record {
-    addresses = length-set (o .addresses) i a ∙ tidy .addresses;
-    values = length-set (o .values) i v ∙ tidy .values;
-    free = placed-free;
-    belongs = placed-belongs;
-    once = placed-once;
+module _ (o w : Others) (i : ℕ) (wider : Wider o w i) where
+  tidy-narrower : TidyOthers w → length (o .addresses) ≡ 256 → length (o .values) ≡ 256 → TidyOthers o
+  tidy-narrower tidy addresses values = record {
+    addresses = addresses;
+    values = values;
+    free = λ j z. wider .address j ∙ tidy .free (past i j) (sym (wider .value j) ∙ z);
+    belongs = λ j some.
+        subst Other (sym (wider .address j)) (tidy .belongs (past i j) (λ z. some (wider .value j ∙ z)));
+    falls = λ j k less some. omega (
+      arith,
+      wider .address j,
+      wider .address k,
+      tidy .falls (past i j) (past i k) (past-less i j k less) (λ z. some (wider .value k ∙ z)),
+    );
   }
+
+-- ---- a place is taken
+
+-- by a word whose address is between those before it and those behind
+module _ (o w : Others) (i a : ℕ) (wider : Wider o w i) (tidy : TidyOthers o) (gap : Gap o tidy a i) (other : Other a)
+    (here : getD (w .addresses) i 0 ≡ a) (some-here : getD (w .values) i 0 ≢ 0) where
+  wider-some : (j k : ℕ) → past i j ≡ k → getD (w .values) k 0 ≢ 0 → getD (o .values) j 0 ≢ 0
+  wider-some j k e some z = some (ap (λ (m : ℕ). getD (w .values) m 0) (sym e) ∙ sym (wider .value j) ∙ z)
+
+  wider-address : (j k : ℕ) → past i j ≡ k → getD (w .addresses) k 0 ≡ getD (o .addresses) j 0
+  wider-address j k e = ap (λ (m : ℕ). getD (w .addresses) m 0) (sym e) ∙ sym (wider .address j)
+
+  wider-free : (k : ℕ) → getD (w .values) k 0 ≡ 0 → getD (w .addresses) k 0 ≡ 0
+  wider-free k z =
+      by-past i k
+      (λ new. absurd (some-here (ap (λ (m : ℕ). getD (w .values) m 0) (sym new) ∙ z)))
+      (λ j old. wider-address j k old ∙ tidy .free j (wider .value j ∙ ap (λ (m : ℕ). getD (w .values) m 0) old ∙ z))
+
+  wider-belongs : (k : ℕ) → getD (w .values) k 0 ≢ 0 → Other (getD (w .addresses) k 0)
+  wider-belongs k some =
+      by-past i k
+      (λ new. subst Other (sym here ∙ ap (λ (m : ℕ). getD (w .addresses) m 0) (sym new)) other)
+      (λ j old. subst Other (sym (wider-address j k old)) (tidy .belongs j (wider-some j k old some)))
+
+  wider-falls : (j k : ℕ) → j < k → getD (w .values) k 0 ≢ 0 → getD (w .addresses) k 0 < getD (w .addresses) j 0
+  wider-falls j k less some =
+      by-past i k
+      (λ new. by-past i j
+      (λ same. absurd (omega arith))
+      (λ m old.
+      let before = past-upto i m (omega arith) in
+      let higher = gap .above m (before .0) in
+      omega (arith, here, ap (λ (n : ℕ). getD (w .addresses) n 0) new, wider-address m j old, higher)))
+      (λ n moved. by-past i j
+      (λ same.
+      omega (
+        arith,
+        here,
+        ap (λ (m : ℕ). getD (w .addresses) m 0) same,
+        wider-address n k moved,
+        gap .below n (past-from i n (omega arith)) (wider-some n k moved some),
+      ))
+      (λ m old.
+      omega (
+        arith,
+        wider-address m j old,
+        wider-address n k moved,
+        tidy .falls m n (past-back i m n (omega arith)) (wider-some n k moved some),
+      )))
+
+  tidy-wider : length (w .addresses) ≡ 256 → length (w .values) ≡ 256 → TidyOthers w
+  tidy-wider addresses values = record {
+    addresses = addresses;
+    values = values;
+    free = wider-free;
+    belongs = wider-belongs;
+    falls = wider-falls;
+  }
+
+-- ---- a place is set
+
+module _ (l : List ℕ) (i v : ℕ) (some-before : getD l i 0 ≢ 0) (some-after : v ≢ 0) where
+  pub set-here : getD (set l i v) i 0 ≡ v
+  set-here =
+      by-less i (length l)
+      (λ less. getD-set-same l i v 0 less)
+      (λ out. absurd (some-before (List·getD-eq-default l 0 out)))
+
+  -- the same places are free
+  free-before : (j : ℕ) → getD (set l i v) j 0 ≡ 0 → getD l j 0 ≡ 0
+  free-before j z =
+      by-same j i
+      (λ e. absurd (some-after (sym set-here ∙ ap (λ (m : ℕ). getD (set l i v) m 0) (sym e) ∙ z)))
+      (λ n. sym (getD-set-other l i j v 0 n) ∙ z)
+
+  free-after : (j : ℕ) → getD l j 0 ≡ 0 → getD (set l i v) j 0 ≡ 0
+  free-after j z =
+      by-same j i
+      (λ e. absurd (some-before (ap (λ (m : ℕ). getD l m 0) (sym e) ∙ z)))
+      (λ n. getD-set-other l i j v 0 n ∙ z)
+
+tidy-set : (o : Others) (i v : ℕ) → TidyOthers o → getD (o .values) i 0 ≢ 0 → v ≢ 0
+    → TidyOthers (others (o .addresses) (set (o .values) i v))
+tidy-set o i v tidy old new = record {
+  addresses = tidy .addresses;
+  values = length-set (o .values) i v ∙ tidy .values;
+  free = λ j z. tidy .free j (free-before (o .values) i v old new j z);
+  belongs = λ j some. tidy .belongs j (λ z. some (free-after (o .values) i v old new j z));
+  falls = λ j k less some. tidy .falls j k less (λ z. some (free-after (o .values) i v old new k z));
+}
 
 -- ---- a put
 
-module _ (o : Others) (tidy : TidyOthers o) (i : ℕ) where
-  -- a place is given back
-  pub tidy-gone : i < 256 → TidyOthers (placed o i 0 0)
-  tidy-gone within = tidy-placed o tidy i 0 0 within (λ z. refl) (λ n. absurd (n refl)) (λ n. absurd (n refl))
+pub tidy-back : (r : Registers) (i : ℕ) → TidyOthers (othersOf r) → TidyOthers (othersOf (givenBack r i))
+tidy-back r i tidy =
+    tidy-narrower (othersOf (givenBack r i)) (othersOf r) i (wider-removed (othersOf r) i) tidy
+    (length-removed (r .addresses) i ∙ tidy .addresses)
+    (length-removed (r .values) i ∙ tidy .values)
 
-  -- a word is stored
-  pub tidy-here : (a v : ℕ) → Other a → v ≢ 0 → Spot o a i → TidyOthers (placed o i a v)
-  tidy-here a v other some spot = tidy-placed o tidy i a v (spot .within) (λ z. absurd (some z)) (λ n. other) (λ n. spot .alone)
+module _ (r : Registers) (a v : ℕ) (tidy : TidyOthers (othersOf r)) (other : Other a) (some : v ≢ 0) where
+  pub tidy-here : Here (r .addresses) a → TidyOthers (othersOf (setIn r (placeIn r a) v))
+  tidy-here here =
+      tidy-set (othersOf r) (placeIn r a) v tidy (held (othersOf r) tidy a other (placeIn r a) here) some
 
-tidy-others : (o : Others) (a v : ℕ) → TidyOthers o → slotOf a ≡ 76 → TidyOthers (putOther o a v .others)
-tidy-others o a v tidy slot =
-    put-cases o tidy a v (λ (p : OtherOutcome). TidyOthers (p .others))
-    (λ u. tidy)
-    (λ u z absent. tidy)
-    (λ i u z spot. tidy-gone o tidy i (spot .within))
-    (λ i u n spot. tidy-here o tidy i a v (record { slot = slot; stored = u }) n spot)
-    (λ u n absent all. tidy)
+  module _ (gone : Gone (r .addresses) a) (free : getD (r .values) 255 0 ≡ 0) where
+    pub taken-at : (l : List ℕ) (y : ℕ) → length l ≡ 256 → getD (inserted l (placeIn r a) y) (placeIn r a) 0 ≡ y
+    taken-at l y size = inserted-here l (placeIn r a) y (omega (arith, gap (othersOf r) tidy a gone free .within))
+
+    pub tidy-taken : TidyOthers (othersOf (takenBy r (placeIn r a) a v))
+    tidy-taken =
+        tidy-wider (othersOf r) (othersOf (takenBy r (placeIn r a) a v)) (placeIn r a) a
+        (wider-inserted (othersOf r) (placeIn r a) a v tidy free) tidy (gap (othersOf r) tidy a gone free) other
+        (taken-at (r .addresses) a (tidy .addresses))
+        (λ z. some (sym (taken-at (r .values) v (tidy .values)) ∙ z))
+        (length-inserted (r .addresses) (placeIn r a) a ∙ tidy .addresses)
+        (length-inserted (r .values) (placeIn r a) v ∙ tidy .values)
 
 pub tidy-put : (r : Registers) (a v : ℕ) → Tidy r → Tidy (putWord r a v .registers)
 tidy-put r a v tidy =
-    put-split r a v (λ (p : Outcome). Tidy (p .registers))
+    tidy-cases r a v (tidy .others) (λ (p : Outcome). Tidy (p .registers))
     (λ less. record { own = own-length (r .own) a v ∙ tidy .own; others = tidy .others })
-    (λ none. record { own = tidy .own; others = tidy-others (othersOf r) a v (tidy .others) none })
+    (λ slot never. tidy)
+    (λ other here z. beside-own (tidy-back r (placeIn r a) (tidy .others)))
+    (λ other here some. beside-own (tidy-here r a v (tidy .others) other some here))
+    (λ other gone z. tidy)
+    (λ other gone some free. beside-own (tidy-taken r a v (tidy .others) other some gone free))
+    (λ other gone some full. tidy)
+  where
+    beside-own : {o : Others} → TidyOthers o → Tidy (registersOf (r .own) (o .addresses) (o .values))
+    beside-own others = record { own = tidy .own; others = others }

@@ -22,7 +22,8 @@ number-tells = told numberOf refusalOf back
     back RegistersFull = refl
 
 -- of each put there is one refusal, and the later registers are one
-pub one-stored : (d : Outcome) (a b : Refusal) (p q : Registers) → outcome a p ≡ d → outcome b q ≡ d → (a ≡ b) × (p ≡ q)
+pub one-stored : (d : Outcome) (a b : Refusal) (p q : Registers) → outcome a p ≡ d → outcome b q ≡ d
+    → (a ≡ b) × (p ≡ q)
 one-stored d a b p q h k =
     let e : outcome a p ≡ outcome b q = unique h k in
     (number-tells a b (ap (λ (o : Outcome). o .refusal) e), ap (λ (o : Outcome). o .registers) e)

@@ -1,5 +1,5 @@
 -- What holds of the registers within the limits, and when they are full. Every put keeps `Tidy`.
-use Prim.Native.Nat.{ℕ, _+_}
+use Prim.Native.Nat.{ℕ, _+_, _<_}
 use mathlib.Core.Path.{_≡_}
 use mathlib.Core.Bool.{cond, false}
 use mathlib.Core.List.{List, [], _∷_}
@@ -19,10 +19,10 @@ pub record TidyOthers (o : Others) : Type 0 where
   pub values : length (o .values) ≡ 256
   -- a free place holds zeros
   pub free : (i : ℕ) → getD (o .values) i 0 ≡ 0 → getD (o .addresses) i 0 ≡ 0
-  -- any other holds a word that belongs there, and no two the same
+  -- any other holds a word that belongs there
   pub belongs : (i : ℕ) → getD (o .values) i 0 ≢ 0 → Other (getD (o .addresses) i 0)
-  pub once : (i j : ℕ) → getD (o .values) i 0 ≢ 0 → getD (o .values) j 0 ≢ 0
-      → getD (o .addresses) i 0 ≡ getD (o .addresses) j 0 → i ≡ j
+  -- of a lower address than any before it: so no two hold the same word, and the free places come last
+  pub falls : (i j : ℕ) → i < j → getD (o .values) j 0 ≢ 0 → getD (o .addresses) j 0 < getD (o .addresses) i 0
 
 pub record Tidy (r : Registers) : Type 0 where
   pub own : length (r .own) ≡ 76
@@ -37,8 +37,8 @@ unfoldable pub nonZero : List ℕ → ℕ
 nonZero [] = 0
 nonZero (x ∷ xs) = counted x + nonZero xs
 
--- RegistersFull: the new value is not zero, the word holds zero, it has no storage of its own, and 256 others are non-zero.
--- A word that is never stored needs no room.
+-- RegistersFull: the new value is not zero, the word holds zero, it has no storage of its own, and 256 others are
+-- non-zero. A word that is never stored needs no room.
 pub record Full (r : Registers) (a v : ℕ) : Type 0 where
   pub value : v ≢ 0
   pub word : wordAt r a ≡ 0

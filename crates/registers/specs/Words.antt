@@ -1,12 +1,14 @@
 -- What the registers hold, and what a word put there changes.
-use Prim.Native.Nat.{ℕ, zero, suc, _+_}
+use Prim.Native.Nat.{ℕ, zero, suc, _+_, _-_, _^_}
 use mathlib.Core.Bool.{Bool, cond, _||_}
 use mathlib.Core.List.{List, [], _∷_, _++_}
-use lib.ListN.{getD, set, replicate}
+use lib.ListN.{getD, set, take, drop, replicate}
 use lib.Dec.{eqb, ltb}
 use Rattle.registers.specs.declared.Registers.{Registers}
 use Rattle.registers.specs.declared.Refusal.{Refusal}
 use Rattle.registers.specs.declared.Refusal.the-variants.{Done, RegistersFull}
+use Rattle.registers.specs.declared.Spot.{Spot}
+use Rattle.registers.specs.declared.Spot.the-variants.{Own, Never, Held, Absent}
 
 -- Refusal numbers: 0 done, 4 RegistersFull
 abbrev pub numberOf : Refusal → ℕ
@@ -46,12 +48,16 @@ index (x ∷ xs) k = cond (eqb x k) 0 (suc (index xs k))
 unfoldable pub slotOf : ℕ → ℕ
 slotOf a = index ownWords a
 
--- a word in its own storage; where it has none it reads as 0, and nothing is stored
+-- and the word of a slot
+abbrev pub slotWord : ℕ → ℕ
+slotWord s = getD ownWords s 0
+
+-- a word in its own storage, which has 76 words; where it has none it reads as 0, and nothing is stored
 unfoldable pub ownAt : List ℕ → ℕ → ℕ
-ownAt own a = cond (ltb (slotOf a) 76) (getD own (slotOf a) 0) 0
+ownAt own a = getD own (slotOf a) 0
 
 unfoldable pub ownWith : List ℕ → ℕ → ℕ → List ℕ
-ownWith own a v = cond (ltb (slotOf a) 76) (set own (slotOf a) v) own
+ownWith own a v = set own (slotOf a) v
 
 -- ---- the others
 
@@ -59,14 +65,18 @@ ownWith own a v = cond (ltb (slotOf a) 76) (set own (slotOf a) v) own
 unfoldable pub unstored : ℕ → Bool
 unstored a = eqb a 0 || eqb a 0xC0040000 || eqb a 0xC0040004 || eqb a 0xC0040008
 
--- where a key first stands, looked for from place i on in n places; i + n where it does not
-unfoldable pub scan : ℕ → ℕ → List ℕ → ℕ → ℕ
-scan zero i l k = i
-scan (suc n) i l k = cond (eqb (getD l i 0) k) i (scan n (i + 1) l k)
+-- one halving of a search: past the next half of the places, where the last of them holds more than the key
+unfoldable pub halved : List ℕ → ℕ → ℕ → ℕ → ℕ
+halved l k i half = cond (ltb k (getD l (i + half - 1) 0)) (i + half) i
 
--- where a key first stands in 256 places, or 256
+-- n halvings, from place i on
+unfoldable pub halving : ℕ → List ℕ → ℕ → ℕ → ℕ
+halving zero l k i = i
+halving (suc n) l k i = halving n l k (halved l k i (2 ^ n))
+
+-- how many places hold more than the key, where they are in falling order: 0 to 255
 unfoldable pub place : List ℕ → ℕ → ℕ
-place l k = scan 256 0 l k
+place l k = halving 8 l k 0
 
 -- 256 places for words that are not zero
 pub record Others : Type 0 where
@@ -76,22 +86,35 @@ pub record Others : Type 0 where
 abbrev pub others : List ℕ → List ℕ → Others
 others addresses values = record { addresses = addresses; values = values }
 
-unfoldable pub otherAt : Others → ℕ → ℕ
-otherAt o a =
-    cond (unstored a) 0
-    (cond (ltb (place (o .addresses) a) 256) (getD (o .values) (place (o .addresses) a) 0) 0)
+-- the places behind place i move up, and a zero comes last
+unfoldable pub removed : List ℕ → ℕ → List ℕ
+removed [] i = []
+removed (x ∷ xs) zero = xs ++ (0 ∷ [])
+removed (x ∷ xs) (suc i) = x ∷ removed xs i
 
--- place i holds word v of address a
-abbrev pub placed : Others → ℕ → ℕ → ℕ → Others
-placed o i a v = others (set (o .addresses) i a) (set (o .values) i v)
+-- the places from place i on move down, the last falls out, and a word comes in
+unfoldable pub inserted : List ℕ → ℕ → ℕ → List ℕ
+inserted [] i y = []
+inserted (x ∷ xs) zero y = y ∷ inserted xs zero x
+inserted (x ∷ xs) (suc i) y = x ∷ inserted xs i y
 
--- a word gives its place back
-unfoldable pub without : Others → ℕ → Others
-without o a = cond (ltb (place (o .addresses) a) 256) (placed o (place (o .addresses) a) 0 0) o
+-- the same among places 0 to n, and the others as they are
+unfoldable pub removedTo : ℕ → List ℕ → ℕ → List ℕ
+removedTo n l i = removed (take (n + 1) l) i ++ drop (n + 1) l
 
--- the place of a word, or else the first that is free, or 256
-unfoldable pub roomFor : Others → ℕ → ℕ
-roomFor o a = cond (ltb (place (o .addresses) a) 256) (place (o .addresses) a) (place (o .values) 0)
+unfoldable pub insertedTo : ℕ → List ℕ → ℕ → ℕ → List ℕ
+insertedTo n l i y = inserted (take (n + 1) l) i y ++ drop (n + 1) l
+
+-- the last place that need be moved: the first that is free, where those come last, or 255
+unfoldable pub endOf : Others → ℕ
+endOf o = place (o .addresses) 0
+
+-- a word that stands in place i becomes v; with zero it gives the place back
+unfoldable pub putHeld : Others → ℕ → ℕ → Others
+putHeld o i v =
+    cond (eqb v 0)
+    (others (removedTo (endOf o) (o .addresses) i) (removedTo (endOf o) (o .values) i))
+    (others (o .addresses) (set (o .values) i v))
 
 pub record OtherOutcome : Type 0 where
   pub refusal : ℕ
@@ -100,11 +123,13 @@ pub record OtherOutcome : Type 0 where
 abbrev pub otherOutcome : Refusal → Others → OtherOutcome
 otherOutcome r o = record { refusal = numberOf r; others = o }
 
-unfoldable pub putOther : Others → ℕ → ℕ → OtherOutcome
-putOther o a v =
-    cond (unstored a) (otherOutcome Done o)
-    (cond (eqb v 0) (otherOutcome Done (without o a))
-    (cond (ltb (roomFor o a) 256) (otherOutcome Done (placed o (roomFor o a) a v)) (otherOutcome RegistersFull o)))
+-- a word that stands nowhere becomes v, and takes place i; while the last place is not free there is no room
+unfoldable pub putAbsent : Others → ℕ → ℕ → ℕ → OtherOutcome
+putAbsent o i a v =
+    cond (eqb v 0) (otherOutcome Done o)
+    (cond (eqb (getD (o .values) 255 0) 0)
+    (otherOutcome Done (others (insertedTo (endOf o) (o .addresses) i a) (insertedTo (endOf o) (o .values) i v)))
+    (otherOutcome RegistersFull o))
 
 -- ---- all words
 
@@ -117,8 +142,24 @@ othersOf r = others (r .addresses) (r .values)
 unfoldable pub freshRegisters : Registers
 freshRegisters = registersOf (replicate 76 0) (replicate 256 0) (replicate 256 0)
 
+-- where a word is that has no storage of its own
+unfoldable pub otherSpot : List ℕ → ℕ → Spot
+otherSpot addresses a =
+    cond (unstored a) Never
+    (cond (eqb (getD addresses (place addresses a) 0) a) (Held (place addresses a)) (Absent (place addresses a)))
+
+-- where a word is
+unfoldable pub spotOf : List ℕ → ℕ → Spot
+spotOf addresses a = cond (ltb (slotOf a) 76) (Own (slotOf a)) (otherSpot addresses a)
+
+abbrev pub wordIn : List ℕ → List ℕ → Spot → ℕ
+wordIn own values (Own s) = getD own s 0
+wordIn own values Never = 0
+wordIn own values (Held i) = getD values i 0
+wordIn own values (Absent i) = 0
+
 unfoldable pub wordAt : Registers → ℕ → ℕ
-wordAt r a = cond (ltb (slotOf a) 76) (ownAt (r .own) a) (otherAt (othersOf r) a)
+wordAt r a = wordIn (r .own) (r .values) (spotOf (r .addresses) a)
 
 pub record Outcome : Type 0 where
   pub refusal : ℕ
@@ -131,8 +172,11 @@ outcome r s = record { refusal = numberOf r; registers = s }
 abbrev pub beside : List ℕ → OtherOutcome → Outcome
 beside own o = record { refusal = o .refusal; registers = registersOf own (o .others .addresses) (o .others .values) }
 
+abbrev pub putIn : Registers → Spot → ℕ → ℕ → Outcome
+putIn r (Own s) a v = outcome Done (registersOf (set (r .own) s v) (r .addresses) (r .values))
+putIn r Never a v = outcome Done r
+putIn r (Held i) a v = beside (r .own) (otherOutcome Done (putHeld (othersOf r) i v))
+putIn r (Absent i) a v = beside (r .own) (putAbsent (othersOf r) i a v)
+
 unfoldable pub putWord : Registers → ℕ → ℕ → Outcome
-putWord r a v =
-    cond (ltb (slotOf a) 76)
-    (outcome Done (registersOf (ownWith (r .own) a v) (r .addresses) (r .values)))
-    (beside (r .own) (putOther (othersOf r) a v))
+putWord r a v = putIn r (spotOf (r .addresses) a) a v

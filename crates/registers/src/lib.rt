@@ -1,11 +1,15 @@
-// The register words: `regs` of core/src/sys.rs. Some words have storage of their own; of the others 256 may be other than zero.
+// The register words: `regs` of core/src/sys.rs. Some words have storage of their own; of the others 256 may be other
+// than zero.
 //
-// A free place holds zeros, its address too, so what is stored says all of the state but the places that words stand in.
+// The others stand in falling order of their addresses, and the free places, which hold zeros, behind them: so a word
+// is found by halves, and equal words are equal arrays.
 ghost use mathlib.Core.Path.{_≡_};
-ghost use Prim.Native.Nat.{_+_, _-_, _≤_};
-ghost use lib.Dec.{ltb};
-ghost use Rattle.registers.specs.Words.{slotOf, index, namedWords, unstored, scan, place, ownAt, ownWith, otherAt, wordAt};
-ghost use Rattle.registers.specs.Words.{registersOf, others, without, roomFor, otherOutcome, putOther, outcome, putWord, freshRegisters};
+ghost use Prim.Native.Nat.{_+_, _≤_};
+ghost use lib.ListN.{length, getD, set};
+ghost use Rattle.registers.specs.Words.{slotOf, index, namedWords, ownAt, ownWith, unstored, halved, place};
+ghost use Rattle.registers.specs.Words.{removedTo, insertedTo, others, putHeld, otherOutcome, putAbsent};
+ghost use Rattle.registers.specs.Words.{otherSpot, spotOf, wordIn, putIn};
+ghost use Rattle.registers.specs.Words.{registersOf, freshRegisters, wordAt, outcome, putWord};
 
 pub struct Registers {
     pub own: [u32; 76],
@@ -16,6 +20,15 @@ pub struct Registers {
 pub enum Refusal {
     Done,
     RegistersFull,
+}
+
+// Where a word is: in its own storage, nowhere since it is never stored, in a place, or in none, with the place that
+// it would take.
+pub enum Spot {
+    Own(usize),
+    Never,
+    Held(usize),
+    Absent(usize),
 }
 
 pub struct Stored {
@@ -63,7 +76,7 @@ fn named(addr: u32) -> usize
 }
 
 // The slot of a word, or 76. A timer's is computed.
-fn slot(addr: u32) -> usize
+pub fn slot(addr: u32) -> usize
     ensures { λ r. ⌜ r ≡ slotOf addr ⌝ }
 {
     if addr < 0xC002_0000 {
@@ -78,25 +91,44 @@ fn slot(addr: u32) -> usize
     named(addr)
 }
 
+// An array is as long as its type says: a proof is told so of one by value, and not of one that is lent. A call is
+// compiled to nothing.
+fn own_sized(own: [u32; 76])
+    ensures { λ r. ⌜ length own ≡ 76 ⌝ }
+{}
+
+pub fn slot_get(own: &[u32; 76], s: usize) -> u32
+    ensures { λ r. ⌜ r ≡ getD (now (own .entry)) s 0 ⌝ }
+{
+    if s < 76 {
+        return own[s];
+    }
+    own_sized(*own);
+    0
+}
+
+pub fn slot_set(own: &mut [u32; 76], s: usize, value: u32)
+    ensures { λ r. ⌜ now (own .exit) ≡ set (now (own .entry)) s value ⌝ }
+{
+    if s < 76 {
+        own[s] = value;
+        return;
+    }
+    own_sized(*own);
+}
+
 // 0 where the word has no storage of its own.
 pub fn own_reg(own: &[u32; 76], addr: u32) -> u32
     ensures { λ r. ⌜ r ≡ ownAt (now (own .entry)) addr ⌝ }
 {
-    let s = slot(addr);
-    if s < 76 {
-        return own[s];
-    }
-    0
+    slot_get(own, slot(addr))
 }
 
 // Nothing where the word has no storage of its own.
 pub fn own_insert(own: &mut [u32; 76], addr: u32, value: u32)
     ensures { λ r. ⌜ now (own .exit) ≡ ownWith (now (own .entry)) addr value ⌝ }
 {
-    let s = slot(addr);
-    if s < 76 {
-        own[s] = value;
-    }
+    slot_set(own, slot(addr), value);
 }
 
 // ---- the others
@@ -108,110 +140,184 @@ fn unstored(addr: u32) -> bool
     (addr == 0) | (addr == 0xC004_0000) | (addr == 0xC004_0004) | (addr == 0xC004_0008)
 }
 
-// Whether key stands in the block of 32 places from a place on. It looks at all of them and never stops early, so that many are compared at
-// once.
-fn seen(words: &[u32; 256], key: u32, from: usize) -> bool
-    requires { ⌜ from + 32 ≤ 256 ⌝ }
-    ensures { λ r. ⌜ r ≡ ltb (scan 32 from (now (words .entry)) key) (from + 32) ⌝ }
+// One step of a search by halves: past the next places, where the last of them holds more than the key.
+fn halved(words: &[u32; 256], key: u32, i: usize, half: usize) -> usize
+    requires { ⌜ (1 ≤ half) × (i + half ≤ 256) ⌝ }
+    ensures { λ r. ⌜ r ≡ halved (now (words .entry)) key i half ⌝ }
+    ensures { λ r. ⌜ r ≤ i + half ⌝ }
 {
-    let mut found = false;
-    let mut i: usize = 0;
-    while i < 32 {
-        found = found | (words[from + i] == key);
-        i += 1;
-    }
-    found
-}
-
-// Where key first stands from a place on, or 256.
-fn first(words: &[u32; 256], key: u32, from: usize) -> usize
-    requires { ⌜ from ≤ 256 ⌝ }
-    ensures { λ r. ⌜ r ≡ scan (256 - from) from (now (words .entry)) key ⌝ }
-{
-    let mut i = from;
-    while i < 256 {
-        if words[i] == key {
-            return i;
-        }
-        i += 1;
+    if words[i + half - 1] > key {
+        return i + half;
     }
     i
 }
 
-// Where key first stands, or 256: block by block, and one by one only in the first that has it.
-fn find(words: &[u32; 256], key: u32) -> usize
+// How many places hold more than the key, where they are in falling order: 0 to 255. No loop, so that no step is
+// counted or tested.
+fn place(words: &[u32; 256], key: u32) -> usize
     ensures { λ r. ⌜ r ≡ place (now (words .entry)) key ⌝ }
+    ensures { λ r. ⌜ r ≤ 255 ⌝ }
 {
-    let mut block: usize = 0;
-    while block < 8 {
-        let from = block * 32;
-        if seen(words, key, from) {
-            return first(words, key, from);
-        }
-        block += 1;
-    }
-    256
+    let a = halved(words, key, 0, 128);
+    let b = halved(words, key, a, 64);
+    let c = halved(words, key, b, 32);
+    let d = halved(words, key, c, 16);
+    let e = halved(words, key, d, 8);
+    let f = halved(words, key, e, 4);
+    let g = halved(words, key, f, 2);
+    halved(words, key, g, 1)
 }
 
-fn other_reg(addresses: &[u32; 256], values: &[u32; 256], addr: u32) -> u32
-    ensures { λ r. ⌜ r ≡ otherAt (others (now (addresses .entry)) (now (values .entry))) addr ⌝ }
+// As `own_sized`.
+fn sized(words: [u32; 256])
+    ensures { λ r. ⌜ length words ≡ 256 ⌝ }
+{}
+
+// Up to place `end` the places behind one move up, and a zero comes last.
+fn shift_up(words: &mut [u32; 256], at: usize, end: usize)
+    requires { ⌜ end ≤ 255 ⌝ }
+    ensures { λ r. ⌜ now (words .exit) ≡ removedTo end (now (words .entry)) at ⌝ }
 {
-    if unstored(addr) {
-        return 0;
+    sized(*words);
+    if at > end {
+        return;
     }
-    let i = find(addresses, addr);
+    let mut i = at;
+    while i < end {
+        words[i] = words[i + 1];
+        i += 1;
+    }
+    words[end] = 0;
+}
+
+// Up to place `end` the places from one on move down, the last falls out, and a word comes in.
+fn shift_down(words: &mut [u32; 256], at: usize, end: usize, word: u32)
+    requires { ⌜ end ≤ 255 ⌝ }
+    ensures { λ r. ⌜ now (words .exit) ≡ insertedTo end (now (words .entry)) at word ⌝ }
+{
+    sized(*words);
+    if at > end {
+        return;
+    }
+    let mut i = end;
+    while i > at {
+        words[i] = words[i - 1];
+        i -= 1;
+    }
+    words[at] = word;
+}
+
+pub fn place_get(values: &[u32; 256], i: usize) -> u32
+    ensures { λ r. ⌜ r ≡ getD (now (values .entry)) i 0 ⌝ }
+{
     if i < 256 {
         return values[i];
     }
+    sized(*values);
     0
 }
 
-// A word that becomes zero gives its place back.
-fn remove(addresses: &mut [u32; 256], values: &mut [u32; 256], addr: u32)
+// A word that becomes zero gives its place back. Behind the first free place all are free, and need not move.
+pub fn put_held(addresses: &mut [u32; 256], values: &mut [u32; 256], i: usize, value: u32)
     ensures { λ r. ⌜ others (now (addresses .exit)) (now (values .exit))
-        ≡ without (others (now (addresses .entry)) (now (values .entry))) addr ⌝ }
+        ≡ putHeld (others (now (addresses .entry)) (now (values .entry))) i value ⌝ }
 {
-    let i = find(addresses, addr);
-    if i < 256 {
-        addresses[i] = 0;
-        values[i] = 0;
+    if value == 0 {
+        let end = place(addresses, 0);
+        shift_up(addresses, i, end);
+        shift_up(values, i, end);
+        return;
     }
+    if i < 256 {
+        values[i] = value;
+        return;
+    }
+    sized(*values);
 }
 
-// The place of a word, or else the first free one, or 256.
-fn room(addresses: &[u32; 256], values: &[u32; 256], addr: u32) -> usize
-    ensures { λ r. ⌜ r ≡ roomFor (others (now (addresses .entry)) (now (values .entry))) addr ⌝ }
-{
-    let i = find(addresses, addr);
-    if i < 256 {
-        return i;
-    }
-    find(values, 0)
-}
-
-fn other_insert(
+// A word that was zero takes a place, where the last is free. No more places move than for one that is given back.
+pub fn put_absent(
     addresses: &mut [u32; 256],
     values: &mut [u32; 256],
+    i: usize,
     addr: u32,
     value: u32,
 ) -> Refusal
     ensures { λ r. ⌜ otherOutcome r (others (now (addresses .exit)) (now (values .exit)))
-        ≡ putOther (others (now (addresses .entry)) (now (values .entry))) addr value ⌝ }
+        ≡ putAbsent (others (now (addresses .entry)) (now (values .entry))) i addr value ⌝ }
+{
+    if value == 0 {
+        return Refusal::Done;
+    }
+    if values[255] != 0 {
+        return Refusal::RegistersFull;
+    }
+    let end = place(addresses, 0);
+    shift_down(addresses, i, end, addr);
+    shift_down(values, i, end, value);
+    Refusal::Done
+}
+
+// ---- one look-up, and what is read or stored there
+
+// A word that has no storage of its own.
+pub fn find_other(addresses: &[u32; 256], addr: u32) -> Spot
+    ensures { λ r. ⌜ r ≡ otherSpot (now (addresses .entry)) addr ⌝ }
 {
     if unstored(addr) {
-        return Refusal::Done;
+        return Spot::Never;
     }
-    if value == 0 {
-        remove(addresses, values, addr);
-        return Refusal::Done;
+    let i = place(addresses, addr);
+    if addresses[i] == addr {
+        return Spot::Held(i);
     }
-    let i = room(addresses, values, addr);
-    if i < 256 {
-        addresses[i] = addr;
-        values[i] = value;
-        return Refusal::Done;
+    Spot::Absent(i)
+}
+
+pub fn find(addresses: &[u32; 256], addr: u32) -> Spot
+    ensures { λ r. ⌜ r ≡ spotOf (now (addresses .entry)) addr ⌝ }
+{
+    let s = slot(addr);
+    if s < 76 {
+        return Spot::Own(s);
     }
-    Refusal::RegistersFull
+    find_other(addresses, addr)
+}
+
+pub fn word_in(own: &[u32; 76], values: &[u32; 256], spot: Spot) -> u32
+    ensures { λ r. ⌜ r ≡ wordIn (now (own .entry)) (now (values .entry)) spot ⌝ }
+{
+    match spot {
+        Spot::Own(s) => slot_get(own, s),
+        Spot::Never => 0,
+        Spot::Held(i) => place_get(values, i),
+        Spot::Absent(_) => 0,
+    }
+}
+
+pub fn put_in(
+    own: &mut [u32; 76],
+    addresses: &mut [u32; 256],
+    values: &mut [u32; 256],
+    spot: Spot,
+    addr: u32,
+    value: u32,
+) -> Refusal
+    ensures { λ r. ⌜ outcome r (registersOf (now (own .exit)) (now (addresses .exit)) (now (values .exit)))
+        ≡ putIn (registersOf (now (own .entry)) (now (addresses .entry)) (now (values .entry))) spot addr value ⌝ }
+{
+    match spot {
+        Spot::Own(s) => {
+            slot_set(own, s, value);
+            Refusal::Done
+        }
+        Spot::Never => Refusal::Done,
+        Spot::Held(i) => {
+            put_held(addresses, values, i, value);
+            Refusal::Done
+        }
+        Spot::Absent(i) => put_absent(addresses, values, i, addr, value),
+    }
 }
 
 // ---- all words, over lent arrays
@@ -226,13 +332,10 @@ pub fn clear(own: &mut [u32; 76], addresses: &mut [u32; 256], values: &mut [u32;
 }
 
 pub fn reg(own: &[u32; 76], addresses: &[u32; 256], values: &[u32; 256], addr: u32) -> u32
-    ensures { λ r. ⌜ r ≡ wordAt (registersOf (now (own .entry)) (now (addresses .entry)) (now (values .entry))) addr ⌝ }
+    ensures { λ r. ⌜ r
+        ≡ wordAt (registersOf (now (own .entry)) (now (addresses .entry)) (now (values .entry))) addr ⌝ }
 {
-    let s = slot(addr);
-    if s < 76 {
-        return own[s];
-    }
-    other_reg(addresses, values, addr)
+    word_in(own, values, find(addresses, addr))
 }
 
 pub fn insert(
@@ -245,12 +348,8 @@ pub fn insert(
     ensures { λ r. ⌜ outcome r (registersOf (now (own .exit)) (now (addresses .exit)) (now (values .exit)))
         ≡ putWord (registersOf (now (own .entry)) (now (addresses .entry)) (now (values .entry))) addr value ⌝ }
 {
-    let s = slot(addr);
-    if s < 76 {
-        own[s] = value;
-        return Refusal::Done;
-    }
-    other_insert(addresses, values, addr, value)
+    let spot = find(addresses, addr);
+    put_in(own, addresses, values, spot, addr, value)
 }
 
 // ---- the same by value: the arrays are copied once, and lent

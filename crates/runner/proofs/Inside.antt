@@ -11,7 +11,7 @@ use borrow.Rule.Slice.PartMut.{putMid, put-same}
 use Rattle.memory.specs.Bytes.{le, loaded, bytesOf, storedAt}
 use Rattle.memory.proofs.Stored.{store-length}
 use Rattle.runner.specs.declared.Answer.{Answer}
-use Rattle.runner.specs.Format.{pressBytes, stepBytes, wide, entry, pressAt, stepFrom}
+use Rattle.runner.specs.Format.{pressBytes, stepBytes, wide, pressFrom, stepFrom}
 use Rattle.runner.specs.Answers.{answerBytes, storedWide, laid}
 
 pub wide-length : (l : List ℕ) (o v : ℕ) → length (storedWide l o v) ≡ length l
@@ -48,16 +48,11 @@ module _ (s : List ℕ) (o j : ℕ) (h : o + j ≤ length s) where
   wide-part k q e l = rw (load-part k 4 q e (omega arith), load-part (k + 4) 4 (q + 4) (omega arith) (omega arith))
 
 module _ (s : List ℕ) where
-  pub kind-part : (o : ℕ) → o + 1 ≤ length s → loaded (part s o 1) 0 1 ≡ loaded s o 1
-  kind-part o h = load-part s o 1 h 0 1 o (omega arith) (omega arith)
-
-  pub press-part : (i : ℕ) → 4 + pressBytes * i + pressBytes ≤ length s
-      → entry 0 0 (loaded (part s (4 + pressBytes * i) pressBytes) 0 1) (wide (part s (4 + pressBytes * i) pressBytes) 1) ≡ pressAt s i
-  unfolding pressAt
-  press-part i h =
-      let o : ℕ = 4 + pressBytes * i in
+  pub press-part : (o : ℕ) → o + pressBytes ≤ length s → pressFrom (part s o pressBytes) 0 ≡ pressFrom s o
+  unfolding pressFrom
+  press-part o h =
       let a : loaded (part s o pressBytes) 0 1 ≡ loaded s o 1 = load-part s o pressBytes h 0 1 o (omega arith) (omega arith) in
-      let b : wide (part s o pressBytes) 1 ≡ wide s (5 + pressBytes * i) = wide-part s o pressBytes h 1 (5 + pressBytes * i) (omega arith) (omega arith) in
+      let b : wide (part s o pressBytes) 1 ≡ wide s (o + 1) = wide-part s o pressBytes h 1 (o + 1) (omega arith) (omega arith) in
       rw (a, b)
 
   pub step-part : (o : ℕ) → o + stepBytes ≤ length s → stepFrom (part s o stepBytes) 0 ≡ stepFrom s o

@@ -3,61 +3,138 @@ use Prim.Native.Nat.{ℕ, zero, suc, _+_, _-_, _*_, _%_, _^_, _≤_, _<_}
 use mathlib.Core.Path.{_≡_, refl, sym, ap, _∙_}
 use mathlib.Core.Bool.{Bool, true, false, not, cond, _&&_}
 use mathlib.Core.List.{List}
-use native.Mathlib.Nat.{sub-zero, add-sub-cancel-left}
+use mathlib.Core.Logic.{_≢_}
+use native.Mathlib.Nat.{add-sub-cancel-left}
 use native.Mathlib.Omega.{arith}
 use lib.Dec.{eqb, ltb, leb}
-use lib.ListN.{length}
-use borrow.Author.Tests.{eq-eqb, ne-eqb, lt-ltb, le-ltb, ltb-true, ltb-false, leb-true, eqb-true, eqb-false, not-false}
+use lib.ListN.{length, getD, set, replicate}
+use lib.Seq.{getD-set-same, getD-set-other}
+use borrow.Author.Tests.{eq-eqb, ne-eqb, lt-ltb, le-ltb, lt-leb, le-leb, ltb-true, ltb-false, leb-true, eqb-true, eqb-false, not-false}
 use Rattle.memory.specs.Bytes.{loaded, storedAt}
+use Rattle.memory.proofs.Cases.{load-none, load-front}
 use Rattle.keys.proofs.SameKeys.{both}
+use Rattle.registers.proofs.Choice.{by-same, by-less}
 use Rattle.system.specs.declared.System.{System}
-use Rattle.system.specs.System.{Machine, machine, freshSystem}
+use Rattle.system.specs.System.{machine, freshSystem}
 use Rattle.runner.specs.declared.Entry.{Entry}
-use Rattle.runner.specs.Format.{stepBytes, mostOf, lastKind, pressesIn, stepsIn, entriesIn, kindIn, kindsFrom, behindPresses, badWith, badScript, pressAt, stepFrom, stepAt, entryAt, entriesFrom}
-use Rattle.runner.specs.Answers.{answerBytes, laid}
-use Rattle.runner.specs.Script.{Turn, turnOf, Ran, ran, ranOf, Ended, ended, endOf, badMemory, outTooShort, runOf, scriptOf}
+use Rattle.runner.specs.Format.{pressBytes, stepBytes, mostOf, lastKind, pressesIn, stepsIn, entriesIn, kindIn, Kinds, kindsFrom, behindPresses, badWith, badScript, pressFrom, stepFrom, entryAt, entriesFrom}
+use Rattle.runner.specs.Answers.{answerBytes}
+use Rattle.runner.specs.Script.{Ran, ran, ranOne, ranOf, Ended, ended, endOf, badMemory, outTooShort, runOf, scriptOf}
 
--- ---- the kinds of n steps
+-- ---- the kinds of n steps, by a table of the known ones
 
-module _ (s : List ℕ) (at n : ℕ) where
-  one-of : 0 < n → kindIn (loaded s at 1) && kindsFrom s (at + stepBytes) (n - 1) ≡ kindsFrom s at n
+-- the table so far: the kinds below k
+abbrev pub Below : List Bool → ℕ → Type 0
+Below t k = (j : ℕ) → getD t j false ≡ (ltb 0 j && ltb j k)
+
+all-false : (n j : ℕ) → getD (replicate n false) j false ≡ false
+all-false zero j = refl
+all-false (suc n) zero = refl
+all-false (suc n) (suc j) = all-false n j
+
+pub below-first : Below (replicate 256 false) 1
+below-first j = all-false 256 j ∙ none j
+  where
+    none : (j : ℕ) → false ≡ (ltb 0 j && ltb j 1)
+    none zero = refl
+    none (suc j) = let h : 1 ≤ suc j = omega arith in rw (le-ltb (suc j) 1 h, lt-ltb 0 (suc j) (omega arith))
+
+pub below-more : (t : List Bool) (k : ℕ) → 0 < k → k < length t → Below t k → Below (set t k true) (k + 1)
+below-more t k h l b j =
+    by-same j k
+    (λ e. rw e (getD-set-same t k true false l ∙ rw (lt-ltb 0 k h, lt-ltb k (k + 1) (omega arith))))
+    (λ n. getD-set-other t k j true false n ∙ b j ∙ ap (λ (x : Bool). ltb 0 j && x) (beside n))
+  where
+    beside : j ≢ k → ltb j k ≡ ltb j (k + 1)
+    beside n =
+        by-less j k
+        (λ l. lt-ltb j k l ∙ sym (lt-ltb j (k + 1) (omega arith)))
+        (λ m. let o : k + 1 ≤ j = omega arith in le-ltb j k m ∙ sym (le-ltb j (k + 1) o))
+
+pub below-known : (t : List Bool) (k : ℕ) → k ≡ lastKind + 1 → Below t k → Kinds t
+below-known t k e b j l = b j ∙ ap (λ (x : Bool). ltb 0 j && x) (rw e (within j))
+  where
+    within : (j : ℕ) → ltb j (lastKind + 1) ≡ leb j lastKind
+    within j =
+        by-less j (lastKind + 1)
+        (λ l. let m : j ≤ lastKind = omega arith in lt-ltb j (lastKind + 1) l ∙ sym (le-leb j lastKind m))
+        (λ m. let l : lastKind < j = omega arith in le-ltb j (lastKind + 1) m ∙ sym (lt-leb j lastKind l))
+
+-- the kind of one step
+pub kind-is : (t : List Bool) (s : List ℕ) (at : ℕ) {r : Bool} → at + 1 ≤ length s → getD s at 0 < 256
+    → r ≡ getD t (getD s at 0) false → Kinds t
+    → r ≡ kindIn (loaded s at 1)
+kind-is t s at h l e known =
+    let z : getD s at 0 ≡ loaded s at 1 = load-front s at 0 0 (getD s at 0) h (load-none s (at + 1) 0) (omega arith)
+    in
+    e ∙ known (getD s at 0) l ∙ ap (λ (k : ℕ). kindIn k) z
+
+-- so many are good so far, and the rest is still to be looked at
+module _ (s : List ℕ) where
+  -- one more
+  pub one-kind : (at q n : ℕ) {a : Bool} → q ≡ at + stepBytes → a ≡ kindIn (loaded s at 1)
+      → kindsFrom s at (suc n) ≡ (a && kindsFrom s q n)
   unfolding kindsFrom
-  one-of h = let z : suc (n - 1) ≡ n = omega arith in ap (kindsFrom s at) z
+  one-kind at q n e f = rw (e, f)
 
-  pub kinds-more : (k : ℕ) → 0 < n → k ≡ loaded s at 1 → kindIn k ≡ true → kindsFrom s (at + stepBytes) (n - 1) ≡ kindsFrom s at n
-  kinds-more k h e t = let f : kindIn (loaded s at 1) ≡ true = rw (← e) t in rw f at (one-of h)
+  -- four more
+  pub four-kinds : (at q r t u n : ℕ) {a b c d : Bool} → q ≡ at + stepBytes → r ≡ q + stepBytes
+      → t ≡ r + stepBytes → u ≡ t + stepBytes
+      → a ≡ kindIn (loaded s at 1) → b ≡ kindIn (loaded s q 1) → c ≡ kindIn (loaded s r 1) → d ≡ kindIn (loaded s t 1)
+      → kindsFrom s at (suc (suc (suc (suc n)))) ≡ ((a && (b && (c && d))) && kindsFrom s u n)
+  four-kinds at q r t u n {a} {b} {c} {d} f g h i j k l m =
+      let x : kindsFrom s t (suc n) ≡ (d && kindsFrom s u n) = one-kind t u n i m in
+      let y : kindsFrom s r (suc (suc n)) ≡ (c && kindsFrom s t (suc n)) = one-kind r t (suc n) h l in
+      let z : kindsFrom s q (suc (suc (suc n))) ≡ (b && kindsFrom s r (suc (suc n))) = one-kind q r (suc (suc n)) g k
+      in
+      one-kind at q (suc (suc (suc n))) f j ∙ rw (z, y, x) (sym (four a b c d (kindsFrom s u n)))
+    where
+      four : (a b c d r : Bool) → ((a && (b && (c && d))) && r) ≡ (a && (b && (c && (d && r))))
+      four false b c d r = refl
+      four true false c d r = refl
+      four true true false d r = refl
+      four true true true d r = refl
 
-  pub kinds-not : (k : ℕ) → 0 < n → k ≡ loaded s at 1 → kindIn k ≡ false → false ≡ kindsFrom s at n
-  kinds-not k h e t = let f : kindIn (loaded s at 1) ≡ false = rw (← e) t in rw f at (one-of h)
+  pub more-kinds : (good now r : Bool) {v w : Bool} → (good && v) ≡ w → v ≡ (now && r) → ((good && now) && r) ≡ w
+  more-kinds good now r e f = assoc good now r ∙ ap (λ (x : Bool). good && x) (sym f) ∙ e
+    where
+      assoc : (a b c : Bool) → ((a && b) && c) ≡ (a && (b && c))
+      assoc true b c = refl
+      assoc false b c = refl
 
-  pub kinds-end : n ≤ 0 → true ≡ kindsFrom s at n
+  pub no-kinds : (good : Bool) (at n : ℕ) {w : Bool} → n ≤ 0 → (good && kindsFrom s at n) ≡ w → good ≡ w
   unfolding kindsFrom
-  kinds-end h = let z : n ≡ 0 = omega arith in rw z
+  no-kinds good at n h e = let z : n ≡ 0 = omega arith in sym (right good) ∙ (rw z at e)
+    where
+      right : (a : Bool) → (a && true) ≡ a
+      right true = refl
+      right false = refl
 
 -- one of them
-kinds-at : (s : List ℕ) (at n j : ℕ) → kindsFrom s at n ≡ true → j < n → loaded s (at + stepBytes * j) 1 ≤ lastKind
+kinds-at : (s : List ℕ) (at n j : ℕ) → kindsFrom s at n ≡ true → j < n
+    → kindIn (loaded s (at + stepBytes * j) 1) ≡ true
 unfolding kindsFrom
 kinds-at s at zero j k h = absurd (omega arith)
 kinds-at s at (suc n) zero k h =
-    let z : at + stepBytes * 0 ≡ at = omega arith in
-    let one : kindIn (loaded s at 1) ≡ true = both (kindIn (loaded s at 1)) (kindsFrom s (at + stepBytes) n) k .0 in
-    rw z (leb-true (loaded s at 1) lastKind (both (ltb 0 (loaded s at 1)) (leb (loaded s at 1) lastKind) one .1))
+    let z : at + stepBytes * 0 ≡ at = omega arith in rw z (both (kindIn (loaded s at 1)) (kindsFrom s (at +
+    stepBytes) n) k .0)
 kinds-at s at (suc n) (suc j) k h =
     let z : at + stepBytes * suc j ≡ at + stepBytes + stepBytes * j = omega arith in
     let h′ : j < n = omega arith in
     rw z (kinds-at s (at + stepBytes) n j (both (kindIn (loaded s at 1)) (kindsFrom s (at + stepBytes) n) k .1) h′)
 
--- so no entry's kind is above the last; a press has kind 0
-pub kind-known : (s : List ℕ) (p n i : ℕ) {e : Entry} → kindsFrom s (behindPresses p) (n - p) ≡ true → e ≡ entryAt s p i → i < n → e .kind ≤ lastKind
-unfolding entryAt pressAt stepFrom
-kind-known s p n i k e h = rw e (by (ltb i p) refl)
-  where
-    by : (t : Bool) → ltb i p ≡ t → cond t (pressAt s i) (stepAt s p (i - p)) .kind ≤ lastKind
-    by true t = omega arith
-    by false t =
-        let q : p ≤ i = ltb-false i p t in
-        let d : i - p < n - p = omega arith in
-        kinds-at s (behindPresses p) (n - p) (i - p) k d
+-- so no step's kind is another
+pub kind-known : (s : List ℕ) (p k left from : ℕ) {e : Entry} → kindsFrom s (behindPresses p) k ≡ true → 0 < left
+    → left ≤ k
+    → from + stepBytes * left ≡ behindPresses p + stepBytes * k → e ≡ stepFrom s from
+    → (0 < e .kind) × (e .kind ≤ lastKind)
+unfolding stepFrom
+kind-known s p k left from h l m i e =
+    let j : k - left < k = omega arith in
+    let o : from ≡ behindPresses p + stepBytes * (k - left) = omega arith in
+    let g : kindIn (loaded s from 1) ≡ true = rw o (kinds-at s (behindPresses p) k (k - left) h j) in
+    let b = both (ltb 0 (loaded s from 1)) (leb (loaded s from 1) lastKind) g in
+    rw e (ltb-true _ _ (b .0), leb-true _ _ (b .1))
 
 -- ---- 10 BadScript
 
@@ -76,7 +153,8 @@ module _ (s : List ℕ) (p : ℕ) (e : p ≡ pressesIn s) where
     pub bad-length : n ≤ mostOf → (length s ≡ behindPresses p + stepBytes * n → ⊥) → true ≡ badScript s
     bad-length g d = rw (le-ltb _ _ l, le-ltb _ _ g, ne-eqb _ _ d) refl ∙ bad-with n h
 
-    pub bad-kinds : n ≤ mostOf → length s ≡ behindPresses p + stepBytes * n → (k : Bool) → k ≡ kindsFrom s (behindPresses p) n → not k ≡ badScript s
+    pub bad-kinds : n ≤ mostOf → length s ≡ behindPresses p + stepBytes * n → (k : Bool)
+        → k ≡ kindsFrom s (behindPresses p) n → not k ≡ badScript s
     bad-kinds g d k i = rw (le-ltb _ _ l, le-ltb _ _ g, eq-eqb _ _ d, ← i) refl ∙ bad-with n h
 
 -- of a script that is none of these the counts are not above the greatest
@@ -85,23 +163,27 @@ module _ (s : List ℕ) (b : badScript s ≡ false) where
   presses-few = by (ltb mostOf (pressesIn s)) refl
     where
       by : (t : Bool) → ltb mostOf (pressesIn s) ≡ t → pressesIn s ≤ mostOf
-      by true t = let z : true ≡ false = bad-presses s (pressesIn s) refl (ltb-true _ _ t) ∙ b in let y : _≡_ {A = ℕ} 0 1 = cc in omega arith
+      by true t = let z : true ≡ false = bad-presses s (pressesIn s) refl (ltb-true _ _ t) ∙ b in let y : _≡_ {A = ℕ}
+          0 1 = cc in omega arith
       by false t = ltb-false _ _ t
 
   steps-few : stepsIn s (pressesIn s) ≤ mostOf
   steps-few = by (ltb mostOf (stepsIn s (pressesIn s))) refl
     where
       by : (t : Bool) → ltb mostOf (stepsIn s (pressesIn s)) ≡ t → stepsIn s (pressesIn s) ≤ mostOf
-      by true t = let z : true ≡ false = bad-steps s (pressesIn s) refl presses-few _ refl (ltb-true _ _ t) ∙ b in let y : _≡_ {A = ℕ} 0 1 = cc in omega arith
+      by true t = let z : true ≡ false = bad-steps s (pressesIn s) refl presses-few _ refl (ltb-true _ _ t) ∙ b in
+          let y : _≡_ {A = ℕ} 0 1 = cc in omega arith
       by false t = ltb-false _ _ t
 
   -- and the length is what they say
   steps-fit : length s ≡ behindPresses (pressesIn s) + stepBytes * stepsIn s (pressesIn s)
   steps-fit = by (eqb (length s) (behindPresses (pressesIn s) + stepBytes * stepsIn s (pressesIn s))) refl
     where
-      by : (t : Bool) → eqb (length s) (behindPresses (pressesIn s) + stepBytes * stepsIn s (pressesIn s)) ≡ t → length s ≡ behindPresses (pressesIn s) + stepBytes * stepsIn s (pressesIn s)
+      by : (t : Bool) → eqb (length s) (behindPresses (pressesIn s) + stepBytes * stepsIn s (pressesIn s)) ≡ t
+          → length s ≡ behindPresses (pressesIn s) + stepBytes * stepsIn s (pressesIn s)
       by true t = eqb-true _ _ t
-      by false t = let z : true ≡ false = bad-length s (pressesIn s) refl presses-few _ refl steps-few (eqb-false _ _ t) ∙ b in let y : _≡_ {A = ℕ} 0 1 = cc in absurd (omega arith)
+      by false t = let z : true ≡ false = bad-length s (pressesIn s) refl presses-few _ refl steps-few (eqb-false _ _
+          t) ∙ b in let y : _≡_ {A = ℕ} 0 1 = cc in absurd (omega arith)
 
   kinds-good : kindsFrom s (behindPresses (pressesIn s)) (stepsIn s (pressesIn s)) ≡ true
   kinds-good = not-false _ (bad-kinds s (pressesIn s) refl presses-few _ refl steps-few steps-fit _ refl ∙ b)
@@ -116,8 +198,8 @@ module _ (s : List ℕ) {b : Bool} (e : b ≡ badScript s) (h : b ≡ false) {p 
   pub long : {k : ℕ} → k ≡ stepsIn s p → length s ≡ behindPresses p + stepBytes * k
   long j = rw (j, i) (steps-fit s (sym e ∙ h))
 
-  pub known : {k : ℕ} → k ≡ stepsIn s p → kindsFrom s (behindPresses p) (p + k - p) ≡ true
-  known {k} j = rw (add-sub-cancel-left p k, j, i) (kinds-good s (sym e ∙ h))
+  pub known : {k : ℕ} → k ≡ stepsIn s p → kindsFrom s (behindPresses p) k ≡ true
+  known j = rw (j, i) (kinds-good s (sym e ∙ h))
 
 -- so the count fits four bytes
 pub few-entries : (s : List ℕ) → badScript s ≡ false → entriesIn s % 2 ^ 32 ≡ entriesIn s
@@ -126,29 +208,81 @@ few-entries s b =
     let n : stepsIn s (pressesIn s) ≤ mostOf = steps-few s b in
     omega arith
 
--- ---- the loop over entries
+-- ---- the loops over entries
 
-module _ (s : List ℕ) (p n : ℕ) where
-  pub run-start : (t : Ran) → ranOf t 4 (entriesFrom s p (n - 0) 0) ≡ ranOf t 4 (entriesFrom s p n 0)
-  run-start t = rw sub-zero
+module _ (s : List ℕ) (p : ℕ) where
+  -- entry i is a press, or a step
+  pub entry-press : (i from : ℕ) {e : Entry} → i < p → from ≡ 4 + pressBytes * i → e ≡ pressFrom s from
+      → e ≡ entryAt s p i
+  unfolding entryAt
+  entry-press i from h f e = rw (lt-ltb _ _ h, ← f) e
 
-  pub run-more : (i : ℕ) (m : Machine) (l : List ℕ) {e : Entry} {x : Turn} {l′ : List ℕ} → i < n → e ≡ entryAt s p i → x ≡ turnOf m e → l′ ≡ laid l (4 + answerBytes * i) (x .answer)
-      → ranOf (ran (x .machine) l′) (4 + answerBytes * (i + 1)) (entriesFrom s p (n - (i + 1)) (i + 1)) ≡ ranOf (ran m l) (4 + answerBytes * i) (entriesFrom s p (n - i) i)
+  pub press-kind : (from : ℕ) {e : Entry} → e ≡ pressFrom s from → e .kind ≡ 0
+  unfolding pressFrom
+  press-kind from e = ap (λ (z : Entry). z .kind) e
+
+  pub entry-step : (i from : ℕ) {e : Entry} → p ≤ i → from ≡ behindPresses p + stepBytes * (i - p)
+      → e ≡ stepFrom s from → e ≡ entryAt s p i
+  unfolding entryAt
+  entry-step i from h f e = rw (le-ltb _ _ h, ← f) e
+
+  -- what is left to run from here is what there was to run before entry i
+  pub run-next : (n n′ i i′ at : ℕ) (t : Ran) {e : Entry} {t′ : Ran} → n ≡ suc n′ → i′ ≡ i + 1
+      → e ≡ entryAt s p i → t′ ≡ ranOne t at e
+      → ranOf t′ (at + answerBytes) (entriesFrom s p n′ i′) ≡ ranOf t at (entriesFrom s p n i)
   unfolding ranOf entriesFrom
-  run-more i m l h e f g =
-      let z : n - i ≡ suc (n - (i + 1)) = omega arith in
-      let y : 4 + answerBytes * (i + 1) ≡ 4 + answerBytes * i + answerBytes = omega arith in
-      rw (z, y, g, f, e)
+  run-next n n′ i i′ at t z y e f = rw (z, y, f, e)
 
-  pub run-end : (i : ℕ) (t u : Ran) → n ≤ i → ranOf t (4 + answerBytes * i) (entriesFrom s p (n - i) i) ≡ u → t ≡ u
+  module _ (left from at : ℕ) (t : Ran) {e : Entry} {t′ : Ran} (h : 0 < left) where
+    pub press-next : (n : ℕ) → left ≤ p → p ≤ n → from + pressBytes * left ≡ 4 + pressBytes * p
+        → e ≡ pressFrom s from → t′ ≡ ranOne t at e
+        → ranOf t′ (at + answerBytes) (entriesFrom s p (n - (p - (left - 1))) (p - (left - 1))) ≡ ranOf t at
+        (entriesFrom s p (n - (p - left)) (p - left))
+    press-next n l m f e g =
+        let i : p - left < p = omega arith in
+        let o : from ≡ 4 + pressBytes * (p - left) = omega arith in
+        let z : n - (p - left) ≡ suc (n - (p - (left - 1))) = omega arith in
+        let y : p - (left - 1) ≡ p - left + 1 = omega arith in
+        run-next _ _ (p - left) _ at t z y (entry-press (p - left) from i o e) g
+
+    pub step-next : (k : ℕ) → left ≤ k → from + stepBytes * left ≡ behindPresses p + stepBytes * k
+        → e ≡ stepFrom s from → t′ ≡ ranOne t at e
+        → ranOf t′ (at + answerBytes) (entriesFrom s p (left - 1) (p + (k - (left - 1)))) ≡ ranOf t at (entriesFrom s
+        p left (p + (k - left)))
+    step-next k l f e g =
+        let i : p ≤ p + (k - left) = omega arith in
+        let o : from ≡ behindPresses p + stepBytes * (p + (k - left) - p) = omega arith in
+        let z : left ≡ suc (left - 1) = omega arith in
+        let y : p + (k - (left - 1)) ≡ p + (k - left) + 1 = omega arith in
+        run-next _ _ (p + (k - left)) _ at t z y (entry-step (p + (k - left)) from i o e) g
+
+  pub press-start : (n : ℕ) (t : Ran)
+      → ranOf t 4 (entriesFrom s p (n - (p - p)) (p - p)) ≡ ranOf t 4 (entriesFrom s p n 0)
+  press-start n t = let z : p - p ≡ 0 = omega arith in let y : n - 0 ≡ n = omega arith in rw (z, y)
+
+  pub press-end : (n left at : ℕ) (t : Ran) {u : Ran} → left ≤ 0 → at + answerBytes * left ≡ 4 + answerBytes * p
+      → ranOf t at (entriesFrom s p (n - (p - left)) (p - left)) ≡ u
+      → ranOf t (4 + answerBytes * p) (entriesFrom s p (n - p) p) ≡ u
+  press-end n left at t h i e = let z : p - left ≡ p = omega arith in let y : at ≡ 4 + answerBytes * p = omega arith
+      in rw (z, y) at e
+
+  pub step-start : (k at : ℕ) (t : Ran)
+      → ranOf t at (entriesFrom s p k (p + (k - k))) ≡ ranOf t at (entriesFrom s p k p)
+  step-start k at t = let z : p + (k - k) ≡ p = omega arith in rw z
+
+  pub step-end : (left at i : ℕ) (t : Ran) {u : Ran} → left ≤ 0 → ranOf t at (entriesFrom s p left i) ≡ u → t ≡ u
   unfolding ranOf entriesFrom
-  run-end i t u h e =
-      let z : n - i ≡ 0 = omega arith in
-      let y : ranOf t (4 + answerBytes * i) (entriesFrom s p 0 i) ≡ u = rw z at e in
-      y
+  step-end left at i t h e = let z : left ≡ 0 = omega arith in let y : ranOf t at (entriesFrom s p 0 i) ≡ _ = rw z at
+      e in y
+
+  -- the presses, and then the steps
+  pub both-run : (k : ℕ) (u : Ran) {t v : Ran} → v ≡ ranOf u (4 + answerBytes * p) (entriesFrom s p k p)
+      → ranOf u (4 + answerBytes * p) (entriesFrom s p (p + k - p) p) ≡ t → v ≡ t
+  both-run k u e f = e ∙ (rw (add-sub-cancel-left p k) at f)
 
 -- from whatever turns out to be the fresh state
-pub run-fresh : (m r g f l : List ℕ) (es : List Entry) {x : System} {t : Ran} → x ≡ freshSystem → t ≡ ranOf (ran (machine x m r g f) l) 4 es
+pub run-fresh : (m r g f l : List ℕ) (es : List Entry) {x : System} {t : Ran} → x ≡ freshSystem
+    → t ≡ ranOf (ran (machine x m r g f) l) 4 es
     → t ≡ ranOf (ran (machine freshSystem m r g f) l) 4 es
 run-fresh m r g f l es h e = e ∙ ap (λ (z : System). ranOf (ran (machine z m r g f) l) 4 es) h
 
@@ -159,20 +293,23 @@ module _ (m r g f s l : List ℕ) where
   unfolding runOf
   run-bad e h = rw (← e, h)
 
-  module _ {b : Bool} (e : b ≡ badScript s) (h : b ≡ false) {p k : ℕ} (i : p ≡ pressesIn s) (j : k ≡ stepsIn s p) where
-    pub run-short : length l < 4 + answerBytes * (p + k) → ended 11 m r g f l ≡ runOf m r g f s l
-    unfolding runOf outTooShort
-    run-short d = rw (← e, h, ← i, ← j, lt-ltb _ _ d)
+  module _ {b : Bool} (e : b ≡ badScript s) (h : b ≡ false) {p k : ℕ} (i : p ≡ pressesIn s) (j : k ≡ stepsIn s p)
+    where
+      pub run-short : length l < 4 + answerBytes * (p + k) → ended 11 m r g f l ≡ runOf m r g f s l
+      unfolding runOf outTooShort
+      run-short d = rw (← e, h, ← i, ← j, lt-ltb _ _ d)
 
-    pub run-done : 4 + answerBytes * (p + k) ≤ length l → {l′ : List ℕ} {x : Ended} → l′ ≡ storedAt l 0 4 (p + k)
-        → x ≡ endOf (ranOf (ran (machine freshSystem m r g f) l′) 4 (entriesFrom s p (p + k) 0)) → x ≡ runOf m r g f s l
-    unfolding runOf outTooShort
-    run-done d y x = rw (← e, h, ← i, ← j, le-ltb _ _ d, ← y) x
+      pub run-done : 4 + answerBytes * (p + k) ≤ length l → {l′ : List ℕ} {x : Ended} → l′ ≡ storedAt l 0 4 (p + k)
+          → x ≡ endOf (ranOf (ran (machine freshSystem m r g f) l′) 4 (entriesFrom s p (p + k) 0))
+          → x ≡ runOf m r g f s l
+      unfolding runOf outTooShort
+      run-done d y x = rw (← e, h, ← i, ← j, le-ltb _ _ d, ← y) x
 
   pub script-bad : {b : Bool} → b ≡ badMemory m r g f → b ≡ true → ended 7 m r g f l ≡ scriptOf m r g f s l
   unfolding scriptOf
   script-bad e h = rw (← e, h)
 
-  pub script-run : {b : Bool} {x : Ended} → b ≡ badMemory m r g f → b ≡ false → x ≡ runOf m r g f s l → x ≡ scriptOf m r g f s l
+  pub script-run : {b : Bool} {x : Ended} → b ≡ badMemory m r g f → b ≡ false → x ≡ runOf m r g f s l
+      → x ≡ scriptOf m r g f s l
   unfolding scriptOf
   script-run e h x = rw (← e, h) x

@@ -1,5 +1,5 @@
 -- What each kind of entry does, from what the calls leave.
-use Prim.Native.Nat.{ℕ, suc, _≤_, _%_, _^_}
+use Prim.Native.Nat.{ℕ, suc, _<_, _≤_, _%_, _^_}
 use native.Mathlib.Omega.{arith}
 use mathlib.Core.Path.{_≡_, refl, ap, _∙_}
 use mathlib.Core.Bool.{Bool, true, false, not}
@@ -23,107 +23,132 @@ use Rattle.system.specs.Steps.{Op, step, withSystem, byChange}
 use Rattle.runner.specs.declared.Entry.{Entry}
 use Rattle.runner.specs.declared.Answer.{Answer}
 use Rattle.runner.specs.Format.{lastKind}
-use Rattle.runner.specs.Answers.{reply, inBits, replyOf, soundReply, countersReply, colourReply}
-use Rattle.runner.specs.Script.{turn, turnOf, opOf}
+use Rattle.runner.specs.Answers.{laid, reply, inBits, replyOf, soundReply, countersReply, colourReply}
+use Rattle.runner.specs.Script.{Turn, turn, turnOf, opOf, ran, ranOne}
 
 pub no-bits : bitsOf steps.nought ≡ 0
 unfolding bitsOf toBits ofBits ne
 no-bits = refl
 
 module _ (m : Machine) (e : Entry) where
-  by-op : (o : Op) (b : Bool) → opOf e ≡ o → inBits (e .kind) ≡ b → turn (step m o .machine) (replyOf b (step m o)) ≡ turnOf m e
+  by-op : (o : Op) (b : Bool) → opOf e ≡ o → inBits (e .kind) ≡ b
+      → turn (step m o .machine) (replyOf b (step m o)) ≡ turnOf m e
   unfolding turnOf
   by-op o b h k = rw (h, k)
 
   -- a call that answers nothing but its number
-  by-changed : (o : Op) (x : Changed) → step m o ≡ byChange m x → opOf e ≡ o → inBits (e .kind) ≡ false → {n : ℕ} {s : System} {a : Answer} → changed n s ≡ x
+  by-changed : (o : Op) (x : Changed) → step m o ≡ byChange m x → opOf e ≡ o → inBits (e .kind) ≡ false
+      → {n : ℕ} {s : System} {a : Answer} → changed n s ≡ x
       → a ≡ reply n 0 0 0 → turn (withSystem m s) a ≡ turnOf m e
   unfolding replyOf
   by-changed o x d h k i j =
       rw j (ap (λ (z : Changed). turn (withSystem m (z .system)) (reply (z .refusal) 0 0 0)) i)
       ∙ rw d at (by-op o false h k)
 
-  pub turn-press : e .kind ≡ 0 → {n : ℕ} {s : System} {a : Answer} → changed n s ≡ pressOf (m .system) (e .address) (ofBits binary64 (e .value)) → a ≡ reply n 0 0 0
+  pub turn-press : e .kind ≡ 0 → {n : ℕ} {s : System} {a : Answer}
+      → changed n s ≡ pressOf (m .system) (e .address) (ofBits binary64 (e .value)) → a ≡ reply n 0 0 0
       → turn (withSystem m s) a ≡ turnOf m e
   unfolding opOf inBits step
   turn-press k i j = by-changed (steps.press (e .address) (ofBits binary64 (e .value))) _ refl (rw k) (rw k) i j
 
-  pub turn-turbo : e .kind ≡ 6 → {n : ℕ} {s : System} {a : Answer} → changed n s ≡ turboOf (m .system) (ofBits binary64 (e .value)) → a ≡ reply n 0 0 0
+  pub turn-turbo : e .kind ≡ 6 → {n : ℕ} {s : System} {a : Answer}
+      → changed n s ≡ turboOf (m .system) (ofBits binary64 (e .value)) → a ≡ reply n 0 0 0
       → turn (withSystem m s) a ≡ turnOf m e
   unfolding opOf inBits step
   turn-turbo k i j = by-changed (steps.turbo (ofBits binary64 (e .value))) _ refl (rw k) (rw k) i j
 
-  pub turn-live : e .kind ≡ 7 → {n : ℕ} {s : System} {a : Answer} → changed n s ≡ liveOf (m .system) (e .address) (not (eqb (e .value) 0)) → a ≡ reply n 0 0 0
+  pub turn-live : e .kind ≡ 7 → {n : ℕ} {s : System} {a : Answer}
+      → changed n s ≡ liveOf (m .system) (e .address) (not (eqb (e .value) 0)) → a ≡ reply n 0 0 0
       → turn (withSystem m s) a ≡ turnOf m e
   unfolding opOf inBits step
   turn-live k i j = by-changed (steps.live (e .address) (not (eqb (e .value) 0))) _ refl (rw k) (rw k) i j
 
-  pub turn-hold : e .kind ≡ 8 → {n : ℕ} {s : System} {a : Answer} → changed n s ≡ holdOf (m .system) (e .address) (ofBits binary64 (e .value)) → a ≡ reply n 0 0 0
+  pub turn-hold : e .kind ≡ 8 → {n : ℕ} {s : System} {a : Answer}
+      → changed n s ≡ holdOf (m .system) (e .address) (ofBits binary64 (e .value)) → a ≡ reply n 0 0 0
       → turn (withSystem m s) a ≡ turnOf m e
   unfolding opOf inBits step
   turn-hold k i j = by-changed (steps.hold (e .address) (ofBits binary64 (e .value))) _ refl (rw k) (rw k) i j
 
-  pub turn-read : e .kind ≡ 1 → {r : Read} {a : Answer} → r ≡ readOf (m .system) (m .ram) (m .sram) (m .gpio) (e .address) (e .size)
+  pub turn-read : e .kind ≡ 1 → {r : Read} {a : Answer}
+      → r ≡ readOf (m .system) (m .ram) (m .sram) (m .gpio) (e .address) (e .size)
       → a ≡ reply (r .refusal) (r .value) 0 0 → turn (withSystem m (r .system)) a ≡ turnOf m e
   unfolding opOf inBits replyOf step
   turn-read k h i =
       rw i (ap (λ (z : Read). turn (withSystem m (z .system)) (reply (z .refusal) (z .value) 0 0)) h)
       ∙ by-op (steps.read (e .address) (e .size)) false (rw k) (rw k)
 
-  pub turn-write : e .kind ≡ 2 → {m₁ : Machine} {n : ℕ} {a : Answer} → left m₁ n ≡ writeOf m (e .address) (e .size) (e .value % 2 ^ 32) → a ≡ reply n 0 0 0 → turn m₁ a ≡ turnOf m e
+  pub turn-write : e .kind ≡ 2 → {m₁ : Machine} {n : ℕ} {a : Answer}
+      → left m₁ n ≡ writeOf m (e .address) (e .size) (e .value % 2 ^ 32) → a ≡ reply n 0 0 0 → turn m₁ a ≡ turnOf m e
   unfolding opOf inBits replyOf step
   turn-write k h i =
-      rw i (ap (λ (z : Left). turn (z .machine) (reply (z .refusal) 0 0 0)) h) ∙ by-op (steps.write (e .address) (e .size) (e .value % 2 ^ 32)) false (rw k) (rw k)
+      rw i (ap (λ (z : Left). turn (z .machine) (reply (z .refusal) 0 0 0)) h) ∙ by-op (steps.write (e .address)
+      (e .size) (e .value % 2 ^ 32)) false (rw k) (rw k)
 
-  pub turn-advance : e .kind ≡ 3 → {n : ℕ} {s : System} {g : List ℕ} {a : Answer} → moved (changed n s) g ≡ advanceOf (m .system) (m .sram) (m .gpio) (ofBits binary64 (e .value))
+  pub turn-advance : e .kind ≡ 3 → {n : ℕ} {s : System} {g : List ℕ} {a : Answer}
+      → moved (changed n s) g ≡ advanceOf (m .system) (m .sram) (m .gpio) (ofBits binary64 (e .value))
       → a ≡ reply n 0 0 0 → turn (machine s (m .ram) (m .sram) g (m .fb)) a ≡ turnOf m e
   unfolding opOf inBits replyOf step
   turn-advance k h i =
-      rw i (ap (λ (z : Moved). turn (machine (z .changed .system) (m .ram) (m .sram) (z .gpio) (m .fb)) (reply (z .changed .refusal) 0 0 0)) h)
+      rw i (ap (λ (z : Moved). turn (machine (z .changed .system) (m .ram) (m .sram) (z .gpio) (m .fb)) (reply
+      (z .changed .refusal) 0 0 0)) h)
       ∙ by-op (steps.advance (ofBits binary64 (e .value))) false (rw k) (rw k)
 
-  pub turn-next : e .kind ≡ 4 → {x : NextTime} {n : ℕ} {a : Answer} → x ≡ nextOf (m .system) (m .sram) → n ≡ bitsOf (x .time)
+  pub turn-next : e .kind ≡ 4 → {x : NextTime} {n : ℕ} {a : Answer} → x ≡ nextOf (m .system) (m .sram)
+      → n ≡ bitsOf (x .time)
       → a ≡ reply (x .refusal) n 0 0 → turn m a ≡ turnOf m e
   unfolding opOf inBits replyOf step
   turn-next k h b i = rw (i, b, h) (rw no-bits at (by-op steps.nextEvent true (rw k) (rw k)))
 
-  pub turn-pending : e .kind ≡ 5 → {n : ℕ} {a : Answer} → n ≡ pendingOf (m .system) → a ≡ reply 0 n 0 0 → turn m a ≡ turnOf m e
+  pub turn-pending : e .kind ≡ 5 → {n : ℕ} {a : Answer} → n ≡ pendingOf (m .system) → a ≡ reply 0 n 0 0
+      → turn m a ≡ turnOf m e
   unfolding opOf inBits replyOf step
   turn-pending k h i = rw (i, h) (by-op steps.pending false (rw k) (rw k))
 
-  pub turn-take : e .kind ≡ 9 → {n : ℕ} {x : Event} {s : System} {a : Answer} → _≡_ {A = Taken} (record { refusal = n; event = x; system = s }) (takeOf (m .system))
+  pub turn-take : e .kind ≡ 9 → {n : ℕ} {x : Event} {s : System} {a : Answer}
+      → _≡_ {A = Taken} (record { refusal = n; event = x; system = s }) (takeOf (m .system))
       → a ≡ soundReply n x → turn (withSystem m s) a ≡ turnOf m e
   unfolding opOf inBits replyOf step
   turn-take k h i =
-      rw i (ap (λ (z : Taken). turn (withSystem m (z .system)) (soundReply (z .refusal) (z .event))) h) ∙ by-op steps.takeEvent true (rw k) (rw k)
+      rw i (ap (λ (z : Taken). turn (withSystem m (z .system)) (soundReply (z .refusal) (z .event))) h) ∙ by-op
+      steps.takeEvent true (rw k) (rw k)
 
   pub turn-counters : e .kind ≡ 10 → {a : Answer} → a ≡ countersReply (m .system .devices) → turn m a ≡ turnOf m e
   unfolding opOf inBits replyOf step
   turn-counters k i = rw i (by-op steps.counters false (rw k) (rw k))
 
-  pub turn-pixel : e .kind ≡ 11 → {c : Colours} {a : Answer} → c ≡ pixelAt (m .fb) (e .address) → a ≡ colourReply c → turn m a ≡ turnOf m e
+  pub turn-pixel : e .kind ≡ 11 → {c : Colours} {a : Answer} → c ≡ pixelAt (m .fb) (e .address)
+      → a ≡ colourReply c → turn m a ≡ turnOf m e
   unfolding opOf inBits replyOf step
   turn-pixel k h i = rw (i, h) (by-op (steps.pixel (e .address)) false (rw k) (rw k))
 
-  pub turn-wipe : e .kind ≡ 12 → {m₁ : Machine} {a : Answer} → m₁ ≡ wipedOf (length (m .ram)) (length (m .sram)) (length (m .gpio)) (length (m .fb)) → a ≡ reply 0 0 0 0
+  pub turn-wipe : e .kind ≡ 12 → {m₁ : Machine} {a : Answer}
+      → m₁ ≡ wipedOf (length (m .ram)) (length (m .sram)) (length (m .gpio)) (length (m .fb)) → a ≡ reply 0 0 0 0
       → turn m₁ a ≡ turnOf m e
   unfolding opOf inBits replyOf step
   turn-wipe k h i = rw i (ap (λ (z : Machine). turn z (reply 0 0 0 0)) h) ∙ by-op steps.wipe false (rw k) (rw k)
+
+-- ---- its answer is laid at a place
+
+pub lays : (m : Machine) (e : Entry) (l : List ℕ) (to : ℕ) {m₁ : Machine} {a : Answer} {l₁ : List ℕ}
+    → turn m₁ a ≡ turnOf m e → l₁ ≡ laid l to a
+    → ran m₁ l₁ ≡ ranOne (ran m l) to e
+lays m e l to {m₁} h i = ap (ran m₁) i ∙ ap (λ (z : Turn). ran (z .machine) (laid l to (z .answer))) h
 
 -- ---- there is no other kind
 
 less : (k n : ℕ) → k ≤ suc n → (k ≡ suc n → ⊥) → k ≤ n
 less k n h d = omega arith
 
-none : (k : ℕ) → k ≤ 0 → k ≡ 0
-none k h = omega arith
-
-pub no-kind : (k : ℕ) → k ≤ lastKind → (k ≡ 0 → ⊥) → (k ≡ 1 → ⊥) → (k ≡ 2 → ⊥) → (k ≡ 3 → ⊥) → (k ≡ 4 → ⊥) → (k ≡ 5 → ⊥) → (k ≡ 6 → ⊥) → (k ≡ 7 → ⊥) → (k ≡ 8 → ⊥) → (k ≡ 9 → ⊥) → (k ≡ 10 → ⊥) → (k ≡ 11 → ⊥)
-    → (k ≡ 12 → ⊥) → ⊥
-no-kind k h n₀ n₁ n₂ n₃ n₄ n₅ n₆ n₇ n₈ n₉ n₁₀ n₁₁ n₁₂ = n₀ (none k (less k 0 (less k 1 (less k 2 low n₃) n₂) n₁))
+pub no-kind : (k : ℕ) → 0 < k → k ≤ lastKind → (k ≡ 1 → ⊥) → (k ≡ 2 → ⊥) → (k ≡ 3 → ⊥) → (k ≡ 4 → ⊥) → (k ≡ 5
+    → ⊥) → (k ≡ 6 → ⊥) → (k ≡ 7 → ⊥) → (k ≡ 8 → ⊥)
+    → (k ≡ 9 → ⊥) → (k ≡ 10 → ⊥) → (k ≡ 11 → ⊥) → (k ≡ 12 → ⊥) → ⊥
+no-kind k g h n₁ n₂ n₃ n₄ n₅ n₆ n₇ n₈ n₉ n₁₀ n₁₁ n₁₂ = none (less k 0 (less k 1 (less k 2 low n₃) n₂) n₁)
   where
     high : k ≤ 8
     high = less k 8 (less k 9 (less k 10 (less k 11 h n₁₂) n₁₁) n₁₀) n₉
 
     low : k ≤ 3
     low = less k 3 (less k 4 (less k 5 (less k 6 (less k 7 high n₈) n₇) n₆) n₅) n₄
+
+    none : k ≤ 0 → ⊥
+    none z = omega arith

@@ -1,9 +1,10 @@
 -- 01, Scripts: little-endian, a u32 count of presses, each key u8 and f64 time; a u32 count of steps, each kind u8,
 -- size u8, two unused bytes, address u32, value u64.
-use Prim.Native.Nat.{ℕ, zero, suc, _+_, _-_, _*_, _^_}
-use mathlib.Core.Bool.{Bool, true, not, cond, _&&_, _||_}
+use Prim.Native.Nat.{ℕ, zero, suc, _+_, _-_, _*_, _^_, _<_}
+use mathlib.Core.Path.{_≡_}
+use mathlib.Core.Bool.{Bool, true, false, not, cond, _&&_, _||_}
 use mathlib.Core.List.{List, [], _∷_}
-use lib.ListN.{length}
+use lib.ListN.{length, getD}
 use lib.Dec.{eqb, ltb, leb}
 use Rattle.memory.specs.Bytes.{loaded}
 use Rattle.runner.specs.declared.Entry.{Entry}
@@ -42,6 +43,10 @@ entriesIn s = pressesIn s + stepsIn s (pressesIn s)
 abbrev pub kindIn : ℕ → Bool
 kindIn k = ltb 0 k && leb k lastKind
 
+-- a table that says so of each byte
+abbrev pub Kinds : List Bool → Type 0
+Kinds t = (k : ℕ) → k < 256 → getD t k false ≡ kindIn k
+
 -- the kinds of n steps, the first at a place
 unfoldable pub kindsFrom : List ℕ → ℕ → ℕ → Bool
 kindsFrom s at zero = true
@@ -69,8 +74,11 @@ abbrev pub entry : ℕ → ℕ → ℕ → ℕ → Entry
 entry k n a v = record { kind = k; size = n; address = a; value = v }
 
 -- a press has kind 0: its key is the address, the bits of its time the value
-unfoldable pub pressAt : List ℕ → ℕ → Entry
-pressAt s i = entry 0 0 (loaded s (4 + pressBytes * i) 1) (wide s (5 + pressBytes * i))
+unfoldable pub pressFrom : List ℕ → ℕ → Entry
+pressFrom s at = entry 0 0 (loaded s at 1) (wide s (at + 1))
+
+abbrev pub pressAt : List ℕ → ℕ → Entry
+pressAt s i = pressFrom s (4 + pressBytes * i)
 
 unfoldable pub stepFrom : List ℕ → ℕ → Entry
 stepFrom s at = entry (loaded s at 1) (loaded s (at + 1) 1) (loaded s (at + 4) 4) (wide s (at + 8))

@@ -55,13 +55,13 @@ pub record Ran : Type 0 where
 abbrev pub ran : Machine → List ℕ → Ran
 ran m l = record { machine = m; out = l }
 
+-- one, whose answer goes to a place
+abbrev pub ranOne : Ran → ℕ → Entry → Ran
+ranOne t at e = ran (turnOf (t .machine) e .machine) (laid (t .out) at (turnOf (t .machine) e .answer))
+
 unfoldable pub ranOf : Ran → ℕ → List Entry → Ran
 ranOf t at [] = t
-ranOf t at (e ∷ es) =
-    ranOf
-    (ran (turnOf (t .machine) e .machine) (laid (t .out) at (turnOf (t .machine) e .answer)))
-    (at + answerBytes)
-    es
+ranOf t at (e ∷ es) = ranOf (ranOne t at e) (at + answerBytes) es
 
 -- ---- the whole
 

@@ -1,15 +1,17 @@
-// One entry of a script: what it does, by its kind.
+// One step of a script: what it does, by its kind.
 ghost use mathlib.Core.Path.{_≡_};
 ghost use mathlib.Core.List.{List};
-ghost use Prim.Native.Nat.{_≤_};
+ghost use Prim.Native.Nat.{_+_, _≤_, _<_};
 ghost use lib.Ieee.{Float};
+ghost use lib.ListN.{length};
 ghost use Rattle.state.specs.Bank.{devicesIn, partsIn};
 ghost use Rattle.system.specs.Bank.{machineOf};
 ghost use Rattle.runner.specs.Format.{lastKind};
-ghost use Rattle.runner.specs.Answers.{soundReply, countersReply, colourReply};
-ghost use Rattle.runner.specs.Script.{turn, turnOf};
+ghost use Rattle.runner.specs.Answers.{answerBytes, soundReply, countersReply, colourReply};
+ghost use Rattle.runner.specs.Script.{ran, ranOne};
 use crate::Answer;
 use crate::Entry;
+use crate::replies::lay;
 use crate::replies::numbers;
 use crate::replies::refused;
 use panel::Colours;
@@ -47,7 +49,9 @@ fn colour(c: Colours) -> Answer
     numbers(0, word, 0, 0)
 }
 
-// An arm for each kind. The contract lets no entry reach the last, so that a new kind has nothing to fall into.
+// An arm for each kind of step, which lays its answer at a place in the output: what an answer has none of is then
+// stored as it is, and no arm hands four numbers on. The contract lets no step reach the last arm, so that a new kind
+// has nothing to fall into.
 pub(crate) fn act(
     own: &mut [u32; 76],
     addresses: &mut [u32; 256],
@@ -66,26 +70,26 @@ pub(crate) fn act(
     gpio: &mut [u8],
     fb: &mut [u8],
     e: Entry,
-) -> Answer
-    requires { ⌜ e .kind ≤ lastKind ⌝ }
-    ensures { λ r. ⌜ turn
+    out: &mut [u8],
+    to: usize,
+)
+    requires { ⌜ (0 < e .kind) × (e .kind ≤ lastKind) × (to + answerBytes ≤ length (now out)) ⌝ }
+    ensures { λ _. ⌜ ran
         (machineOf (now (own .exit)) (now (addresses .exit)) (now (values .exit)) (now (rtc .exit)) (now (page .exit))
         (now (at .exit)) (now (frequencies .exit)) (now (duties .exit)) (now (times .exit)) (now (codes .exit))
         (partsIn (now (cells .exit)) (now (floats .exit)))
-        (now (ram .exit)) (now (sram .exit)) (now (gpio .exit)) (now (fb .exit))) r
-        ≡ turnOf
+        (now (ram .exit)) (now (sram .exit)) (now (gpio .exit)) (now (fb .exit))) (now (out .exit))
+        ≡ ranOne
+        (ran
         (machineOf (now (own .entry)) (now (addresses .entry)) (now (values .entry)) (now (rtc .entry))
         (now (page .entry))
         (now (at .entry)) (now (frequencies .entry)) (now (duties .entry)) (now (times .entry)) (now (codes .entry))
         (partsIn (now (cells .entry)) (now (floats .entry)))
-        (now (ram .entry)) (now (sram .entry)) (now (gpio .entry)) (now (fb .entry))) e ⌝ }
+        (now (ram .entry)) (now (sram .entry)) (now (gpio .entry)) (now (fb .entry))) (now (out .entry)))
+        to e ⌝ }
 {
     let kind = e.kind;
     match kind {
-        0 => {
-            let n = time::buttons::press_bits(times, codes, cells, floats, e.address, e.value);
-            return refused(n);
-        }
         1 => {
             let got = bus::read::read(
                 own,
@@ -99,7 +103,7 @@ pub(crate) fn act(
                 e.address,
                 e.size,
             );
-            return numbers(got.refusal, got.value as u64, 0, 0);
+            lay(out, to, numbers(got.refusal, got.value as u64, 0, 0));
         }
         2 => {
             let told = bus::write::write(
@@ -121,7 +125,7 @@ pub(crate) fn act(
                 e.size,
                 (e.value % 0x1_0000_0000) as u32,
             );
-            return refused(told.refusal);
+            lay(out, to, refused(told.refusal));
         }
         3 => {
             let n = time::moves::advance_bits(
@@ -134,38 +138,38 @@ pub(crate) fn act(
                 codes,
                 e.value,
             );
-            return refused(n);
+            lay(out, to, refused(n));
         }
         4 => {
             let next = time::next::next_event(own, cells, floats, sram, times);
-            return numbers(next.refusal, bits_of(next.time), 0, 0);
+            lay(out, to, numbers(next.refusal, bits_of(next.time), 0, 0));
         }
         5 => {
             let n = time::irq::pending_irq(own, cells);
-            return numbers(0, n as u64, 0, 0);
+            lay(out, to, numbers(0, n as u64, 0, 0));
         }
         6 => {
             let n = time::pace::turbo_bits(floats, e.value);
-            return refused(n);
+            lay(out, to, refused(n));
         }
         7 => {
             let n = time::buttons::set_live(cells, floats, e.address, e.value != 0);
-            return refused(n);
+            lay(out, to, refused(n));
         }
         8 => {
             let n = time::buttons::hold_bits(cells, floats, e.address, e.value);
-            return refused(n);
+            lay(out, to, refused(n));
         }
         9 => {
             let waited = time::tones::take_event(at, frequencies, duties, cells);
-            return sound(waited);
+            lay(out, to, sound(waited));
         }
         10 => {
-            return counters(cells);
+            lay(out, to, counters(cells));
         }
         11 => {
             let colours = panel::colour::at(fb, e.address);
-            return colour(colours);
+            lay(out, to, colour(colours));
         }
         12 => {
             system::wipe::wipe_all(
@@ -186,10 +190,10 @@ pub(crate) fn act(
                 gpio,
                 fb,
             );
-            return refused(0);
+            lay(out, to, refused(0));
         }
         _ => {
-            return refused(10);
+            lay(out, to, refused(10));
         }
     }
 }

@@ -1,19 +1,20 @@
 // What a script holds: u32 count of presses, the presses, u32 count of steps, the steps.
 ghost use mathlib.Core.Path.{_≡_};
-ghost use Prim.Native.Nat.{_+_, _-_, _*_, _≤_, _<_};
+ghost use mathlib.Core.Bool.{_&&_};
+ghost use Prim.Native.Nat.{ℕ, _+_, _-_, _*_, _≤_, _<_};
 ghost use lib.ListN.{length};
 ghost use Rattle.memory.specs.Bytes.{loaded};
-ghost use Rattle.runner.specs.Format.{pressBytes, stepBytes, mostOf, wide, pressesIn, stepsIn, kindIn, kindsFrom, behindPresses, badScript, entry, pressAt, stepFrom, stepAt, entryAt};
+ghost use Rattle.runner.specs.Format.{pressBytes, stepBytes, mostOf, wide, pressesIn, stepsIn, kindIn, Kinds, kindsFrom, badScript, pressFrom, stepFrom};
 use crate::Entry;
 
 // The bytes of a press and of a step, the greatest count of each, and the last kind of a step.
-const PRESS_BYTES: usize = 9;
+pub(crate) const PRESS_BYTES: usize = 9;
 
-const STEP_BYTES: usize = 16;
+pub(crate) const STEP_BYTES: usize = 16;
 
 const MOST_OF: usize = 4096;
 
-const LAST_KIND: u32 = 12;
+const LAST_KIND: usize = 12;
 
 // Eight bytes.
 fn load_wide(script: &[u8], at: usize) -> u64
@@ -38,38 +39,71 @@ pub(crate) fn steps(script: &[u8], p: usize) -> usize
     memory::load(script, 4 + PRESS_BYTES * p, 4) as usize
 }
 
-fn known(kind: u32) -> bool
-    ensures { λ r. ⌜ r ≡ kindIn kind ⌝ }
+// Of each byte, whether it is the kind of a step.
+fn known_kinds() -> [bool; 256]
+    ensures { λ r. ⌜ Kinds r ⌝ }
 {
-    (kind > 0) & (kind <= LAST_KIND)
+    let mut table = [false; 256];
+    let mut k: usize = 1;
+    while k <= LAST_KIND {
+        table[k] = true;
+        k += 1;
+    }
+    table
 }
 
-// The kind of the step at a place. Here and below a part of known length is taken of the script, so that no load
-// tests for the end.
-fn kind_at(script: &[u8], at: usize) -> u32
+// Whether the kind of the step at a place is one of those.
+fn kind_at(table: &[bool; 256], script: &[u8], at: usize) -> bool
     requires { ⌜ at + 1 ≤ length (now script) ⌝ }
-    ensures { λ r. ⌜ r ≡ loaded (now (script .entry)) at 1 ⌝ }
+    ensures { λ r. ⌜ (Kinds (now (table .entry)) → r ≡ kindIn (loaded (now (script .entry)) at 1)) ⌝ }
 {
-    let end = at + 1;
-    memory::load(&script[at..end], 0, 1)
+    table[script[at] as usize]
 }
 
-// Whether the n steps from a place on have kinds from 1 to the last.
+// The same of four steps, with no branch.
+fn four_kinds(table: &[bool; 256], script: &[u8], at: usize) -> bool
+    requires { ⌜ at + stepBytes * 4 ≤ length (now script) ⌝ }
+    ensures { λ r. ⌜ (Kinds (now (table .entry)) → (n : ℕ) → 4 ≤ n → kindsFrom (now (script .entry)) at n
+        ≡ (r && kindsFrom (now (script .entry)) (at + stepBytes * 4) (n - 4))) ⌝ }
+{
+    let a = kind_at(table, script, at);
+    let b = kind_at(table, script, at + STEP_BYTES);
+    let c = kind_at(table, script, at + STEP_BYTES * 2);
+    let d = kind_at(table, script, at + STEP_BYTES * 3);
+    a & (b & (c & d))
+}
+
+// The same of n steps, one by one.
+fn few_kinds(table: &[bool; 256], script: &[u8], from: usize, n: usize) -> bool
+    requires { ⌜ from + stepBytes * n ≤ length (now script) ⌝ }
+    ensures { λ r. ⌜ (Kinds (now (table .entry)) → r ≡ kindsFrom (now (script .entry)) from n) ⌝ }
+{
+    let mut at = from;
+    let mut left = n;
+    let mut good = true;
+    while left > 0 {
+        good = good & kind_at(table, script, at);
+        at += STEP_BYTES;
+        left -= 1;
+    }
+    good
+}
+
+// Whether the n steps from a place on have kinds from 1 to the last. All are looked at, so that nothing waits for a test.
 fn kinds(script: &[u8], from: usize, n: usize) -> bool
     requires { ⌜ from + stepBytes * n ≤ length (now script) ⌝ }
     ensures { λ r. ⌜ r ≡ kindsFrom (now (script .entry)) from n ⌝ }
 {
+    let table = known_kinds();
     let mut at = from;
     let mut left = n;
-    while left > 0 {
-        let kind = kind_at(script, at);
-        if !known(kind) {
-            return false;
-        }
-        at += STEP_BYTES;
-        left -= 1;
+    let mut good = true;
+    while left >= 4 {
+        good = good & four_kinds(&table, script, at);
+        at += STEP_BYTES * 4;
+        left -= 4;
     }
-    true
+    good & few_kinds(&table, script, at, left)
 }
 
 pub(crate) fn bad_script(script: &[u8]) -> bool
@@ -92,7 +126,7 @@ pub(crate) fn bad_script(script: &[u8]) -> bool
 
 // A press, its bytes given.
 fn press_in(bytes: &[u8]) -> Entry
-    ensures { λ r. ⌜ r ≡ entry 0 0 (loaded (now (bytes .entry)) 0 1) (wide (now (bytes .entry)) 1) ⌝ }
+    ensures { λ r. ⌜ r ≡ pressFrom (now (bytes .entry)) 0 ⌝ }
 {
     Entry {
         kind: 0,
@@ -114,31 +148,20 @@ fn step_in(bytes: &[u8]) -> Entry
     }
 }
 
-fn press_at(script: &[u8], i: usize) -> Entry
-    requires { ⌜ 4 + pressBytes * i + pressBytes ≤ length (now script) ⌝ }
-    ensures { λ r. ⌜ r ≡ pressAt (now (script .entry)) i ⌝ }
+// The press at a place. Here and below a part of known length is taken of the script, so that no load tests for the end.
+pub(crate) fn press_at(script: &[u8], at: usize) -> Entry
+    requires { ⌜ at + pressBytes ≤ length (now script) ⌝ }
+    ensures { λ r. ⌜ r ≡ pressFrom (now (script .entry)) at ⌝ }
 {
-    let at = 4 + PRESS_BYTES * i;
     let end = at + PRESS_BYTES;
     press_in(&script[at..end])
 }
 
-fn step_at(script: &[u8], p: usize, i: usize) -> Entry
-    requires { ⌜ behindPresses p + stepBytes * i + stepBytes ≤ length (now script) ⌝ }
-    ensures { λ r. ⌜ r ≡ stepAt (now (script .entry)) p i ⌝ }
+// The step at a place.
+pub(crate) fn step_at(script: &[u8], at: usize) -> Entry
+    requires { ⌜ at + stepBytes ≤ length (now script) ⌝ }
+    ensures { λ r. ⌜ r ≡ stepFrom (now (script .entry)) at ⌝ }
 {
-    let at = 8 + PRESS_BYTES * p + STEP_BYTES * i;
     let end = at + STEP_BYTES;
     step_in(&script[at..end])
-}
-
-// Entry i, presses first; it lies in the script.
-pub(crate) fn entry_at(script: &[u8], p: usize, i: usize) -> Entry
-    requires { ⌜ behindPresses p + stepBytes * (i + 1 - p) ≤ length (now script) ⌝ }
-    ensures { λ r. ⌜ r ≡ entryAt (now (script .entry)) p i ⌝ }
-{
-    if i < p {
-        return press_at(script, i);
-    }
-    step_at(script, p, i - p)
 }

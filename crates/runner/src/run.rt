@@ -1,7 +1,10 @@
-// The runner: one loop, in which each entry acts on the state where it stands.
+// The runner: a loop over the presses and one over the steps, in which each acts on the state where it stands. The
+// places in script and output move on with them.
 ghost use mathlib.Core.Path.{_≡_};
 ghost use mathlib.Core.Bool.{true};
-ghost use Prim.Native.Nat.{_+_, _-_, _*_, _≤_};
+ghost use mathlib.Core.List.{List};
+ghost use Prim.Native.Nat.{ℕ, _+_, _-_, _*_, _≤_};
+ghost use lib.Ieee.{Float};
 ghost use lib.ListN.{length};
 ghost use Rattle.system.specs.System.{machine, freshSystem};
 ghost use Rattle.state.specs.Bank.{partsIn};
@@ -10,19 +13,134 @@ ghost use Rattle.runner.specs.Format.{stepBytes, mostOf, kindsFrom, behi
 ghost use Rattle.runner.specs.Answers.{answerBytes};
 ghost use Rattle.runner.specs.Script.{ran, ranOf, ended, endOf, runOf};
 use crate::act::act;
+use crate::format::PRESS_BYTES;
+use crate::format::STEP_BYTES;
 use crate::format::bad_script;
-use crate::format::entry_at;
+use crate::format::press_at;
 use crate::format::presses;
+use crate::format::step_at;
 use crate::format::steps;
 use crate::replies::ANSWER_BYTES;
 use crate::replies::lay;
+use crate::replies::refused;
 use state::CELLS;
 use state::Cells;
 use state::FLOATS;
 use state::Floats;
 use system::wipe::reset;
 
-// From the fresh state on, the n entries of a script whose first p are presses.
+// The p presses of a script, of n entries in all; whatever the machine holds that no press reaches.
+fn run_presses(
+    times: &mut [f64; 64],
+    codes: &mut [u8; 64],
+    cells: &mut Cells,
+    floats: &Floats,
+    script: &[u8],
+    p: usize,
+    out: &mut [u8],
+)
+    requires { ⌜ (p ≤ mostOf) × (behindPresses p ≤ length (now script)) × (4 + answerBytes * p ≤ length (now out)) ⌝ }
+    ensures { λ _. ⌜ ((own addresses values rtc page : List ℕ) (at frequencies duties : List Float)
+        (ram sram gpio fb : List ℕ) (n : ℕ) → p ≤ n
+        → ranOf
+        (ran
+        (machineOf own addresses values rtc page at frequencies duties (now (times .exit)) (now (codes .exit))
+        (partsIn (now (cells .exit)) (now (floats .entry))) ram sram gpio fb) (now (out .exit)))
+        (4 + answerBytes * p)
+        (entriesFrom (now (script .entry)) p (n - p) p)
+        ≡ ranOf
+        (ran
+        (machineOf own addresses values rtc page at frequencies duties (now (times .entry)) (now (codes .entry))
+        (partsIn (now (cells .entry)) (now (floats .entry))) ram sram gpio fb) (now (out .entry)))
+        4
+        (entriesFrom (now (script .entry)) p n 0)) ⌝ }
+{
+    let mut from: usize = 4;
+    let mut to: usize = 4;
+    let mut left = p;
+    while left > 0 {
+        let e = press_at(script, from);
+        let n = time::buttons::press_bits(times, codes, cells, floats, e.address, e.value);
+        lay(out, to, refused(n));
+        from += PRESS_BYTES;
+        to += ANSWER_BYTES;
+        left -= 1;
+    }
+}
+
+// A script's p presses, and the k steps behind them.
+fn run_entries(
+    own: &mut [u32; 76],
+    addresses: &mut [u32; 256],
+    values: &mut [u32; 256],
+    rtc: &mut [u8; 256],
+    page: &mut [u8; 256],
+    at: &mut [f64; 256],
+    frequencies: &mut [f64; 256],
+    duties: &mut [f64; 256],
+    times: &mut [f64; 64],
+    codes: &mut [u8; 64],
+    cells: &mut Cells,
+    floats: &mut Floats,
+    ram: &mut [u8],
+    sram: &mut [u8],
+    gpio: &mut [u8],
+    fb: &mut [u8],
+    script: &[u8],
+    p: usize,
+    k: usize,
+    out: &mut [u8],
+)
+    requires { ⌜ (p ≤ mostOf) × (k ≤ mostOf) × (behindPresses p + stepBytes * k ≤ length (now script))
+        × (4 + answerBytes * (p + k) ≤ length (now out)) × (kindsFrom (now script) (behindPresses p) k ≡ true) ⌝ }
+    ensures { λ _. ⌜ ran
+        (machineOf (now (own .exit)) (now (addresses .exit)) (now (values .exit)) (now (rtc .exit)) (now (page .exit))
+        (now (at .exit)) (now (frequencies .exit)) (now (duties .exit)) (now (times .exit)) (now (codes .exit))
+        (partsIn (now (cells .exit)) (now (floats .exit)))
+        (now (ram .exit)) (now (sram .exit)) (now (gpio .exit)) (now (fb .exit))) (now (out .exit))
+        ≡ ranOf
+        (ran
+        (machineOf (now (own .entry)) (now (addresses .entry)) (now (values .entry)) (now (rtc .entry)) (now (page .entry))
+        (now (at .entry)) (now (frequencies .entry)) (now (duties .entry)) (now (times .entry)) (now (codes .entry))
+        (partsIn (now (cells .entry)) (now (floats .entry)))
+        (now (ram .entry)) (now (sram .entry)) (now (gpio .entry)) (now (fb .entry))) (now (out .entry)))
+        4
+        (entriesFrom (now (script .entry)) p (p + k) 0) ⌝ }
+{
+    run_presses(times, codes, cells, floats, script, p, out);
+    let mut from = 8 + PRESS_BYTES * p;
+    let mut to = 4 + ANSWER_BYTES * p;
+    let mut left = k;
+    while left > 0 {
+        let e = step_at(script, from);
+        act(
+            own,
+            addresses,
+            values,
+            rtc,
+            page,
+            at,
+            frequencies,
+            duties,
+            times,
+            codes,
+            cells,
+            floats,
+            ram,
+            sram,
+            gpio,
+            fb,
+            e,
+            out,
+            to,
+        );
+        from += STEP_BYTES;
+        to += ANSWER_BYTES;
+        left -= 1;
+    }
+}
+
+// From the fresh state on, a script's p presses and k steps.
 fn run_all(
     own: &mut [u32; 76],
     addresses: &mut [u32; 256],
@@ -42,11 +160,11 @@ fn run_all(
     fb: &mut [u8],
     script: &[u8],
     p: usize,
-    n: usize,
+    k: usize,
     out: &mut [u8],
 )
-    requires { ⌜ (p ≤ mostOf) × (n ≤ p + mostOf) × (behindPresses p + stepBytes * (n - p) ≤ length (now script))
-        × (4 + answerBytes * n ≤ length (now out)) × (kindsFrom (now script) (behindPresses p) (n - p) ≡ true) ⌝ }
+    requires { ⌜ (p ≤ mostOf) × (k ≤ mostOf) × (behindPresses p + stepBytes * k ≤ length (now script))
+        × (4 + answerBytes * (p + k) ≤ length (now out)) × (kindsFrom (now script) (behindPresses p) k ≡ true) ⌝ }
     ensures { λ _. ⌜ ran
         (machineOf (now (own .exit)) (now (addresses .exit)) (now (values .exit)) (now (rtc .exit)) (now (page .exit))
         (now (at .exit)) (now (frequencies .exit)) (now (duties .exit)) (now (times .exit)) (now (codes .exit))
@@ -57,7 +175,7 @@ fn run_all(
         (machine freshSystem (now (ram .entry)) (now (sram .entry)) (now (gpio .entry)) (now (fb .entry)))
         (now (out .entry)))
         4
-        (entriesFrom (now (script .entry)) p n 0) ⌝ }
+        (entriesFrom (now (script .entry)) p (p + k) 0) ⌝ }
 {
     reset(
         own,
@@ -73,31 +191,28 @@ fn run_all(
         cells,
         floats,
     );
-    let mut i: usize = 0;
-    while i < n {
-        let e = entry_at(script, p, i);
-        let answer = act(
-            own,
-            addresses,
-            values,
-            rtc,
-            page,
-            at,
-            frequencies,
-            duties,
-            times,
-            codes,
-            cells,
-            floats,
-            ram,
-            sram,
-            gpio,
-            fb,
-            e,
-        );
-        lay(out, 4 + ANSWER_BYTES * i, answer);
-        i += 1;
-    }
+    run_entries(
+        own,
+        addresses,
+        values,
+        rtc,
+        page,
+        at,
+        frequencies,
+        duties,
+        times,
+        codes,
+        cells,
+        floats,
+        ram,
+        sram,
+        gpio,
+        fb,
+        script,
+        p,
+        k,
+        out,
+    );
 }
 
 // The same, with arrays of its own for the state.
@@ -108,11 +223,11 @@ fn run_fresh(
     fb: &mut [u8],
     script: &[u8],
     p: usize,
-    n: usize,
+    k: usize,
     out: &mut [u8],
 )
-    requires { ⌜ (p ≤ mostOf) × (n ≤ p + mostOf) × (behindPresses p + stepBytes * (n - p) ≤ length (now script))
-        × (4 + answerBytes * n ≤ length (now out)) × (kindsFrom (now script) (behindPresses p) (n - p) ≡ true) ⌝ }
+    requires { ⌜ (p ≤ mostOf) × (k ≤ mostOf) × (behindPresses p + stepBytes * k ≤ length (now script))
+        × (4 + answerBytes * (p + k) ≤ length (now out)) × (kindsFrom (now script) (behindPresses p) k ≡ true) ⌝ }
     ensures { λ _. ⌜ ended 0 (now (ram .exit)) (now (sram .exit)) (now (gpio .exit)) (now (fb .exit))
         (now (out .exit))
         ≡ endOf
@@ -121,7 +236,7 @@ fn run_fresh(
         (machine freshSystem (now (ram .entry)) (now (sram .entry)) (now (gpio .entry)) (now (fb .entry)))
         (now (out .entry)))
         4
-        (entriesFrom (now (script .entry)) p n 0)) ⌝ }
+        (entriesFrom (now (script .entry)) p (p + k) 0)) ⌝ }
 {
     let mut own = [0u32; 76];
     let mut addresses = [0u32; 256];
@@ -154,7 +269,7 @@ fn run_fresh(
         fb,
         script,
         p,
-        n,
+        k,
         out,
     );
 }
@@ -177,11 +292,11 @@ pub fn run(
         return 10;
     }
     let p = presses(script);
-    let n = p + steps(script, p);
-    if out.len() < 4 + ANSWER_BYTES * n {
+    let k = steps(script, p);
+    if out.len() < 4 + ANSWER_BYTES * (p + k) {
         return 11;
     }
-    memory::store(out, 0, 4, n as u32);
-    run_fresh(ram, sram, gpio, fb, script, p, n, out);
+    memory::store(out, 0, 4, (p + k) as u32);
+    run_fresh(ram, sram, gpio, fb, script, p, k, out);
     0
 }

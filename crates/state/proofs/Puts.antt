@@ -1,16 +1,19 @@
 -- What a put of one part leaves: the words it says and no others, and so the parts with this one replaced; and a packed bank packed.
 use Prim.Native.Nat.{ℕ, zero, suc, _+_, _^_, _<_, _≤_}
 use mathlib.Core.Path.{_≡_, refl, sym, ap, _∙_}
-use mathlib.Core.Bool.{Bool}
+use mathlib.Core.Bool.{Bool, false}
 use mathlib.Core.List.{List, [], _∷_}
 use native.Mathlib.Omega.{arith}
 use native.Mathlib.Nat.{mod-eq-of-lt}
 use lib.ListN.{length, getD, set}
-use borrow.Author.Tests.{lt-ltb, le-ltb}
+use borrow.Author.Tests.{lt-ltb, le-ltb, ne-eqb}
+use lib.Dec.{eqb, ltb}
 use lib.Ieee.{Float, nan}
 use Rattle.whole.specs.Forms.{bit}
 use Rattle.flash.specs.declared.Chip.{Chip}
+use Rattle.flash.specs.declared.Trans.{Trans}
 use Rattle.panel.specs.declared.Panel.{Panel}
+use Rattle.panel.specs.declared.Pen.{Pen}
 use Rattle.clock.specs.declared.Times.{Times}
 use Rattle.clock.specs.declared.Latch.{Latch}
 use Rattle.clock.specs.declared.RtcIrq.{RtcIrq}
@@ -19,9 +22,9 @@ use Rattle.timer.specs.declared.Tone.{Tone}
 use Rattle.timer.specs.declared.Ring.{Ring}
 use Rattle.keys.specs.declared.Keys.{Keys}
 use Rattle.state.specs.declared.Parts.{Parts}
-use Rattle.state.specs.Parts.{none, flashPut, panelPut, timesPut, timerPut, irqPut, vsyncPut, convertingPut, latchPut, tonePut, offPut, ringPut, keysPut, countPut, appliedPut}
+use Rattle.state.specs.Parts.{none, flashPut, sentPut, panelPut, penPut, timesPut, turboPut, timerPut, irqPut, vsyncPut, convertingPut, latchPut, tonePut, offPut, ringPut, keysPut, countPut, livePut, holdPut, appliedPut}
 use Rattle.state.specs.Bank.{cellCount, floatCount, heldIn, chipIn, panelIn, timesIn, timerIn, timersIn, irqIn, latchIn, toneIn, ringIn, keysIn, partsIn}
-use Rattle.state.specs.Packed.{modeNumber, heldNumber, chipCells, panelCells, clockCells, keyCells, cellsOf, timesFloats, floatsOf, laidAt, Put, timerCells, timerFloats}
+use Rattle.state.specs.Packed.{modeNumber, heldNumber, chipCells, sentCells, panelCells, penCells, clockCells, keyCells, cellsOf, timesFloats, floatsOf, laidAt, Put, timerCells, timerFloats, liveCells, holdFloats}
 use Rattle.state.proofs.Spread.{spread, spread-is}
 use Rattle.state.proofs.Words.{flag-bit, mode-number}
 
@@ -42,74 +45,84 @@ put-of g W U l f {l′} {f′} a b p s t =
           };
     }
 
+-- the same where another put, from words m on, puts the last of them
+put-behind : (g : Parts → Parts) (W : List ℕ → List ℕ) (l : List ℕ) {m : List ℕ} (f : List Float) {l′ w : List ℕ} {x : Parts} → Put m f l′ f w f x
+    → w ≡ W l → x ≡ g (partsIn l f) → cellsOf (g (partsIn l f)) ≡ W (cellsOf (partsIn l f)) → floatsOf (g (partsIn l f)) ≡ floatsOf (partsIn l f)
+    → Put l f l′ f (W l) f (g (partsIn l f))
+put-behind g W l f p a b s t =
+    put-of g W (λ v. v) l f (p .cells ∙ a) refl (ap (λ (z : List ℕ). partsIn z f) (sym (p .cells ∙ a)) ∙ p .parts ∙ b) s t
+
 module _ (l : List ℕ) (long : length l ≡ cellCount) (f : List Float) where
-  pub chip-put : (x : Chip) (a b c d : ℕ) → a ≡ modeNumber (x .mode) → b ≡ bit (x .cs) → c ≡ bit (x .wel) → d ≡ bit (x .tx .long)
-      → x .rx < 256 → x .tx .cmd < 256 → x .tx .a1 < 256 → x .tx .a2 < 256 → x .tx .a3 < 256
-      → Put l f
-      (set (set (set (set (set (set (set (set (set (set (set l 0 a) 1 b) 2 c) 3 (x .writes)) 4 (x .rx)) 5 (x .tx .cmd)) 6 (x .tx .a1)) 7 (x .tx .a2)) 8 (x .tx .a3)) 9 (x .tx .pos)) 10 d)
-      f (laidAt l 0 (chipCells x)) f (flashPut (partsIn l f) x)
-  unfolding chipIn panelIn timesIn timerIn irqIn latchIn toneIn ringIn keysIn spread laidAt chipCells panelCells clockCells keyCells cellsOf floatsOf timesFloats
-  chip-put x a b c d h i j k m n o p q =
-      put-of (λ y. flashPut y x) (λ m. laidAt m 0 (chipCells x)) (λ v. v) l f
-      (rw (spread-is 0 l cellCount long, h, i, j, k))
+  pub sent-put : (rx : ℕ) (x : Trans) (a : ℕ) → a ≡ bit (x .long) → rx < 256 → x .cmd < 256 → x .a1 < 256 → x .a2 < 256 → x .a3 < 256
+      → Put l f (set (set (set (set (set (set (set l 4 rx) 5 (x .cmd)) 6 (x .a1)) 7 (x .a2)) 8 (x .a3)) 9 (x .pos)) 10 a) f
+      (laidAt l 4 (sentCells rx x)) f (sentPut (partsIn l f) rx x)
+  unfolding chipIn panelIn timesIn timerIn irqIn latchIn toneIn ringIn keysIn spread laidAt chipCells panelCells clockCells keyCells cellsOf floatsOf timesFloats sentCells
+  sent-put rx x a h m n o p q =
+      put-of (λ y. sentPut y rx x) (λ z. laidAt z 4 (sentCells rx x)) (λ v. v) l f
+      (rw (spread-is 0 l cellCount long, h))
       refl
-      (rw (spread-is 0 l cellCount long, mode-number, flag-bit, flag-bit, flag-bit, mod-eq-of-lt m, mod-eq-of-lt n, mod-eq-of-lt o, mod-eq-of-lt p, mod-eq-of-lt q))
+      (rw (spread-is 0 l cellCount long, flag-bit, mod-eq-of-lt m, mod-eq-of-lt n, mod-eq-of-lt o, mod-eq-of-lt p, mod-eq-of-lt q))
       refl
       refl
 
-  panel-laid : (x : Panel) (a b c d e g : ℕ) → heldIn a ≡ x .cmd → length (x .args) ≡ 4 → b ≡ getD (x .args) 0 0 → c ≡ getD (x .args) 1 0 → d ≡ getD (x .args) 2 0 → e ≡ getD (x .args) 3 0
-      → b < 256 → c < 256 → d < 256 → e < 256 → heldIn g ≡ x .pen .half → x .count < 256
-      → x .window .x0 < 65536 → x .window .x1 < 65536 → x .window .y0 < 65536 → x .window .y1 < 65536 → x .pen .x < 65536 → x .pen .y < 65536
-      → partsIn
-      (set (set (set (set (set (set (set (set (set (set (set (set (set (set l 11 a) 12 b) 13 c) 14 d) 15 e) 16 (x .count)) 17 (x .window .x0)) 18 (x .window .x1)) 19 (x .window .y0)) 20 (x .window .y1)) 21 (x .pen .x)) 22 (x .pen .y)) 23 g) 24 (x .pen .frames))
-      f ≡ panelPut (partsIn l f) x
-  unfolding chipIn panelIn timesIn timerIn irqIn latchIn toneIn ringIn keysIn spread
-  panel-laid x a b c d e g h four i j k m n o p q r s t u v w y z =
-      rw (
-        spread-is 0 l cellCount long,
-        h,
-        mod-eq-of-lt n,
-        mod-eq-of-lt o,
-        mod-eq-of-lt p,
-        mod-eq-of-lt q,
-        i,
-        j,
-        k,
-        m,
-        ← spread-is 0 (x .args) 4 four,
-        r,
-        mod-eq-of-lt s,
-        mod-eq-of-lt t,
-        mod-eq-of-lt u,
-        mod-eq-of-lt v,
-        mod-eq-of-lt w,
-        mod-eq-of-lt y,
-        mod-eq-of-lt z,
-      )
+  pub chip-put : (x : Chip) (a b c : ℕ) {l′ : List ℕ} → a ≡ modeNumber (x .mode) → b ≡ bit (x .cs) → c ≡ bit (x .wel)
+      → Put (set (set (set (set l 0 a) 1 b) 2 c) 3 (x .writes)) f l′ f (laidAt (set (set (set (set l 0 a) 1 b) 2 c) 3 (x .writes)) 4 (sentCells (x .rx) (x .tx))) f
+      (sentPut (partsIn (set (set (set (set l 0 a) 1 b) 2 c) 3 (x .writes)) f) (x .rx) (x .tx))
+      → Put l f l′ f (laidAt l 0 (chipCells x)) f (flashPut (partsIn l f) x)
+  unfolding chipIn panelIn timesIn timerIn irqIn latchIn toneIn ringIn keysIn spread laidAt chipCells panelCells clockCells keyCells cellsOf floatsOf timesFloats sentCells
+  chip-put x a b c h i j p =
+      put-behind (λ y. flashPut y x) (λ z. laidAt z 0 (chipCells x)) l f p
+      (rw (spread-is 0 l cellCount long, h, i, j))
+      (rw (spread-is 0 l cellCount long, h, i, j, mode-number, flag-bit, flag-bit))
+      refl
+      refl
 
-  panel-words : (x : Panel) (a b c d e g : ℕ) → a ≡ heldNumber (x .cmd) → b ≡ getD (x .args) 0 0 → c ≡ getD (x .args) 1 0 → d ≡ getD (x .args) 2 0 → e ≡ getD (x .args) 3 0 → g ≡ heldNumber (x .pen .half)
-      → (set (set (set (set (set (set (set (set (set (set (set (set (set (set l 11 a) 12 b) 13 c) 14 d) 15 e) 16 (x .count)) 17 (x .window .x0)) 18 (x .window .x1)) 19 (x .window .y0)) 20 (x .window .y1)) 21 (x .pen .x)) 22 (x .pen .y)) 23 g) 24 (x .pen .frames))
-      ≡ laidAt l 11 (panelCells x)
-  unfolding spread laidAt panelCells
-  panel-words x a b c d e g h i j k m n = rw (spread-is 0 l cellCount long, h, i, j, k, m, n)
+  pub pen-put : (x : Pen) (a : ℕ) → (a ≡ heldNumber (x .half)) × (heldIn a ≡ x .half) → x .x < 65536 → x .y < 65536
+      → Put l f (set (set (set (set l 21 (x .x)) 22 (x .y)) 23 a) 24 (x .frames)) f (laidAt l 21 (penCells x)) f (penPut (partsIn l f) x)
+  unfolding chipIn panelIn timesIn timerIn irqIn latchIn toneIn ringIn keysIn spread laidAt chipCells panelCells clockCells keyCells cellsOf floatsOf timesFloats penCells
+  pen-put x a h m n =
+      put-of (λ y. penPut y x) (λ z. laidAt z 21 (penCells x)) (λ v. v) l f
+      (rw (spread-is 0 l cellCount long, h .0))
+      refl
+      (rw (spread-is 0 l cellCount long, ← h .0, h .1, mod-eq-of-lt m, mod-eq-of-lt n))
+      refl
+      refl
 
-  pub panel-put : (x : Panel) (a b c d e g : ℕ) → (a ≡ heldNumber (x .cmd)) × (heldIn a ≡ x .cmd) → length (x .args) ≡ 4
-      → (b ≡ getD (x .args) 0 0) × (b < 256) → (c ≡ getD (x .args) 1 0) × (c < 256) → (d ≡ getD (x .args) 2 0) × (d < 256) → (e ≡ getD (x .args) 3 0) × (e < 256)
-      → (g ≡ heldNumber (x .pen .half)) × (heldIn g ≡ x .pen .half) → x .count < 256
-      → x .window .x0 < 65536 → x .window .x1 < 65536 → x .window .y0 < 65536 → x .window .y1 < 65536 → x .pen .x < 65536 → x .pen .y < 65536
-      → Put l f
-      (set (set (set (set (set (set (set (set (set (set (set (set (set (set l 11 a) 12 b) 13 c) 14 d) 15 e) 16 (x .count)) 17 (x .window .x0)) 18 (x .window .x1)) 19 (x .window .y0)) 20 (x .window .y1)) 21 (x .pen .x)) 22 (x .pen .y)) 23 g) 24 (x .pen .frames))
-      f (laidAt l 11 (panelCells x)) f (panelPut (partsIn l f) x)
-  unfolding laidAt chipCells panelCells clockCells keyCells cellsOf floatsOf timesFloats
-  panel-put x a b c d e g h four i j k m n o p q r s t u =
-      let words = panel-words x a b c d e g (h .0) (i .0) (j .0) (k .0) (m .0) (n .0) in
-      put-of (λ y. panelPut y x) (λ z. laidAt z 11 (panelCells x)) (λ v. v) l f
-      words
-      refl
-      (ap (λ (z : List ℕ). partsIn z f) (sym words)
-      ∙ panel-laid x a b c d e g (h .1) four (i .0) (j .0) (k .0) (m .0) (i .1) (j .1) (k .1) (m .1) (n .1) o p q r s t u)
-      refl
-      refl
+  module _ (x : Panel) (a b c d e : ℕ) where
+    -- the panel's words before the pen's
+    abbrev begun : List ℕ
+    begun =
+        set (set (set (set (set (set (set (set (set (set l 11 a) 12 b) 13 c) 14 d) 15 e) 16 (x .count)) 17 (x .window .x0)) 18 (x .window .x1)) 19 (x .window .y0)) 20 (x .window .y1)
+
+    pub panel-put : {l′ : List ℕ} → (a ≡ heldNumber (x .cmd)) × (heldIn a ≡ x .cmd) → length (x .args) ≡ 4
+        → (b ≡ getD (x .args) 0 0) × (b < 256) → (c ≡ getD (x .args) 1 0) × (c < 256) → (d ≡ getD (x .args) 2 0) × (d < 256) → (e ≡ getD (x .args) 3 0) × (e < 256)
+        → x .count < 256 → x .window .x0 < 65536 → x .window .x1 < 65536 → x .window .y0 < 65536 → x .window .y1 < 65536
+        → Put begun f l′ f (laidAt begun 21 (penCells (x .pen))) f (penPut (partsIn begun f) (x .pen))
+        → Put l f l′ f (laidAt l 11 (panelCells x)) f (panelPut (partsIn l f) x)
+    unfolding chipIn panelIn timesIn timerIn irqIn latchIn toneIn ringIn keysIn spread laidAt chipCells panelCells clockCells keyCells cellsOf floatsOf timesFloats penCells
+    panel-put h four i j k m n o q r s p =
+        put-behind (λ y. panelPut y x) (λ z. laidAt z 11 (panelCells x)) l f p
+        (rw (spread-is 0 l cellCount long, h .0, i .0, j .0, k .0, m .0))
+        (rw (
+          spread-is 0 l cellCount long,
+          h .1,
+          mod-eq-of-lt (i .1),
+          mod-eq-of-lt (j .1),
+          mod-eq-of-lt (k .1),
+          mod-eq-of-lt (m .1),
+          i .0,
+          j .0,
+          k .0,
+          m .0,
+          ← spread-is 0 (x .args) 4 four,
+          mod-eq-of-lt n,
+          mod-eq-of-lt o,
+          mod-eq-of-lt q,
+          mod-eq-of-lt r,
+          mod-eq-of-lt s,
+        ))
+        refl
+        refl
 
   pub vsync-put : (n : ℕ) → Put l f (set l 39 n) f (set l 39 n) f (vsyncPut (partsIn l f) n)
   unfolding chipIn panelIn timesIn timerIn irqIn latchIn toneIn ringIn keysIn spread laidAt chipCells panelCells clockCells keyCells cellsOf floatsOf timesFloats
@@ -148,6 +161,10 @@ module _ (f : List Float) (wide : length f ≡ floatCount) (l : List ℕ) where
   unfolding chipIn panelIn timesIn timerIn irqIn latchIn toneIn ringIn keysIn spread laidAt chipCells panelCells clockCells keyCells cellsOf floatsOf timesFloats
   times-put x =
       put-of (λ y. timesPut y x) (λ m. m) (λ v. laidAt v 0 (timesFloats x)) l f refl (rw (spread-is nan f floatCount wide)) (rw (spread-is nan f floatCount wide)) refl refl
+
+  pub turbo-put : (x : Float) → Put l f l (set f 2 x) l (set f 2 x) (turboPut (partsIn l f) x)
+  unfolding chipIn panelIn timesIn timerIn irqIn latchIn toneIn ringIn keysIn spread laidAt chipCells panelCells clockCells keyCells cellsOf floatsOf timesFloats
+  turbo-put x = put-of (λ y. turboPut y x) (λ m. m) (λ v. set v 2 x) l f refl refl (rw (spread-is nan f floatCount wide)) refl refl
 
   pub tone-put : (x : Tone)
       → Put l f l (set (set f 11 (x .frequency)) 12 (x .duty)) l (laidAt f 11 (x .frequency ∷ x .duty ∷ [])) (tonePut (partsIn l f) x)
@@ -262,3 +279,48 @@ timer-none l f (suc (suc zero)) h = absurd (omega arith)
 timer-none l f (suc (suc (suc zero))) h = absurd (omega arith)
 timer-none l f (suc (suc (suc (suc zero)))) h = absurd (omega arith)
 timer-none l f (suc (suc (suc (suc (suc zero))))) h = absurd (omega arith)
+
+-- ---- one key of the three; there is no other
+
+no-key : (key : ℕ) → 3 ≤ key → (eqb key 0 ≡ false) × (eqb key 1 ≡ false) × (eqb key 2 ≡ false) × (ltb key 3 ≡ false)
+no-key key h = (ne-eqb key 0 (λ e. omega arith), ne-eqb key 1 (λ e. omega arith), ne-eqb key 2 (λ e. omega arith), le-ltb key 3 h)
+
+module _ (l : List ℕ) (long : length l ≡ cellCount) (f : List Float) (down : Bool) where
+  live-laid : (key : ℕ) → partsIn (liveCells l key down) f ≡ livePut (partsIn l f) key down
+  unfolding chipIn panelIn timesIn timerIn irqIn latchIn toneIn ringIn keysIn spread liveCells
+  live-laid zero = rw (spread-is 0 l cellCount long, flag-bit)
+  live-laid (suc zero) = rw (spread-is 0 l cellCount long, flag-bit)
+  live-laid (suc (suc zero)) = rw (spread-is 0 l cellCount long, flag-bit)
+  live-laid (suc (suc (suc key))) = let n = no-key (suc (suc (suc key))) (omega arith) in rw (n .0, n .1, n .2, n .3)
+
+  live-words : (x : Parts) (key : ℕ) → cellsOf (livePut x key down) ≡ liveCells (cellsOf x) key down
+  unfolding chipCells panelCells clockCells keyCells cellsOf liveCells
+  live-words x zero = refl
+  live-words x (suc zero) = refl
+  live-words x (suc (suc zero)) = refl
+  live-words x (suc (suc (suc key))) = let n = no-key (suc (suc (suc key))) (omega arith) in rw (n .0, n .1, n .2, n .3)
+
+  pub live-put : (key : ℕ) {l′ : List ℕ} → l′ ≡ liveCells l key down → Put l f l′ f (liveCells l key down) f (livePut (partsIn l f) key down)
+  unfolding floatsOf
+  live-put key e =
+      put-of (λ y. livePut y key down) (λ m. liveCells m key down) (λ v. v) l f e refl (live-laid key) (live-words (partsIn l f) key) refl
+
+module _ (f : List Float) (wide : length f ≡ floatCount) (l : List ℕ) (until : Float) where
+  hold-laid : (key : ℕ) → partsIn l (holdFloats f key until) ≡ holdPut (partsIn l f) key until
+  unfolding timesIn timerIn irqIn latchIn toneIn keysIn spread holdFloats
+  hold-laid zero = rw (spread-is nan f floatCount wide)
+  hold-laid (suc zero) = rw (spread-is nan f floatCount wide)
+  hold-laid (suc (suc zero)) = rw (spread-is nan f floatCount wide)
+  hold-laid (suc (suc (suc key))) = let n = no-key (suc (suc (suc key))) (omega arith) in rw (n .0, n .1, n .2, n .3)
+
+  hold-words : (x : Parts) (key : ℕ) → floatsOf (holdPut x key until) ≡ holdFloats (floatsOf x) key until
+  unfolding floatsOf timesFloats holdFloats
+  hold-words x zero = refl
+  hold-words x (suc zero) = refl
+  hold-words x (suc (suc zero)) = refl
+  hold-words x (suc (suc (suc key))) = let n = no-key (suc (suc (suc key))) (omega arith) in rw (n .0, n .1, n .2, n .3)
+
+  pub hold-put : (key : ℕ) {f′ : List Float} → f′ ≡ holdFloats f key until → Put l f l f′ l (holdFloats f key until) (holdPut (partsIn l f) key until)
+  unfolding cellsOf keyCells
+  hold-put key e =
+      put-of (λ y. holdPut y key until) (λ m. m) (λ v. holdFloats v key until) l f refl e (hold-laid key) refl (hold-words (partsIn l f) key)

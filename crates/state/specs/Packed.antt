@@ -7,15 +7,17 @@ use mathlib.Core.Logic.{_≢_}
 use mathlib.Core.List.{List, [], _∷_, _++_}
 use lib.ListN.{length, getD, set, take, drop}
 use lib.Dec.{ltb}
-use mathlib.Core.Bool.{cond}
+use mathlib.Core.Bool.{Bool, cond}
 use lib.Ieee.{Float}
 use Rattle.whole.specs.Forms.{bit}
 use Rattle.flash.specs.declared.Mode.{Mode}
 use Rattle.flash.specs.declared.Mode.the-variants.{Rust, Strict}
 use Rattle.flash.specs.declared.Chip.{Chip}
+use Rattle.flash.specs.declared.Trans.{Trans}
 use Rattle.panel.specs.declared.Held.{Held}
 use Rattle.panel.specs.declared.Held.the-variants.{Nothing, Byte}
 use Rattle.panel.specs.declared.Panel.{Panel}
+use Rattle.panel.specs.declared.Pen.{Pen}
 use Rattle.clock.specs.declared.Times.{Times}
 use Rattle.timer.specs.declared.Timer.{Timer}
 use Rattle.keys.specs.declared.Keys.{Keys}
@@ -51,6 +53,10 @@ chipCells c =
     ∷ bit (c .tx .long)
     ∷ []
 
+-- of these the flash's answer and transaction
+unfoldable pub sentCells : ℕ → Trans → List ℕ
+sentCells rx tx = rx ∷ tx .cmd ∷ tx .a1 ∷ tx .a2 ∷ tx .a3 ∷ tx .pos ∷ bit (tx .long) ∷ []
+
 unfoldable pub panelCells : Panel → List ℕ
 panelCells p =
     heldNumber (p .cmd)
@@ -68,6 +74,10 @@ panelCells p =
     ∷ heldNumber (p .pen .half)
     ∷ p .pen .frames
     ∷ []
+
+-- of these the pen's
+unfoldable pub penCells : Pen → List ℕ
+penCells p = p .x ∷ p .y ∷ heldNumber (p .half) ∷ p .frames ∷ []
 
 -- f of each of the six timers
 abbrev pub ofTimers : {A : Type 0} → (Timer → A) → List Timer → List A
@@ -151,3 +161,10 @@ timerCells l n t = cond (ltb n 6) (set (set l (25 + n) (t .seen)) (31 + n) (bit 
 
 unfoldable pub timerFloats : List Float → ℕ → Timer → List Float
 timerFloats f n t = cond (ltb n 6) (set f (3 + n) (t .start)) f
+
+-- key 0, 1 or 2; there is no other
+unfoldable pub liveCells : List ℕ → ℕ → Bool → List ℕ
+liveCells l key down = cond (ltb key 3) (set l (47 + key) (bit down)) l
+
+unfoldable pub holdFloats : List Float → ℕ → Float → List Float
+holdFloats f key until = cond (ltb key 3) (set f (13 + key) until) f

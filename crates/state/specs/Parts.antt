@@ -3,9 +3,12 @@ use Prim.Native.Nat.{ℕ}
 use mathlib.Core.Bool.{Bool, false}
 use mathlib.Core.List.{List}
 use lib.ListN.{set}
-use lib.Ieee.{nan}
+use lib.Ieee.{Float, nan}
 use Rattle.flash.specs.declared.Chip.{Chip}
+use Rattle.flash.specs.declared.Trans.{Trans}
 use Rattle.panel.specs.declared.Panel.{Panel}
+use Rattle.panel.specs.declared.Pen.{Pen}
+use Rattle.panel.specs.Lcd.{withPen}
 use Rattle.clock.specs.declared.Times.{Times}
 use Rattle.clock.specs.declared.Latch.{Latch}
 use Rattle.clock.specs.declared.RtcIrq.{RtcIrq}
@@ -14,6 +17,7 @@ use Rattle.timer.specs.declared.Tone.{Tone}
 use Rattle.timer.specs.declared.Ring.{Ring}
 use Rattle.keys.specs.declared.Keys.{Keys}
 use Rattle.keys.specs.Within.{withCount, withApplied}
+use Rattle.keys.specs.Live.{heldWith, holdsWith, withLive, withHolds}
 use Rattle.state.specs.declared.Clocks.{Clocks}
 use Rattle.state.specs.declared.Devices.{Devices}
 use Rattle.state.specs.declared.Parts.{Parts}
@@ -26,6 +30,9 @@ none = record { start = nan; seen = 0; pending = false }
 
 abbrev pub clocksOf : Times → List Timer → RtcIrq → ℕ → Bool → Clocks
 clocksOf t ts i n b = record { times = t; timers = ts; irq = i; vsync = n; converting = b }
+
+abbrev pub turboWith : Times → Float → Times
+turboWith t turbo = record { now = t .now; game = t .game; turbo = turbo }
 
 abbrev pub timesWith : Clocks → Times → Clocks
 timesWith c times = clocksOf times (c .timers) (c .irq) (c .vsync) (c .converting)
@@ -46,6 +53,10 @@ abbrev pub convertingWith : Clocks → Bool → Clocks
 convertingWith c converting = clocksOf (c .times) (c .timers) (c .irq) (c .vsync) converting
 
 -- ---- the devices
+
+-- what a transfer changes of the flash: its answer and the transaction
+abbrev pub sentWith : Chip → ℕ → Trans → Chip
+sentWith c rx tx = record { mode = c .mode; cs = c .cs; wel = c .wel; writes = c .writes; rx = rx; tx = tx }
 
 abbrev pub devicesOf : Chip → Panel → Clocks → Latch → Tone → Bool → Devices
 devicesOf f p c l t o = record { flash = f; panel = p; clocks = c; latch = l; tone = t; off = o }
@@ -79,14 +90,23 @@ devicesPut x d = parts d (x .ring) (x .keys)
 abbrev pub flashPut : Parts → Chip → Parts
 flashPut x c = devicesPut x (withFlash (x .devices) c)
 
+abbrev pub sentPut : Parts → ℕ → Trans → Parts
+sentPut x rx tx = flashPut x (sentWith (x .devices .flash) rx tx)
+
 abbrev pub panelPut : Parts → Panel → Parts
 panelPut x p = devicesPut x (withPanel (x .devices) p)
+
+abbrev pub penPut : Parts → Pen → Parts
+penPut x p = panelPut x (withPen (x .devices .panel) p)
 
 abbrev pub clocksPut : Parts → Clocks → Parts
 clocksPut x c = devicesPut x (withClocks (x .devices) c)
 
 abbrev pub timesPut : Parts → Times → Parts
 timesPut x t = clocksPut x (timesWith (x .devices .clocks) t)
+
+abbrev pub turboPut : Parts → Float → Parts
+turboPut x turbo = timesPut x (turboWith (x .devices .clocks .times) turbo)
 
 abbrev pub timersPut : Parts → List Timer → Parts
 timersPut x ts = clocksPut x (timersWith (x .devices .clocks) ts)
@@ -120,6 +140,13 @@ keysPut x k = parts (x .devices) (x .ring) k
 
 abbrev pub countPut : Parts → ℕ → Parts
 countPut x n = keysPut x (withCount (x .keys) n)
+
+-- key 0, 1 or 2; there is no other
+abbrev pub livePut : Parts → ℕ → Bool → Parts
+livePut x key down = keysPut x (withLive (x .keys) (heldWith (x .keys .live) key down))
+
+abbrev pub holdPut : Parts → ℕ → Float → Parts
+holdPut x key until = keysPut x (withHolds (x .keys) (holdsWith (x .keys .holds) key until))
 
 abbrev pub appliedPut : Parts → ℕ → Parts
 appliedPut x n = keysPut x (withApplied (x .keys) n)

@@ -1,8 +1,8 @@
 // The flash's scalars.
 ghost use mathlib.Core.Path.{_≡_};
-ghost use Rattle.state.specs.Parts.{flashPut};
+ghost use Rattle.state.specs.Parts.{flashPut, sentPut};
 ghost use Rattle.state.specs.Bank.{modeIn, chipIn};
-ghost use Rattle.state.specs.Packed.{modeNumber, chipCells, laidAt, CellsPut};
+ghost use Rattle.state.specs.Packed.{modeNumber, chipCells, sentCells, laidAt, CellsPut};
 use crate::Cells;
 use crate::numbers::byte;
 use crate::numbers::index;
@@ -59,24 +59,32 @@ pub fn chip_of(cells: &Cells) -> Chip
     }
 }
 
-pub fn put_chip(cells: &mut Cells, chip: Chip)
+// The answer and the transaction, which are all that a transfer changes.
+pub fn put_sent(cells: &mut Cells, rx: u8, tx: Trans)
     ensures { λ _. ⌜ CellsPut (now (cells .entry)) (now (cells .exit))
-        (laidAt (now (cells .entry)) 0 (chipCells chip)) (λ x. flashPut x chip) ⌝ }
+        (laidAt (now (cells .entry)) 4 (sentCells rx tx)) (λ x. sentPut x rx tx) ⌝ }
 {
     crate::sized::cells_long(cells);
-    let mode = chip.mode;
-    let tx = chip.tx;
-    cells[MODE] = mode_number(mode);
-    cells[CS] = flag(chip.cs);
-    cells[WEL] = flag(chip.wel);
-    cells[WRITES] = chip.writes;
-    cells[RX] = chip.rx as u64;
+    cells[RX] = rx as u64;
     cells[CMD] = tx.cmd as u64;
     cells[A1] = tx.a1 as u64;
     cells[A2] = tx.a2 as u64;
     cells[A3] = tx.a3 as u64;
     cells[POS] = tx.pos as u64;
     cells[LONG] = flag(tx.long);
+}
+
+pub fn put_chip(cells: &mut Cells, chip: Chip)
+    ensures { λ _. ⌜ CellsPut (now (cells .entry)) (now (cells .exit))
+        (laidAt (now (cells .entry)) 0 (chipCells chip)) (λ x. flashPut x chip) ⌝ }
+{
+    crate::sized::cells_long(cells);
+    let mode = chip.mode;
+    cells[MODE] = mode_number(mode);
+    cells[CS] = flag(chip.cs);
+    cells[WEL] = flag(chip.wel);
+    cells[WRITES] = chip.writes;
+    put_sent(cells, chip.rx, chip.tx);
 }
 
 pub fn rx_of(cells: &Cells) -> u8

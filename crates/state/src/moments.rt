@@ -4,7 +4,7 @@ ghost use mathlib.Core.List.{List, [], _∷_};
 ghost use lib.Ieee.{Float};
 ghost use lib.ListN.{getD, set};
 ghost use Rattle.whole.specs.Forms.{bit};
-ghost use Rattle.state.specs.Parts.{none, timesPut, timerPut, irqPut, vsyncPut, convertingPut};
+ghost use Rattle.state.specs.Parts.{none, timesPut, turboPut, timerPut, irqPut, vsyncPut, convertingPut};
 ghost use Rattle.state.specs.Bank.{timesIn, timersIn, irqIn, clocksIn, partsIn};
 ghost use Rattle.state.specs.Packed.{timesFloats, timerCells, timerFloats, laidAt, Put, CellsPut, FloatsPut};
 use crate::Cells;
@@ -45,6 +45,14 @@ pub fn put_times(floats: &mut Floats, times: Times)
     floats[NOW] = times.now;
     floats[GAME] = times.game;
     floats[TURBO] = times.turbo;
+}
+
+pub fn put_turbo(floats: &mut Floats, turbo: f64)
+    ensures { λ _. ⌜ FloatsPut (now (floats .entry)) (now (floats .exit)) (set (now (floats .entry)) 2 turbo)
+        (λ x. turboPut x turbo) ⌝ }
+{
+    crate::sized::floats_long(floats);
+    floats[TURBO] = turbo;
 }
 
 // Timer n of the six; past them one that never ran.

@@ -1,9 +1,9 @@
 // The panel's scalars.
 ghost use mathlib.Core.Path.{_≡_};
 ghost use Prim.Native.Nat.{_<_};
-ghost use Rattle.state.specs.Parts.{panelPut};
+ghost use Rattle.state.specs.Parts.{panelPut, penPut};
 ghost use Rattle.state.specs.Bank.{heldIn, panelIn};
-ghost use Rattle.state.specs.Packed.{heldNumber, panelCells, laidAt, CellsPut};
+ghost use Rattle.state.specs.Packed.{heldNumber, panelCells, penCells, laidAt, CellsPut};
 use crate::Cells;
 use crate::numbers::byte;
 use crate::numbers::half;
@@ -50,29 +50,47 @@ fn wide(b: u8) -> u64
     b as u64
 }
 
+pub fn order_of(cells: &Cells) -> Held
+    ensures { λ r. ⌜ r ≡ panelIn (now (cells .entry)) .cmd ⌝ }
+{
+    held_of(cells[ORDER])
+}
+
+pub fn window_of(cells: &Cells) -> Window
+    ensures { λ r. ⌜ r ≡ panelIn (now (cells .entry)) .window ⌝ }
+{
+    Window {
+        x0: half(cells[X0]),
+        x1: half(cells[X1]),
+        y0: half(cells[Y0]),
+        y1: half(cells[Y1]),
+    }
+}
+
+pub fn pen_of(cells: &Cells) -> Pen
+    ensures { λ r. ⌜ r ≡ panelIn (now (cells .entry)) .pen ⌝ }
+{
+    let half_byte = held_of(cells[HALF]);
+    Pen {
+        x: half(cells[X]),
+        y: half(cells[Y]),
+        half: half_byte,
+        frames: cells[FRAMES],
+    }
+}
+
 pub fn panel_of(cells: &Cells) -> Panel
     ensures { λ r. ⌜ r ≡ panelIn (now (cells .entry)) ⌝ }
 {
-    let cmd = held_of(cells[ORDER]);
+    let cmd = order_of(cells);
     let args = [
         byte(cells[ARG0]),
         byte(cells[ARG1]),
         byte(cells[ARG2]),
         byte(cells[ARG3]),
     ];
-    let window = Window {
-        x0: half(cells[X0]),
-        x1: half(cells[X1]),
-        y0: half(cells[Y0]),
-        y1: half(cells[Y1]),
-    };
-    let half_byte = held_of(cells[HALF]);
-    let pen = Pen {
-        x: half(cells[X]),
-        y: half(cells[Y]),
-        half: half_byte,
-        frames: cells[FRAMES],
-    };
+    let window = window_of(cells);
+    let pen = pen_of(cells);
     Panel {
         cmd,
         args,
@@ -80,6 +98,19 @@ pub fn panel_of(cells: &Cells) -> Panel
         window,
         pen,
     }
+}
+
+// The pen alone, which is all that a byte of a pixel changes.
+pub fn put_pen(cells: &mut Cells, pen: Pen)
+    ensures { λ _. ⌜ CellsPut (now (cells .entry)) (now (cells .exit))
+        (laidAt (now (cells .entry)) 21 (penCells pen)) (λ x. penPut x pen) ⌝ }
+{
+    crate::sized::cells_long(cells);
+    let half_byte = pen.half;
+    cells[X] = pen.x as u64;
+    cells[Y] = pen.y as u64;
+    cells[HALF] = held_number(half_byte);
+    cells[FRAMES] = pen.frames;
 }
 
 pub fn put_panel(cells: &mut Cells, panel: Panel)
@@ -91,8 +122,6 @@ pub fn put_panel(cells: &mut Cells, panel: Panel)
     let args = panel.args;
     crate::sized::four_long(args);
     let window = panel.window;
-    let pen = panel.pen;
-    let half_byte = pen.half;
     cells[ORDER] = held_number(cmd);
     cells[ARG0] = wide(args[0]);
     cells[ARG1] = wide(args[1]);
@@ -103,10 +132,7 @@ pub fn put_panel(cells: &mut Cells, panel: Panel)
     cells[X1] = window.x1 as u64;
     cells[Y0] = window.y0 as u64;
     cells[Y1] = window.y1 as u64;
-    cells[X] = pen.x as u64;
-    cells[Y] = pen.y as u64;
-    cells[HALF] = held_number(half_byte);
-    cells[FRAMES] = pen.frames;
+    put_pen(cells, panel.pen);
 }
 
 pub fn frames_of(cells: &Cells) -> u64

@@ -3,9 +3,9 @@ ghost use mathlib.Core.Path.{_≡_};
 ghost use mathlib.Core.List.{[], _∷_};
 ghost use lib.ListN.{set};
 ghost use Rattle.whole.specs.Forms.{bit};
-ghost use Rattle.state.specs.Parts.{latchPut, tonePut, offPut, ringPut, keysPut, countPut, appliedPut};
+ghost use Rattle.state.specs.Parts.{latchPut, tonePut, offPut, ringPut, keysPut, countPut, livePut, holdPut, appliedPut};
 ghost use Rattle.state.specs.Bank.{latchIn, toneIn, devicesIn, ringIn, keysIn, partsIn};
-ghost use Rattle.state.specs.Packed.{keyCells, laidAt, Put, CellsPut, FloatsPut};
+ghost use Rattle.state.specs.Packed.{keyCells, liveCells, holdFloats, laidAt, Put, CellsPut, FloatsPut};
 use crate::Cells;
 use crate::Floats;
 use crate::numbers::byte;
@@ -154,6 +154,28 @@ pub fn put_count(cells: &mut Cells, n: usize)
 {
     crate::sized::cells_long(cells);
     cells[PRESSES] = n as u64;
+}
+
+// Key 0, 1 or 2; there is no other.
+pub fn put_live(cells: &mut Cells, key: usize, down: bool)
+    ensures { λ _. ⌜ CellsPut (now (cells .entry)) (now (cells .exit)) (liveCells (now (cells .entry)) key down)
+        (λ x. livePut x key down) ⌝ }
+{
+    crate::sized::cells_long(cells);
+    let on = flag(down);
+    if key < 3 {
+        cells[LIVE_A + key] = on;
+    }
+}
+
+pub fn put_hold(floats: &mut Floats, key: usize, until: f64)
+    ensures { λ _. ⌜ FloatsPut (now (floats .entry)) (now (floats .exit)) (holdFloats (now (floats .entry)) key until)
+        (λ x. holdPut x key until) ⌝ }
+{
+    crate::sized::floats_long(floats);
+    if key < 3 {
+        floats[HOLD_A + key] = until;
+    }
 }
 
 pub fn put_applied(cells: &mut Cells, applied: u32)

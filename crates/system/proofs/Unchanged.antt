@@ -4,13 +4,14 @@ use mathlib.Core.Path.{_≡_, refl, ap}
 use mathlib.Core.Bool.{Bool, false}
 use mathlib.Core.List.{List}
 use mathlib.Core.Logic.{_≢_, _⊎_, inl, inr}
-use lib.Dec.{eqb, ltb, leb}
+use lib.Dec.{eqb, leb}
 use lib.Ieee.{Float}
 use Rattle.whole.specs.Limits.{goodTime}
 use Rattle.whole.proofs.Words.{either}
 use Rattle.registers.specs.declared.Registers.{Registers}
 use Rattle.registers.specs.Words as words
-use Rattle.registers.specs.Words.{slotOf, unstored, roomFor, Others, OtherOutcome, putOther, othersOf, putWord}
+use Rattle.registers.specs.Words.{putWord}
+use Rattle.registers.proofs.Spots.{put-cases}
 use Rattle.registers.proofs.Stays.{refused-stays}
 use Rattle.memory.specs.declared.Place.{Place}
 use Rattle.memory.specs.declared.Place.the-variants.{Ram, Sram, Gpio, Register, Stray}
@@ -50,17 +51,16 @@ use Rattle.system.specs.Steps.{peek8, peek32, poke, keysHeld, irqWanted,
 abbrev pub StoreNumber : ℕ → Type 0
 StoreNumber n = (n ≡ 0) ⊎ (n ≡ 4)
 
-other-number : (o : Others) (a v : ℕ) → StoreNumber (putOther o a v .refusal)
-unfolding putOther
-other-number o a v =
-    either In (unstored a) _ _ (inl refl) (either In (eqb v 0) _ _ (inl refl) (either In (ltb (roomFor o a) 256) _ _ (inl refl) (inr refl)))
-  where
-    In : OtherOutcome → Type 0
-    In x = StoreNumber (x .refusal)
-
 pub put-number : (r : Registers) (a v : ℕ) → StoreNumber (putWord r a v .refusal)
-unfolding putWord
-put-number r a v = either (λ (x : words.Outcome). StoreNumber (x .refusal)) (ltb (slotOf a) 76) _ _ (inl refl) (other-number (othersOf r) a v)
+put-number r a v =
+    put-cases r a v (λ (x : words.Outcome). StoreNumber (x .refusal))
+    (λ less. inl refl)
+    (λ slot never. inl refl)
+    (λ other here z. inl refl)
+    (λ other here some. inl refl)
+    (λ other gone z. inl refl)
+    (λ other gone some free. inl refl)
+    (λ other gone some full. inr refl)
 
 -- ---- a write on the bus
 

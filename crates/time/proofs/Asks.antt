@@ -1,9 +1,12 @@
 -- Turbo, keys and sound events over the bank.
 use Prim.Native.Nat.{ℕ}
+use native.Mathlib.Omega.{arith}
 use mathlib.Core.Path.{_≡_, sym, ap, _∙_}
 use mathlib.Core.Logic.{_≢_}
 use mathlib.Core.List.{List}
+use mathlib.Core.Bool.{Bool, true, false, cond}
 use lib.Ieee.{Float}
+use Rattle.whole.specs.Limits.{goodTurbo}
 use Rattle.clock.specs.declared.Times.{Times}
 use Rattle.clock.specs.declared.Paced.{Paced}
 use Rattle.clock.specs.declared.Paced.the-variants.{By, BadTurbo}
@@ -14,24 +17,38 @@ use Rattle.timer.specs.Events.{queueOf, TakeOutcome, takeOf}
 use Rattle.timer.specs.declared.Queue.{Queue}
 use Rattle.timer.proofs.Waiting.{take-still}
 use Rattle.keys.specs.declared.Keys.{Keys}
-use Rattle.keys.specs.declared.Changed.{Changed}
+use Rattle.keys.specs.declared.Refusal.{Refusal}
+use Rattle.keys.specs.declared.Tap.{Tap}
 use Rattle.keys.specs.Keys.{numberOf}
-use Rattle.keys.proofs.Still.{press-still}
+use Rattle.keys.proofs.Still.{live-still, press-still}
+use Rattle.keys.proofs.Cases.{live-by, hold-by}
 use Rattle.keys.specs.Live as live
+use Rattle.keys.specs.Live.{keyRefusal, liveOf, tapOf, tapPut, holdOf}
 use Rattle.keys.specs.Script as script
 use Rattle.keys.specs.Script.{pressOf}
 use Rattle.state.specs.declared.Parts.{Parts}
-use Rattle.state.specs.Parts.{timesPut, ringPut, countPut}
+use Rattle.state.specs.Parts.{turboWith, timesPut, turboPut, ringPut, countPut, livePut}
 use Rattle.state.specs.Bank.{timesIn, ringIn, keysIn, partsIn}
 use Rattle.time.specs.Bank.{Asked, asked, pacedPut, keysAsked, pressed, pressedOf, took, tookOf}
 
 -- ---- turbo
 
-pub paced-by : (x : Parts) (t : Times) {to : Paced} {y : Parts} → to ≡ By t → y ≡ timesPut x t → asked y 0 ≡ pacedPut x to
-paced-by x t h e = rw (h, e)
+pub paced-by : (x : Parts) (t : Times) {to : Paced} {y : Parts} → to ≡ By t → t ≡ turboWith (x .devices .clocks .times) (t .turbo) → y ≡ turboPut x (t .turbo)
+    → asked y 0 ≡ pacedPut x to
+paced-by x t {to} {y} h k e = rw h (ap (λ (z : Parts). asked z 0) (e ∙ ap (λ (z : Times). timesPut x z) (sym k)))
 
 pub paced-bad : (x : Parts) {to : Paced} → to ≡ BadTurbo → asked x 2 ≡ pacedPut x to
 paced-bad x h = rw h
+
+-- set_turbo moves the turbo alone
+pub paced-turbo : {s : Times} (f : List Float) (to : Float) {p : Paced} (t : Times) → s ≡ timesIn f → p ≡ pacedOf s to → p ≡ By t
+    → t ≡ turboWith (timesIn f) (t .turbo)
+unfolding pacedOf
+paced-turbo {s} f to t a b e = by (goodTurbo to) (sym (b ∙ ap (λ (z : Times). pacedOf z to) a) ∙ e)
+  where
+    by : (g : Bool) → cond g (By (turboWith (timesIn f) to)) BadTurbo ≡ By t → t ≡ turboWith (timesIn f) (t .turbo)
+    by true h = let z : turboWith (timesIn f) to ≡ t = cc in rw (← z)
+    by false h = absurd (let z : _≡_ {A = ℕ} 0 1 = cc in omega arith)
 
 pub paced-of : {K : Type 0} (x : Parts) (f : List Float) (to : Float) {times : Times} {p : Paced} {a : Asked} → times ≡ timesIn f → p ≡ pacedOf times to
     → (a ≡ pacedPut x p) × K → (a ≡ pacedPut x (pacedOf (timesIn f) to)) × K
@@ -39,19 +56,23 @@ paced-of x f to t e h = (h .0 ∙ ap (λ (z : Paced). pacedPut x z) (e ∙ ap (�
 
 -- ---- keys
 
--- what is asked of the keys, by what they are before
-pub keys-of : {K : Type 0} (x : Parts) {k before : Keys} {o : live.Outcome} {a : Asked} (of : Keys → live.Outcome) → before ≡ k → o ≡ of before
-    → (a ≡ keysAsked x o) × K → (a ≡ keysAsked x (of k)) × K
-keys-of x of e h i = (i .0 ∙ ap (λ (z : live.Outcome). keysAsked x z) (h ∙ ap of e), i .1)
+-- a live key, by what is decided of it; refused, the keys are as they were
+module _ (x : Parts) (key : ℕ) (down : Bool) {r : Refusal} {n : ℕ} (e : r ≡ keyRefusal key) (h : n ≡ numberOf r) where
+  asks : n ≡ liveOf (x .keys) key down .refusal
+  asks = h ∙ ap numberOf e ∙ ap (λ (o : live.Outcome). o .refusal) (live-by (x .keys) key down)
 
--- refused, they are as they were
-pub keys-still : (x : Parts) {o : live.Outcome} {n : ℕ} → n ≡ o .refusal → o .keys ≡ x .keys → asked x n ≡ keysAsked x o
-keys-still x h e = rw (h, e)
+  pub live-refused : n ≢ 0 → asked x n ≡ keysAsked x (liveOf (x .keys) key down)
+  live-refused k = rw (asks, live-still (x .keys) key down (λ z. k (asks ∙ z)))
 
-pub still-of : (to : Changed) {k before : Keys} (of : Keys → live.Outcome) → ((j : Keys) → of j .refusal ≢ 0 → of j .keys ≡ j) → before ≡ k
-    → live.changed to ≡ of before → numberOf (to .refusal) ≢ 0 → to .keys ≡ k
-still-of to {before = before} of s e h g =
-    ap (λ (o : live.Outcome). o .keys) h ∙ s before (λ z. g (ap (λ (o : live.Outcome). o .refusal) h ∙ z)) ∙ e
+  pub live-done : {y : Parts} → y ≡ livePut x key down → asked y n ≡ keysAsked x (liveOf (x .keys) key down)
+  live-done i =
+      ap (λ (z : Parts). asked z n) i ∙ ap (λ (z : ℕ). asked (livePut x key down) z) (h ∙ ap numberOf e)
+      ∙ ap (λ (o : live.Outcome). keysAsked x o) (live-by (x .keys) key down)
+
+-- and a tap
+pub hold-of : {K : Type 0} (x : Parts) (key : ℕ) (until : Float) {t : Tap} {a : Asked} → t ≡ tapOf key until
+    → (a ≡ keysAsked x (tapPut (x .keys) key t)) × K → (a ≡ keysAsked x (holdOf (x .keys) key until)) × K
+hold-of x key until e i = (i .0 ∙ ap (λ (o : live.Outcome). keysAsked x o) (hold-by (x .keys) key until e), i .1)
 
 pub press-of : (t : List Float) (c l : List ℕ) (f : List Float) (key : ℕ) (at : Float) {moment : Times} {before : Keys} {k n m : ℕ} {t′ : List Float} {c′ : List ℕ} {y : Parts}
     → moment ≡ timesIn f → before ≡ keysIn l f

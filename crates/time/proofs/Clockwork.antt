@@ -44,11 +44,7 @@ put-same (x ∷ xs) (suc i) d = ap (λ (z : List _). x ∷ z) (put-same xs i d)
 
 own-same : (own : List ℕ) (a : ℕ) {v : ℕ} → v ≡ ownAt own a → own ≡ ownWith own a v
 unfolding ownAt ownWith
-own-same own a e = sym (ap (λ (z : ℕ). ownWith own a z) e ∙ by (ltb (slotOf a) 76))
-  where
-    by : (b : Bool) → cond b (set own (slotOf a) (cond b (getD own (slotOf a) 0) 0)) own ≡ own
-    by true = put-same own (slotOf a) 0
-    by false = refl
+own-same own a e = sym (ap (λ (z : ℕ). ownWith own a z) e ∙ put-same own (slotOf a) 0)
 
 -- no more periods than were seen leave the status alone
 signal-still : (n seen status bit : ℕ) {s : Signal} → s ≡ signalOf n seen status bit → s .seen ≡ seen

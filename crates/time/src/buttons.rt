@@ -1,15 +1,16 @@
 // Keys: scripted presses, live keys and taps.
 ghost use mathlib.Core.Path.{_≡_};
-ghost use mathlib.Core.Logic.{_≢_};
+ghost use mathlib.Core.List.{List};
+ghost use Prim.Native.Nat.{ℕ};
 ghost use lib.Ieee.{binary64, ofBits};
 ghost use Rattle.keys.specs.Keys.{numberOf};
-ghost use Rattle.keys.specs.Live.{changed, liveOf, holdOf};
+ghost use Rattle.keys.specs.Live.{liveOf, tapPut, holdOf};
 ghost use Rattle.keys.specs.Script as script;
 ghost use Rattle.state.specs.Bank.{timesIn, keysIn, partsIn};
 ghost use Rattle.state.specs.Packed.{Answered};
 ghost use Rattle.time.specs.Bank.{asked, keysAsked, pressed, pressedOf};
-use keys::Changed;
 use keys::Refusal;
+use keys::Tap;
 use state::Cells;
 use state::Floats;
 
@@ -24,32 +25,37 @@ fn key_number(refusal: Refusal) -> u8
     }
 }
 
-// The keys are put unless the call is refused, so that a refusal leaves every word as it was.
-fn change(cells: &mut Cells, floats: &mut Floats, to: Changed) -> u8
-    requires { ⌜ (numberOf (to .refusal) ≢ 0 → to .keys ≡ keysIn (now cells) (now floats)) ⌝ }
-    ensures { λ r. ⌜ (asked (partsIn (now (cells .exit)) (now (floats .exit))) r
-        ≡ keysAsked (partsIn (now (cells .entry)) (now (floats .entry))) (changed to))
-        × Answered r (now (cells .entry)) (now (floats .entry)) (now (cells .exit)) (now (floats .exit)) ⌝ }
-{
-    let refusal = to.refusal;
-    let n = key_number(refusal);
-    if n != 0 {
-        return n;
-    }
-    state::rests::put_keys(cells, floats, to.keys);
-    n
-}
-
-// A key goes down or up.
+// A key goes down or up. A refusal leaves every word as it was.
 pub fn set_live(cells: &mut Cells, floats: &mut Floats, key: u32, down: bool) -> u8
     ensures { λ r. ⌜ (asked (partsIn (now (cells .exit)) (now (floats .exit))) r
         ≡ keysAsked (partsIn (now (cells .entry)) (now (floats .entry))) (liveOf (keysIn (now (cells .entry))
         (now (floats .entry))) key down))
         × Answered r (now (cells .entry)) (now (floats .entry)) (now (cells .exit)) (now (floats .exit)) ⌝ }
 {
-    let before = state::rests::keys_of(cells, floats);
-    let to = keys::live::set_live(before, key, down);
-    change(cells, floats, to)
+    let refusal = keys::live::check_key(key);
+    let n = key_number(refusal);
+    if n != 0 {
+        return n;
+    }
+    state::rests::put_live(cells, key as usize, down);
+    n
+}
+
+// What was decided of a tap.
+fn hold(floats: &mut Floats, key: u32, tap: Tap) -> u8
+    ensures { λ r. ⌜ ((l : List ℕ) → (asked (partsIn l (now (floats .exit))) r
+        ≡ keysAsked (partsIn l (now (floats .entry))) (tapPut (keysIn l (now (floats .entry))) key tap))
+        × Answered r l (now (floats .entry)) l (now (floats .exit))) ⌝ }
+{
+    match tap {
+        Tap::Until(until) => {
+            state::rests::put_hold(floats, key as usize, until);
+            return 0;
+        }
+        Tap::Refused(refusal) => {
+            return key_number(refusal);
+        }
+    }
 }
 
 // A tap of a key stays held until a time.
@@ -59,9 +65,7 @@ pub fn hold_until(cells: &mut Cells, floats: &mut Floats, key: u32, until: f64) 
         (now (floats .entry))) key until))
         × Answered r (now (cells .entry)) (now (floats .entry)) (now (cells .exit)) (now (floats .exit)) ⌝ }
 {
-    let before = state::rests::keys_of(cells, floats);
-    let to = keys::live::hold_until(before, key, until);
-    change(cells, floats, to)
+    hold(floats, key, keys::live::check_hold(key, until))
 }
 
 pub fn hold_bits(cells: &mut Cells, floats: &mut Floats, key: u32, bits: u64) -> u8
@@ -70,9 +74,7 @@ pub fn hold_bits(cells: &mut Cells, floats: &mut Floats, key: u32, bits: u64) ->
         (now (floats .entry))) key (ofBits binary64 bits)))
         × Answered r (now (cells .entry)) (now (floats .entry)) (now (cells .exit)) (now (floats .exit)) ⌝ }
 {
-    let before = state::rests::keys_of(cells, floats);
-    let to = keys::live::hold_bits(before, key, bits);
-    change(cells, floats, to)
+    hold(floats, key, keys::live::check_hold_bits(key, bits))
 }
 
 // A press of a key at a time.

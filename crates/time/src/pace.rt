@@ -4,20 +4,25 @@ ghost use mathlib.Core.List.{List};
 ghost use Prim.Native.Nat.{ℕ};
 ghost use lib.Ieee.{binary64, ofBits};
 ghost use Rattle.clock.specs.Times.{pacedOf};
+ghost use Rattle.clock.specs.declared.Times.{Times};
+ghost use Rattle.clock.specs.declared.Paced.the-variants.{By};
 ghost use Rattle.state.specs.Bank.{timesIn, partsIn};
 ghost use Rattle.state.specs.Packed.{Answered};
+ghost use Rattle.state.specs.Parts.{turboWith};
 ghost use Rattle.time.specs.Bank.{asked, pacedPut};
 use clock::Paced;
 use state::Floats;
 
+// The turbo alone is put, so `to` must have the times that the bank has.
 fn pace(floats: &mut Floats, to: Paced) -> u8
+    requires { ⌜ ((t : Times) → to ≡ By t → t ≡ turboWith (timesIn (now floats)) (t .turbo)) ⌝ }
     ensures { λ r. ⌜ ((l : List ℕ) → (asked (partsIn l (now (floats .exit))) r
         ≡ pacedPut (partsIn l (now (floats .entry))) to)
         × Answered r l (now (floats .entry)) l (now (floats .exit))) ⌝ }
 {
     match to {
         Paced::By(times) => {
-            state::moments::put_times(floats, times);
+            state::moments::put_turbo(floats, times.turbo);
             return 0;
         }
         Paced::BadTurbo => {

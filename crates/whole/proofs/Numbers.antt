@@ -1,5 +1,5 @@
 -- The refusals by their numbers, each given exactly when its rule says; and what is read of a pattern that is not refused.
-use mathlib.Core.Path.{_≡_, refl}
+use mathlib.Core.Path.{_≡_, refl, ap}
 use mathlib.Core.Bool.{Bool, true, false, cond}
 use Prim.Native.Nat.{ℕ}
 use native.Mathlib.Omega.{arith}
@@ -23,6 +23,13 @@ pub checked-good : (good : Bool) (bits : ℕ) (x : Float) → Good x ≡ checked
 unfolding checkedOf
 checked-good true bits x e = cc
 checked-good false bits x e = absurd (let z : _≡_ {A = ℕ} 0 1 = cc in omega arith)
+
+-- what is made of a good one
+pub checked-then : {A : Type 0} (good : Bool) (bits : ℕ) (f : Float → A) (n : A) (x : Float) → Good x ≡ checkedOf good bits
+    → f x ≡ cond good (f (ofBits binary64 bits)) n
+unfolding checkedOf
+checked-then true bits f n x e = ap f (checked-good true bits x e)
+checked-then false bits f n x e = absurd (let z : _≡_ {A = ℕ} 0 1 = cc in omega arith)
 
 pub checked-bad : (good : Bool) (bits : ℕ) → Bad ≡ checkedOf good bits → good ≡ false
 unfolding checkedOf

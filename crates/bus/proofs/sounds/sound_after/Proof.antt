@@ -1,11 +1,38 @@
+use native.Mathlib.Omega.{arith}
+use mathlib.Core.Path.{_≡_, refl}
+use lib.Dec.{eqb}
+use Rattle.registers.specs.Words.{wordsFrom, namedWords, ownWords, slotWord}
 use Rattle.bus.specs.Sounds.{soundOf}
+use Rattle.bus.proofs.Slots.{slot-is}
 use borrow.Author.Needs.{needs}
 use Rattle.bus.proofs.sounds.sound_after.Statement.{statement}
 use Rattle.bus.proofs.sounds.sound_after.Tie as tie
 
 returns : tie.Need-returns
-unfolding soundOf
-returns c = cc
+unfolding soundOf ownWords wordsFrom namedWords
+returns c =
+    let c2 = c .before .before in
+    let c3 = c2 .before in
+    let c4 = c3 .before in
+    let c5 = c4 .before in
+    let c6 = c5 .before in
+    let c7 = c6 .before in
+    let s = (c7 .args .s) in
+    let p : eqb (slotWord s) 0xC0020080 ≡ eqb s 32 = slot-is s (c7 .pre) 32 0xC0020080 (omega arith) refl in
+    let q : eqb (slotWord s) 0xC0020088 ≡ eqb s 34 = slot-is s (c7 .pre) 34 0xC0020088 (omega arith) refl in
+    let o : eqb (slotWord s) 0xC002008C ≡ eqb s 35 = slot-is s (c7 .pre) 35 0xC002008C (omega arith) refl in
+    rw (
+      p,
+      q,
+      o,
+      ← (c6 .own-reg .ensures),
+      ← (c4 .own-reg2 .ensures),
+      ← (c2 .own-reg3 .ensures),
+      ←
+          (c5 .keep .ensures),
+      ← (c3 .keep2 .ensures),
+      ← (c .before .keep3 .ensures),
+    ) (c .sound-update .ensures)
 
 pub sound-after-spec : {M : Type 1} → statement M
 sound-after-spec =

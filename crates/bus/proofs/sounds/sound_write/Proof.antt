@@ -1,37 +1,37 @@
-use mathlib.Core.Path.{refl}
-use Rattle.bus.proofs.BankedWords.{only-put, quiet, rest-put, rest-none, sound-full, sound-same, sound-change}
+use mathlib.Core.Path.{refl, _∙_}
+use Rattle.registers.specs.Words.{slotWord}
 use Rattle.state.specs.Bank.{partsIn}
+use Rattle.bus.proofs.Slots.{slot-stored}
+use Rattle.bus.proofs.BankedWords.{only-put, quiet, rest-put, rest-none, sound-full, sound-same, sound-change}
 use borrow.Author.Needs.{needs}
 use Rattle.bus.proofs.sounds.sound_write.Statement.{statement}
 use Rattle.bus.proofs.sounds.sound_write.Tie as tie
 
 returns : tie.Need-returns
 returns c =
-    let c1 = c .before in
-    let c3 = c1 .before .before in
+    let c3 = c .before .before .before in
     let c5 = c3 .before .before in
     let c7 = c5 .before .before in
     let a = (c7 .args) in
     let x = partsIn (a .cells .now) (a .floats .now) in (
-      sound-full (a .own .now) x (a .clock) (a .full) (a .word) (a .kept) (c5 .tone-of .ensures)
-          (c3 .sound-after .ensures) (c1 .enum-told .given .1) (c .refused .ensures),
+      sound-full (a .own .now) x (a .clock) (a .full) (slotWord (a .s)) (a .kept) (c5 .tone-of .ensures)
+          (c3 .sound-after .ensures) (c .before .enum-told .given .1) (c .refused .ensures),
       rest-none (quiet
           (c .refused .ensures)),
     )
 
 returns-2 : tie.Need-returns-2
 returns-2 c =
-    let c1 = c .before in
-    let c3 = c1 .before .before in
+    let c3 = c .before .before .before in
     let c5 = c3 .before .before in
     let c7 = c5 .before .before in
     let c9 = c7 .before .before in
     let a = (c9 .args) in
     let x = partsIn (a .cells .now) (a .floats .now) in (
-      sound-same (a .own .now) x (a .clock) (a .full) (a .word) (a .kept) (c7 .tone-of .ensures)
-          (c5 .sound-after .ensures) (c3 .enum-told2 .given .1) (c1 .own-insert .ensures) (c .done .ensures),
-      rest-none
-          (quiet (c .done .ensures)),
+      sound-same (a .own .now) x (a .clock) (a .full) (slotWord (a .s)) (a .kept) (c7 .tone-of .ensures)
+          (c5 .sound-after .ensures) (c3 .enum-told2 .given .1) ((c .before .slot-set .ensures) ∙ slot-stored (a .s)
+          (c9 .pre) (a .own .now) (a .kept)) (c .done .ensures),
+      rest-none (quiet (c .done .ensures)),
     )
 
 returns-3 : tie.Need-returns-3
@@ -44,10 +44,10 @@ returns-3 c =
     let a = (c11 .args) in
     let x = partsIn (a .cells .now) (a .floats .now) in
     let p = (c .put-tone .ensures) (a .cells .now) in (
-      sound-change (a .own .now) x (a .clock) (a .full) (a .word) (a .kept) (c9 .tone-of .ensures)
-          (c7 .sound-after .ensures) (c5 .sounded .given .1) (c2 .own-insert2 .ensures) (p .parts),
-      rest-put refl
-          (only-put (p .parts)) (p .kept),
+      sound-change (a .own .now) x (a .clock) (a .full) (slotWord (a .s)) (a .kept) (c9 .tone-of .ensures)
+          (c7 .sound-after .ensures) (c5 .sounded .given .1) ((c2 .slot-set2 .ensures) ∙ slot-stored (a .s) (c11 .pre)
+          (a .own .now) (a .kept)) (p .parts),
+      rest-put refl (only-put (p .parts)) (p .kept),
     )
 
 pub sound-write-spec : {M : Type 1} → statement M

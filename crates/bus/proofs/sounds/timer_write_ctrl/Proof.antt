@@ -1,5 +1,9 @@
-use Rattle.bus.proofs.BankedWords.{only-put, only-then, devices-put, done-number, rest-put, timer-refused, timer-sounds, timer-plain}
+use mathlib.Core.Path.{_∙_}
+use Prim.Native.Nat.{_/_}
+use Rattle.registers.specs.Words.{slotWord}
 use Rattle.state.specs.Bank.{partsIn}
+use Rattle.bus.proofs.Slots.{slot-stored}
+use Rattle.bus.proofs.BankedWords.{only-put, only-then, devices-put, done-number, rest-put, timer-refused, timer-sounds, timer-plain}
 use borrow.Author.Needs.{needs}
 use Rattle.bus.proofs.sounds.timer_write_ctrl.Statement.{statement}
 use Rattle.bus.proofs.sounds.timer_write_ctrl.Tie as tie
@@ -14,10 +18,10 @@ returns c =
     let c13 = c10 .before .before .before in
     let a = (c13 .args) in
     let x = partsIn (a .cells .now) (a .floats .now) in (
-      timer-refused (a .own .now) x (a .clock) (a .full) (a .n) (a .word) (a .old) (a .new) (c10 .timer-of .ensures)
-          (c8 .times-of .ensures) (c7 .write-ctrl .ensures) (c6 .if1 .taken) ((c2 .sound-write .ensures) .0)
-          (c .if2 .taken),
-      (c2 .sound-write .ensures) .1,
+      timer-refused (a .own .now) x (a .clock) (a .full) (a .s / 8) (slotWord (a .s)) (a .old) (a .new)
+          (c10 .timer-of .ensures) (c8 .times-of .ensures) (c7 .write-ctrl .ensures) (c6 .if1 .taken)
+          (c2 .sound-write .ensures .0) (c .if2 .taken),
+      (c2 .sound-write .ensures .1),
     )
 
 returns-2 : tie.Need-returns-2
@@ -31,18 +35,18 @@ returns-2 c =
     let c16 = c13 .before .before .before in
     let a = (c16 .args) in
     let x = partsIn (a .cells .now) (a .floats .now) in
-    let s = (c5 .sound-write .ensures) in
+    let y = (c5 .sound-write .ensures) in
     let p = (c .put-timer .ensures) in (
-      timer-sounds (a .own .now) x (a .clock) (a .full) (a .n) (a .word) (a .old) (a .new) (c13 .timer-of .ensures)
-          (c11 .times-of .ensures) (c10 .write-ctrl .ensures) (c9 .if1 .taken) (s .0) (c3 .if2 .left) (devices-put
-          (partsIn (a .cells .now) _) (p .parts)),
-      rest-put (c3 .if2 .left) (only-then (s .1 .only) (only-put (p .parts))) (λ k. p .kept (s .1 .kept k)),
+      timer-sounds (a .own .now) x (a .clock) (a .full) (a .s / 8) (slotWord (a .s)) (a .old) (a .new)
+          (c13 .timer-of .ensures) (c11 .times-of .ensures) (c10 .write-ctrl .ensures) (c9 .if1 .taken) (y .0)
+          (c3 .if2 .left) (devices-put (partsIn (a .cells .now) _) (p .parts)),
+      rest-put (c3 .if2 .left) (only-then
+          (y .1 .only) (only-put (p .parts))) (λ k. p .kept (y .1 .kept k)),
     )
 
 returns-3 : tie.Need-returns-3
 returns-3 c =
-    let c1 = c .before in
-    let c4 = c1 .before .before .before in
+    let c4 = c .before .before .before .before in
     let c6 = c4 .before .before in
     let c7 = c6 .before in
     let c8 = c7 .before in
@@ -50,10 +54,10 @@ returns-3 c =
     let c13 = c10 .before .before .before in
     let a = (c13 .args) in
     let x = partsIn (a .cells .now) (a .floats .now) in
-    let p = (c1 .put-timer2 .ensures) in (
-      timer-plain (a .own .now) x (a .clock) (a .full) (a .n) (a .word) (a .old) (a .new) (c10 .timer-of .ensures)
-          (c8 .times-of .ensures) (c7 .write-ctrl .ensures) (c6 .if1 .left) (c4 .own-insert .ensures) (p .parts)
-          (c .done .ensures),
+    let p = (c .before .put-timer2 .ensures) in (
+      timer-plain (a .own .now) x (a .clock) (a .full) (a .s / 8) (slotWord (a .s)) (a .old) (a .new)
+          (c10 .timer-of .ensures) (c8 .times-of .ensures) (c7 .write-ctrl .ensures) (c6 .if1 .left)
+          ((c4 .slot-set .ensures) ∙ slot-stored (a .s) (c13 .pre) (a .own .now) _) (p .parts) (c .done .ensures),
       rest-put (done-number (c .done .ensures)) (only-put (p .parts)) (p .kept),
     )
 

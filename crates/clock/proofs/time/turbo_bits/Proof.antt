@@ -1,24 +1,27 @@
-use borrow.Author.Needs.{needs}
 use Rattle.clock.proofs.Cases.{paces-from, paces-from-none}
+use borrow.Author.Needs.{needs}
 use Rattle.clock.proofs.time.turbo_bits.Statement.{statement}
 use Rattle.clock.proofs.time.turbo_bits.Tie as tie
 
 returns : tie.Need-returns
 returns c =
-    let c2 = c .before .before in
-    let c3 = c2 .before in
-    let c5 = c3 .before .before in
-    let a = c5 .args in
-    let at-turbo-of = c3 .before in
-    paces-from (a .s) (a .bits) _ _ _ (at-turbo-of .turbo-of .ensures) (c2 .to .given .1) (c .set-turbo .ensures)
+    let c1 = c .before in
+    let c3 = c1 .before .before in
+    let c4 = c3 .before in
+    paces-from (c4 .args .s) (c4 .args .bits) _ _ (c3 .turbo-of .ensures) (c1 .to .given .1)
 
 returns-2 : tie.Need-returns-2
 returns-2 c =
-    let a = c .before .before .before .args in
-    paces-from-none (a .s) (a .bits) _ (c .before .before .turbo-of .ensures) (c .enum-told .given .1)
+    let c2 = c .before .before in
+    let c3 = c2 .before in
+    paces-from-none (c3 .args .s) (c3 .args .bits) _ (c2 .turbo-of .ensures) (c .enum-told .given .1)
 
 pub turbo-bits-spec : {M : Type 1} → statement M
 turbo-bits-spec =
     tie.close
-    (tie.spec (λ c κs. search needs) (λ c. search needs) (λ c κs. search needs) (λ c. search needs) returns
+    (tie.spec
+    (λ c κs. search needs)
+    (λ c. search needs)
+    (λ c. search needs)
+    returns
     returns-2)

@@ -11,12 +11,5 @@ returns c = (c .press-in .ensures) ∙ press-part _ _ (omega arith)
 pub press-at-spec : {M : Type 1} → statement M
 press-at-spec =
     tie.close
-    (tie.spec
-    (λ c. search needs)
-    (λ c. search needs)
-    (λ c. search needs)
-    (λ c. search needs)
-    (λ c. search needs)
-    (λ c. search needs)
-    (λ c κs. search needs)
-    returns)
+    (tie.spec (λ c. search needs) (λ c. search needs) (λ c. search needs) (λ c. search needs) (λ c κs. search
+    needs) returns)

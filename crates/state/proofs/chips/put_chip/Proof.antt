@@ -4,13 +4,14 @@ use Rattle.state.proofs.chips.put_chip.Statement.{statement}
 use Rattle.state.proofs.chips.put_chip.Tie as tie
 
 returns : tie.Need-returns
-returns c = λ f. chip-put (c .before .before .before .before .before .before .before .before .before .before .before
-    .before .args .cells .now) (c .before .before .before .before .before .before .before .before .before .before
-    .cells-long .ensures) f (c .before .before .before .before .before .before .before .before .before .before
-    .before .before .args .chip) _ _ _ _ (c .before .before .before .before .before .before .before .before
-    .mode-number .ensures) (c .before .before .before .before .before .before .before .flag .ensures) (c .before
-    .before .before .before .before .before .flag2 .ensures) (c .flag3 .ensures) (search needs) (search needs)
-    (search needs) (search needs) (search needs)
+returns c =
+    let c2 = c .before .before in
+    let c3 = c2 .before in
+    let c4 = c3 .before in
+    let c5 = c4 .before in
+    let c7 = c5 .before .before in
+    λ f. chip-put (c7 .args .cells .now) (c5 .cells-long .ensures) f (c7 .args .chip) _ _ _ (c4 .mode-number
+    .ensures) (c3 .flag .ensures) (c2 .flag2 .ensures) ((c .put-sent .ensures) f)
 
 pub put-chip-spec : {M : Type 1} → statement M
 put-chip-spec =
@@ -24,17 +25,5 @@ put-chip-spec =
     (λ c κs. search needs)
     (λ c. search needs)
     (λ c. search needs)
-    (λ c. search needs)
-    (λ c. search needs)
-    (λ c. search needs)
-    (λ c. search needs)
-    (λ c. search needs)
-    (λ c. search needs)
-    (λ c. search needs)
-    (λ c. search needs)
-    (λ c. search needs)
-    (λ c. search needs)
-    (λ c. search needs)
     (λ c κs. search needs)
-    (λ c. search needs)
     returns)

@@ -5,18 +5,16 @@ use Rattle.state.proofs.panels.put_panel.Tie as tie
 
 returns : tie.Need-returns
 returns c = λ f. panel-put (c .before .before .before .before .before .before .before .before .before .before
-    .before .before .before .before .before .before .before .before .before .args .cells .now) (c .before .before
-    .before .before .before .before .before .before .before .before .before .before .before .before .before .before
-    .before .cells-long .ensures) f (c .before .before .before .before .before .before .before .before .before
-    .before .before .before .before .before .before .before .before .before .before .args .panel) _ _ _ _ _ _ (c
-    .before .before .before .before .before .before .before .before .before .before .before .before .held-number
-    .ensures) (c .before .before .before .before .before .before .before .before .before .before .before .before
-    .before .before .before .four-long .ensures) (c .before .before .before .before .before .before .before .before
-    .before .before .before .wide .ensures) (c .before .before .before .before .before .before .before .before
-    .before .before .wide2 .ensures) (c .before .before .before .before .before .before .before .before .before
-    .wide3 .ensures) (c .before .before .before .before .before .before .before .before .wide4 .ensures)
-    (c .held-number2 .ensures) (search needs) (search needs) (search needs) (search needs) (search needs)
-    (search needs) (search needs)
+    .before .before .before .before .before .before .before .args .cells .now) (c .before .before .before .before
+    .before .before .before .before .before .before .before .before .before .before .before .cells-long .ensures) f
+    (c .before .before .before .before .before .before .before .before .before .before .before .before .before
+    .before .before .before .before .args .panel) _ _ _ _ _ (c .before .before .before .before .before .before
+    .before .before .before .before .before .held-number .ensures) (c .before .before .before .before .before
+    .before .before .before .before .before .before .before .before .four-long .ensures) (c .before .before .before
+    .before .before .before .before .before .before .before .wide .ensures) (c .before .before .before .before
+    .before .before .before .before .before .wide2 .ensures) (c .before .before .before .before .before .before
+    .before .before .wide3 .ensures) (c .before .before .before .before .before .before .before .wide4 .ensures)
+    (search needs) (search needs) (search needs) (search needs) (search needs) ((c .put-pen .ensures) f)
 
 pub put-panel-spec : {M : Type 1} → statement M
 put-panel-spec =
@@ -48,11 +46,5 @@ put-panel-spec =
     (λ c. search needs)
     (λ c. search needs)
     (λ c. search needs)
-    (λ c. search needs)
-    (λ c. search needs)
-    (λ c. search needs)
-    (λ c. search needs)
     (λ c κs. search needs)
-    (λ c. search needs)
-    (λ c. search needs)
     returns)

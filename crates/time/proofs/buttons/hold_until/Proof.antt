@@ -1,29 +1,20 @@
-use Rattle.time.proofs.Asks.{keys-of, still-of}
-use Rattle.keys.specs.Live.{holdOf}
-use Rattle.keys.specs.declared.Keys.{Keys}
-use Rattle.keys.proofs.Still.{hold-still}
+use Rattle.time.proofs.Asks.{hold-of}
 use Rattle.state.specs.Bank.{partsIn}
 use borrow.Author.Needs.{needs}
 use Rattle.time.proofs.buttons.hold_until.Statement.{statement}
 use Rattle.time.proofs.buttons.hold_until.Tie as tie
 
-change-requires : tie.Need-change-requires
-change-requires c κs =
-    let c2 = c .before .before in
-    let c3 = c2 .before in
-    let c6 = c3 .before .before .before in
-    let a = (c6 .args) in
-    still-of (c2 .hold-until .result) (λ (k : Keys). holdOf k (a .key) (a .until)) (λ k. hold-still k (a .key)
-    (a .until)) (c3 .keys-of .ensures) (c2 .hold-until .ensures)
-
 returns : tie.Need-returns
 returns c =
-    let c3 = c .before .before .before in
-    let c4 = c3 .before in
-    let c7 = c4 .before .before .before in
-    let a = (c7 .args) in
-    keys-of (partsIn (a .cells .now) (a .floats .now)) (λ (k : Keys). holdOf k (a .key) (a .until))
-    (c4 .keys-of .ensures) (c3 .hold-until .ensures) (c .change .ensures)
+    let c1 = c .before in
+    let c3 = c1 .before .before in
+    hold-of (partsIn (c3 .args .cells .now) (c3 .args .floats .now)) (c3 .args .key) (c3 .args .until) (c1
+    .check-hold .ensures) ((c .hold .ensures) (c3 .args .cells .now))
 
 pub hold-until-spec : {M : Type 1} → statement M
-hold-until-spec = tie.close (tie.spec (λ c κs. search needs) (λ c κs. search needs) change-requires returns)
+hold-until-spec =
+    tie.close
+    (tie.spec
+    (λ c κs. search needs)
+    (λ c κs. search needs)
+    returns)

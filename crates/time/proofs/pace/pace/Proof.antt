@@ -7,15 +7,24 @@ use Rattle.time.proofs.pace.pace.Statement.{statement}
 use Rattle.time.proofs.pace.pace.Tie as tie
 
 returns : tie.Need-returns
-returns c = λ l. (
-  paced-by (partsIn l (c .before .before .before .before .before .args .floats .now)) _
-      (c .before .before .before .to .given .1) ((c .put-times .ensures) l .parts),
-  done-answered refl
-      ((c .put-times .ensures) l .kept),
-)
+returns c =
+    let c3 = c .before .before .before in
+    let c5 = c3 .before .before in
+    λ l. (
+      paced-by (partsIn l (c5 .args .floats .now)) _ (c3 .to .given .1) ((c5 .pre) _ (c3 .to .given .1)) ((c .put-turbo
+          .ensures) l .parts),
+      done-answered refl ((c .put-turbo .ensures) l .kept),
+    )
 
 returns-2 : tie.Need-returns-2
 returns-2 c = λ l. (paced-bad (partsIn l (c .before .before .args .floats .now)) (c .enum-told .given .1), none-put)
 
 pub pace-spec : {M : Type 1} → statement M
-pace-spec = tie.close (tie.spec (λ c. search needs) (λ c κs. search needs) returns (λ c. search needs) returns-2)
+pace-spec =
+    tie.close
+    (tie.spec
+    (λ c. search needs)
+    (λ c κs. search needs)
+    returns
+    (λ c. search needs)
+    returns-2)

@@ -1,0 +1,48 @@
+-- An access to a memory by its size: 1, 2 or 4, and any other refused.
+use Prim.Native.Nat.{ℕ}
+use mathlib.Core.Path.{_≡_, refl}
+use mathlib.Core.Bool.{true, false}
+use mathlib.Core.List.{List}
+use mathlib.Core.Logic.{_≢_}
+use borrow.Author.Tests.{ne-eqb}
+use Rattle.memory.specs.Access.{goodSize}
+use Rattle.memory.specs.Bytes.{loaded, storedAt}
+use Rattle.bus.specs.declared.Told.{Told}
+use Rattle.bus.specs.declared.Got.{Got}
+use Rattle.bus.specs.Bank.{toldOf}
+use Rattle.bus.specs.Read.{sizedGot}
+use Rattle.bus.specs.Write.{sizedPut, sizedNumber}
+
+pub good-one : goodSize 1 ≡ true
+unfolding goodSize
+good-one = refl
+
+pub good-two : goodSize 2 ≡ true
+unfolding goodSize
+good-two = refl
+
+pub good-four : goodSize 4 ≡ true
+unfolding goodSize
+good-four = refl
+
+-- k is one of these
+module _ (n k : ℕ) (e : n ≡ k) (g : goodSize k ≡ true) (m : List ℕ) (o : ℕ) where
+  pub got-sized : {v : ℕ} → v ≡ loaded m o k
+      → _≡_ {A = Got} (record { refusal = 0; value = v }) (sizedGot n (loaded m o n))
+  got-sized h = rw (e, g, h)
+
+  pub put-sized : (v : ℕ) {l : List ℕ} {t : Told} → l ≡ storedAt m o k v → t ≡ toldOf 0
+      → (l ≡ sizedPut m o n v) × (t ≡ toldOf (sizedNumber n))
+  put-sized v h f = (rw (e, g, h), rw (e, g) f)
+
+module _ (n : ℕ) (a : n ≢ 1) (b : n ≢ 2) (c : n ≢ 4) where
+  bad : goodSize n ≡ false
+  unfolding goodSize
+  bad = rw (ne-eqb _ _ a, ne-eqb _ _ b, ne-eqb _ _ c)
+
+  pub got-refused : (v : ℕ) {x : Got} → x ≡ record { refusal = 9; value = 0 } → x ≡ sizedGot n v
+  got-refused v h = rw bad h
+
+  pub put-refused : (m : List ℕ) (o v : ℕ) {t : Told} → t ≡ toldOf 9
+      → (m ≡ sizedPut m o n v) × (t ≡ toldOf (sizedNumber n))
+  put-refused m o v f = (rw bad, rw bad f)

@@ -1,0 +1,30 @@
+use borrow.Author.Needs.{needs}
+use mathlib.Core.Path.{refl}
+use Rattle.registers.specs.Words.{endOf}
+use Rattle.registers.proofs.Cases.{held-zero, held-some}
+use Rattle.registers.proofs.Shifts.{set-past}
+use Rattle.registers.proofs.put_held.Statement.{statement}
+use Rattle.registers.proofs.put_held.Tie as tie
+
+returns : tie.Need-returns
+unfolding endOf
+returns c =
+    let c2 = c .before .before in
+    let c4 = c2 .before .before in
+    held-zero _ _ _ _ _ _ (c4 .before .before .if1 .taken) (c4 .place .ensures .0)
+    (c2 .shift-up .ensures)
+    (c .shift-up2 .ensures)
+
+returns-2 : tie.Need-returns-2
+returns-2 c = held-some _ _ _ _ (c .before .if1 .left) refl
+
+returns-3 : tie.Need-returns-3
+returns-3 c =
+    let c2 = c .before .before in
+    held-some _ _ _ _ (c2 .before .if1 .left) (set-past _ _ _ (c .sized .ensures) (c2 .if2 .left) _)
+
+pub put-held-spec : {M : Type 1} → statement M
+put-held-spec =
+    tie.close
+    (tie.spec (λ c κs. search needs) (λ c κs. search needs) (λ c κs. search needs) returns
+    (λ c. search needs) (λ c. search needs) returns-2 (λ c κs. search needs) returns-3)
