@@ -94,7 +94,7 @@ pub record ReadOut : Type 0 where
 abbrev pub got : List ℕ → Got → ReadOut
 got o g = record { own = o; got = g }
 
--- what is read of a memory, where the size is one
+-- what an access to a memory reads; 9 where its size is not 1, 2 or 4
 abbrev pub sizedGot : ℕ → ℕ → Got
 sizedGot n v = cond (goodSize n) (record { refusal = 0; value = v }) (record { refusal = 9; value = 0 })
 

@@ -94,7 +94,7 @@ withSram w m = world (w .registers) (w .rtc) (w .page) (w .ram) m (w .gpio) (w .
 abbrev pub withGpio : World → List ℕ → World
 withGpio w m = world (w .registers) (w .rtc) (w .page) (w .ram) (w .sram) m (w .fb) (w .devices)
 
--- a memory that is written, where the size is one
+-- what an access leaves of a memory: as it was, where its size is not 1, 2 or 4
 abbrev pub sizedPut : List ℕ → ℕ → ℕ → ℕ → List ℕ
 sizedPut m o n v = cond (goodSize n) (storedAt m o n v) m
 
