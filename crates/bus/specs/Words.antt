@@ -66,11 +66,13 @@ wordWritten own d clock full word old new part =
     (cond (eqb word 0xC0080008) (well (spiSent own new) d)
     (soundWritten own d d clock full word new)))))))
 
--- a word of a timer, by its slot: its control word, or one of timer 4 that the buzzer follows, or one that is only stored
+-- a word of a timer, by its slot: its control word, or one of timer 4 that the buzzer follows, or one that is only
+-- stored
 unfoldable pub timerWord : List ℕ → Devices → ℕ → Bool → ℕ → ℕ → ℕ → Said
 timerWord own d clock full s old new =
     cond (eqb (s % 8) 0) (timerWritten own d clock full (s / 8) (slotWord s) old new)
-    (cond (eqb s 34 || eqb s 35) (soundWritten own d d clock full (slotWord s) new) (well (ownWith own (slotWord s) new) d))
+    (cond (eqb s 34 || eqb s 35) (soundWritten own d d clock full (slotWord s) new)
+    (well (ownWith own (slotWord s) new) d))
 
 -- a word in its own storage: one that acts, or one that is only stored
 unfoldable pub ownWritten : List ℕ → Devices → ℕ → Bool → ℕ → ℕ → ℕ → ℕ → Said

@@ -86,8 +86,8 @@ fn timer_value(
     old
 }
 
-// What a word in its own storage reads as, before shifting. Reading the answer of the second SPI clears three bits beside
-// it.
+// What a word in its own storage reads as, before shifting. Reading the answer of the second SPI clears three bits
+// beside it.
 fn own_value(own: &mut [u32; 76], cells: &Cells, floats: &Floats, sram: &[u8], s: usize) -> u32
     requires { ⌜ s < 76 ⌝ }
     ensures { λ r. ⌜ given (now (own .exit)) r

@@ -17,7 +17,8 @@ use timer::Sounded;
 use timer::Tone;
 use whole::forms::keep;
 
-// What the buzzer does once `kept` is stored in a word of timer 4, by its slot: nothing is stored yet, as that may be refused.
+// What the buzzer does once `kept` is stored in a word of timer 4, by its slot: nothing is stored yet, as that may be
+// refused.
 fn sound_after(own: &[u32; 76], tone: Tone, clock: u32, full: bool, s: usize, kept: u32) -> Sounded
     requires { ⌜ s < 76 ⌝ }
     ensures { λ r. ⌜ r ≡ soundOf (now (own .entry)) tone clock full (slotWord s) kept ⌝ }
@@ -65,7 +66,8 @@ pub(crate) fn sound_write(
     }
 }
 
-// The control word of a timer, by its slot. It is stored without bit 15; timer 4's only where the buzzer's event has room.
+// The control word of a timer, by its slot. It is stored without bit 15; timer 4's only where the buzzer's event has
+// room.
 pub(crate) fn timer_write_ctrl(
     own: &mut [u32; 76],
     cells: &mut Cells,

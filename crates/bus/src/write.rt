@@ -116,8 +116,8 @@ fn other_write(
         (wroteOf r (partsIn (now (cells .exit)) (now (floats .exit)) .devices))
         ≡ otherWritten (registersOf (now (own .entry)) (now (addresses .entry)) (now (values .entry)))
         (partsIn (now (cells .entry)) (now (floats .entry)) .devices) word
-        (mergedOf (wordAt (registersOf (now (own .entry)) (now (addresses .entry)) (now (values .entry))) word) addr size
-        value))
+        (mergedOf (wordAt (registersOf (now (own .entry)) (now (addresses .entry)) (now (values .entry))) word)
+        addr size value))
         × Rest r (now (cells .entry)) (now (floats .entry)) (now (cells .exit)) (now (floats .exit)) ⌝ }
 {
     let field = field_at(word);

@@ -89,7 +89,8 @@ fn few_kinds(table: &[bool; 256], script: &[u8], from: usize, n: usize) -> bool
     good
 }
 
-// Whether the n steps from a place on have kinds from 1 to the last. All are looked at, so that nothing waits for a test.
+// Whether the n steps from a place on have kinds from 1 to the last. All are looked at, so that nothing waits for a
+// test.
 fn kinds(script: &[u8], from: usize, n: usize) -> bool
     requires { ⌜ from + stepBytes * n ≤ length (now script) ⌝ }
     ensures { λ r. ⌜ r ≡ kindsFrom (now (script .entry)) from n ⌝ }
@@ -148,7 +149,8 @@ fn step_in(bytes: &[u8]) -> Entry
     }
 }
 
-// The press at a place. Here and below a part of known length is taken of the script, so that no load tests for the end.
+// The press at a place. Here and below a part of known length is taken of the script, so that no load tests for the
+// end.
 pub(crate) fn press_at(script: &[u8], at: usize) -> Entry
     requires { ⌜ at + pressBytes ≤ length (now script) ⌝ }
     ensures { λ r. ⌜ r ≡ pressFrom (now (script .entry)) at ⌝ }

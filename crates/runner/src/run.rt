@@ -100,8 +100,8 @@ fn run_entries(
         (now (ram .exit)) (now (sram .exit)) (now (gpio .exit)) (now (fb .exit))) (now (out .exit))
         ≡ ranOf
         (ran
-        (machineOf (now (own .entry)) (now (addresses .entry)) (now (values .entry)) (now (rtc .entry)) (now (page .entry))
-        (now (at .entry)) (now (frequencies .entry)) (now (duties .entry)) (now (times .entry)) (now (codes .entry))
+        (machineOf (now (own .entry)) (now (addresses .entry)) (now (values .entry)) (now (rtc .entry))
+        (now (page .entry)) (now (at .entry)) (now (frequencies .entry)) (now (duties .entry)) (now (times .entry)) (now (codes .entry))
         (partsIn (now (cells .entry)) (now (floats .entry)))
         (now (ram .entry)) (now (sram .entry)) (now (gpio .entry)) (now (fb .entry))) (now (out .entry)))
         4

@@ -16,7 +16,6 @@ lay-requires-2 c κs =
     let c32 = c .before .before .before .before .before .before .before .before .before .before .before .before
     .before .before .before .before .before .before .before .before .before .before .before .before .before
     .before .before .before .before .before .before .before in
-    let c32 = c32 in
     (c32 .pre .2)
 
 lay-requires-12 : tie.Need-lay-requires-12
@@ -24,13 +23,11 @@ lay-requires-12 c κs =
     let c33 = c .before .before .before .before .before .before .before .before .before .before .before .before
     .before .before .before .before .before .before .before .before .before .before .before .before .before
     .before .before .before .before .before .before .before .before in
-    let c33 = c33 in
     (c33 .pre .2)
 
 returns : tie.Need-returns
 returns c =
     let c2 = c .before .before in
-    let c2 = c2 in
     let c3 = c2 .before in
     let c6 = c3 .before .before .before in
     let c15 = c6 .before .before .before .before .before .before .before .before .before in
@@ -48,7 +45,6 @@ returns c =
 returns-2 : tie.Need-returns-2
 returns-2 c =
     let c2 = c .before .before in
-    let c2 = c2 in
     let c3 = c2 .before in
     let c13 = c3 .before .before .before .before .before .before .before .before .before .before in
     let c29 = c13 .before .before .before .before .before .before .before .before .before .before .before .before
@@ -67,7 +63,6 @@ returns-2 c =
 returns-3 : tie.Need-returns-3
 returns-3 c =
     let c2 = c .before .before in
-    let c2 = c2 in
     let c3 = c2 .before in
     let c7 = c3 .before .before .before .before in
     let c15 = c7 .before .before .before .before .before .before .before .before in
@@ -85,7 +80,6 @@ returns-3 c =
 returns-4 : tie.Need-returns-4
 returns-4 c =
     let c2 = c .before .before in
-    let c2 = c2 in
     let c3 = c2 .before in
     let c4 = c3 .before in
     let c6 = c4 .before .before in
@@ -103,7 +97,6 @@ returns-4 c =
 returns-5 : tie.Need-returns-5
 returns-5 c =
     let c2 = c .before .before in
-    let c2 = c2 in
     let c3 = c2 .before in
     let c5 = c3 .before .before in
     let c8 = c5 .before .before .before in
@@ -120,7 +113,6 @@ returns-5 c =
 returns-6 : tie.Need-returns-6
 returns-6 c =
     let c2 = c .before .before in
-    let c2 = c2 in
     let c3 = c2 .before in
     let c5 = c3 .before .before in
     let c7 = c5 .before .before in
@@ -138,7 +130,6 @@ returns-6 c =
 returns-7 : tie.Need-returns-7
 returns-7 c =
     let c2 = c .before .before in
-    let c2 = c2 in
     let c3 = c2 .before in
     let c5 = c3 .before .before in
     let c9 = c5 .before .before .before .before in
@@ -156,7 +147,6 @@ returns-7 c =
 returns-8 : tie.Need-returns-8
 returns-8 c =
     let c2 = c .before .before in
-    let c2 = c2 in
     let c3 = c2 .before in
     let c5 = c3 .before .before in
     let c8 = c5 .before .before .before in
@@ -174,7 +164,6 @@ returns-8 c =
 returns-9 : tie.Need-returns-9
 returns-9 c =
     let c2 = c .before .before in
-    let c2 = c2 in
     let c3 = c2 .before in
     let c5 = c3 .before .before in
     let c10 = c5 .before .before .before .before .before in
@@ -191,7 +180,6 @@ returns-9 c =
 returns-10 : tie.Need-returns-10
 returns-10 c =
     let c2 = c .before .before in
-    let c2 = c2 in
     let c3 = c2 .before in
     let c6 = c3 .before .before .before in
     let c12 = c6 .before .before .before .before .before .before in
@@ -207,7 +195,6 @@ returns-10 c =
 returns-11 : tie.Need-returns-11
 returns-11 c =
     let c2 = c .before .before in
-    let c2 = c2 in
     let c3 = c2 .before in
     let c5 = c3 .before .before in
     let c7 = c5 .before .before in
@@ -225,20 +212,17 @@ same-length-23 : tie.Need-same-length-23
 same-length-23 c =
     let c13 = c .before .before .before .before .before .before .before .before .before .before .before .before
     .before in
-    let c13 = c13 in
     (c13 .wipe-all .kept .1 .1 .1 .1 .1 .1 .1 .1 .1 .1 .1 .1 .0)
 
 same-length-24 : tie.Need-same-length-24
 same-length-24 c =
     let c13 = c .before .before .before .before .before .before .before .before .before .before .before .before
     .before in
-    let c13 = c13 in
     (c13 .wipe-all .kept .1 .1 .1 .1 .1 .1 .1 .1 .1 .1 .1 .1 .1 .0)
 
 returns-12 : tie.Need-returns-12
 returns-12 c =
     let c2 = c .before .before in
-    let c2 = c2 in
     let c3 = c2 .before in
     let c13 = c3 .before .before .before .before .before .before .before .before .before .before in
     let c30 = c13 .before .before .before .before .before .before .before .before .before .before .before .before
@@ -256,7 +240,6 @@ returns-12 c =
 returns-13 : tie.Need-returns-13
 returns-13 c =
     let c5 = c .before .before .before .before .before in
-    let c5 = c5 in
     let c11 = c5 .before .before .before .before .before .before in
     let n = (c5 .match .rest) in
     absurd (no-kind _ (c11 .pre .0) (c11 .pre .1) (n .0 .0 .0 .0 .0 .0 .0 .0 .0 .0 .0 .1)

@@ -11,13 +11,11 @@ returns c = run-bad _ _ _ _ _ _ (c .before .bad-script .ensures) (c .if1 .taken)
 steps-requires : tie.Need-steps-requires
 steps-requires c κs =
     let c2 = c .before .before in
-    let c2 = c2 in
     few-presses _ (c2 .bad-script .ensures) (c .before .if1 .left) (c .presses .ensures)
 
 add-if2 : tie.Need-add-if2
 add-if2 c =
     let c2 = c .before .before in
-    let c2 = c2 in
     let c3 = c2 .before in
     let f = few _ (c3 .bad-script .ensures) (c2 .if1 .left) (c .before .presses .ensures) (c .steps .ensures) in
     omega arith
@@ -25,7 +23,6 @@ add-if2 c =
 mul-if2 : tie.Need-mul-if2
 mul-if2 c =
     let c2 = c .before .before in
-    let c2 = c2 in
     let c3 = c2 .before in
     let f = few _ (c3 .bad-script .ensures) (c2 .if1 .left) (c .before .presses .ensures) (c .steps .ensures) in
     omega arith
@@ -33,7 +30,6 @@ mul-if2 c =
 add-if2-2 : tie.Need-add-if2-2
 add-if2-2 c =
     let c2 = c .before .before in
-    let c2 = c2 in
     let c3 = c2 .before in
     let f = few _ (c3 .bad-script .ensures) (c2 .if1 .left) (c .before .presses .ensures) (c .steps .ensures) in
     omega arith
@@ -41,7 +37,6 @@ add-if2-2 c =
 returns-2 : tie.Need-returns-2
 returns-2 c =
     let c2 = c .before .before in
-    let c2 = c2 in
     let c3 = c2 .before in
     let c4 = c3 .before in
     run-short _ _ _ _ _ _ (c4 .bad-script .ensures) (c3 .if1 .left) (c2 .presses .ensures) (c
@@ -50,7 +45,6 @@ returns-2 c =
 add-store : tie.Need-add-store
 add-store c =
     let c2 = c .before .before in
-    let c2 = c2 in
     let c3 = c2 .before in
     let c4 = c3 .before in
     let c5 = c4 .before in
@@ -60,7 +54,6 @@ add-store c =
 cast-store : tie.Need-cast-store
 cast-store c =
     let c2 = c .before .before in
-    let c2 = c2 in
     let c3 = c2 .before in
     let c4 = c3 .before in
     let c5 = c4 .before in
@@ -70,7 +63,6 @@ cast-store c =
 run-fresh-requires : tie.Need-run-fresh-requires
 run-fresh-requires c κs =
     let c7 = c .before .before .before .before .before .before .before in
-    let c7 = c7 in
     let c9 = c7 .before .before in
     let c10 = c9 .before in
     let c11 = c10 .before in
@@ -84,14 +76,12 @@ run-fresh-requires c κs =
 same-length-5 : tie.Need-same-length-5
 same-length-5 c =
     let c10 = c .before .before .before .before .before .before .before .before .before .before in
-    let c10 = c10 in
     let c18 = c10 .before .before .before .before .before .before .before .before in
     (c10 .run-fresh .kept .1 .1 .1 .1 .1 .1 .1 .0) ∙ (c18 .store .kept .0)
 
 returns-3 : tie.Need-returns-3
 returns-3 c =
     let c10 = c .before .before .before .before .before .before .before .before .before .before in
-    let c10 = c10 in
     let c18 = c10 .before .before .before .before .before .before .before .before in
     let c20 = c18 .before .before in
     let c21 = c20 .before in

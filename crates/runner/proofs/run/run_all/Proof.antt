@@ -6,13 +6,11 @@ use Rattle.runner.proofs.run.run_all.Tie as tie
 same-length : tie.Need-same-length
 same-length c =
     let c10 = c .before .before .before .before .before .before .before .before .before .before in
-    let c10 = c10 in
     (c10 .run-entries .kept .1 .1 .1 .1 .1 .1 .1 .1 .1 .1 .1 .1 .0)
 
 returns : tie.Need-returns
 returns c =
     let c10 = c .before .before .before .before .before .before .before .before .before .before in
-    let c10 = c10 in
     let c28 = c10 .before .before .before .before .before .before .before .before .before .before .before .before
     .before .before .before .before .before .before in
     let c47 = c28 .before .before .before .before .before .before .before .before .before .before .before .before

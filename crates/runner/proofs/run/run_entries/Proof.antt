@@ -36,35 +36,30 @@ abbrev μ-loop : tie.MeasureT-loop
 run-presses-requires : tie.Need-run-presses-requires Inv-loop μ-loop
 run-presses-requires c κs =
     let c11 = c .before .before .before .before .before .before .before .before .before .before .before in
-    let c11 = c11 in
     ((c11 .pre .0), omega (arith, (c11 .pre .2)), omega (arith, (c11 .pre .3)))
 
 mul-from : tie.Need-mul-from Inv-loop μ-loop
 mul-from c =
     let c14 = c .before .before .before .before .before .before .before .before .before .before .before .before
     .before .before in
-    let c14 = c14 in
     omega (arith, (c14 .pre .0))
 
 add-from : tie.Need-add-from Inv-loop μ-loop
 add-from c =
     let c14 = c .before .before .before .before .before .before .before .before .before .before .before .before
     .before .before in
-    let c14 = c14 in
     omega (arith, (c14 .pre .0))
 
 mul-to : tie.Need-mul-to Inv-loop μ-loop
 mul-to c =
     let c14 = c .before .before .before .before .before .before .before .before .before .before .before .before
     .before .before in
-    let c14 = c14 in
     omega (arith, (c14 .pre .0))
 
 add-to : tie.Need-add-to Inv-loop μ-loop
 add-to c =
     let c14 = c .before .before .before .before .before .before .before .before .before .before .before .before
     .before .before in
-    let c14 = c14 in
     omega (arith, (c14 .pre .0))
 
 loop-holds : tie.Need-loop-holds Inv-loop μ-loop
@@ -74,14 +69,12 @@ step-at-requires : tie.Need-step-at-requires Inv-loop μ-loop
 step-at-requires c κs =
     let c16 = c .before .before .before .before .before .before .before .before .before .before .before .before
     .before .before .before .before in
-    let c16 = c16 in
     omega (arith, (c .before .loop .inv .1), (c .loop-test .taken), (c16 .pre .2))
 
 act-requires : tie.Need-act-requires Inv-loop μ-loop
 act-requires c κs =
     let c17 = c .before .before .before .before .before .before .before .before .before .before .before .before
     .before .before .before .before .before in
-    let c17 = c17 in
     let c18 = c17 .before in
     let c19 = c18 .before in
     let c22 = c19 .before .before .before in
@@ -107,7 +100,6 @@ add-from-2 c =
     let c29 = c .before .before .before .before .before .before .before .before .before .before .before .before
     .before .before .before .before .before .before .before .before .before .before .before .before .before
     .before .before .before .before in
-    let c29 = c29 in
     let c30 = c29 .before in
     let c45 = c30 .before .before .before .before .before .before .before .before .before .before .before .before
     .before .before .before in
@@ -118,7 +110,6 @@ add-to-2 c =
     let c29 = c .before .before .before .before .before .before .before .before .before .before .before .before
     .before .before .before .before .before .before .before .before .before .before .before .before .before
     .before .before .before .before in
-    let c29 = c29 in
     let c30 = c29 .before in
     let c45 = c30 .before .before .before .before .before .before .before .before .before .before .before .before
     .before .before .before in
@@ -129,7 +120,6 @@ sub-left c =
     let c29 = c .before .before .before .before .before .before .before .before .before .before .before .before
     .before .before .before .before .before .before .before .before .before .before .before .before .before
     .before .before .before .before in
-    let c29 = c29 in
     omega (arith, (c29 .loop-test .taken))
 
 loop-less : tie.Need-loop-less Inv-loop μ-loop
@@ -137,13 +127,11 @@ loop-less c =
     let c29 = c .before .before .before .before .before .before .before .before .before .before .before .before
     .before .before .before .before .before .before .before .before .before .before .before .before .before
     .before .before .before .before in
-    let c29 = c29 in
     omega (arith, (c29 .loop-test .taken))
 
 loop-again : tie.Need-loop-again Inv-loop μ-loop
 loop-again c =
     let c10 = c .before .before .before .before .before .before .before .before .before .before in
-    let c10 = c10 in
     let c28 = c10 .before .before .before .before .before .before .before .before .before .before .before .before
     .before .before .before .before .before .before in
     let c29 = c28 .before in
@@ -183,13 +171,11 @@ same-length-4 c = (c .before .loop .inv .6)
 same-length-5 : tie.Need-same-length-5 Inv-loop μ-loop
 same-length-5 c =
     let c4 = c .before .before .before .before in
-    let c4 = c4 in
     (c .before .loop .inv .7) ∙ (c4 .run-presses .kept .1 .1 .1 .1 .1 .1 .0)
 
 returns : tie.Need-returns Inv-loop μ-loop
 returns c =
     let c4 = c .before .before .before .before in
-    let c4 = c4 in
     let c16 = c4 .before .before .before .before .before .before .before .before .before .before .before .before
     in
     let a = (c16 .args) in

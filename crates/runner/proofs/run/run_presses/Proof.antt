@@ -44,13 +44,11 @@ loop-holds c = (
 press-at-requires : tie.Need-press-at-requires Inv-loop μ-loop
 press-at-requires c κs =
     let c4 = c .before .before .before .before in
-    let c4 = c4 in
     omega (arith, (c .before .loop .inv .1), (c .loop-test .taken), (c4 .pre .0), (c4 .pre .1))
 
 lay-requires : tie.Need-lay-requires Inv-loop μ-loop
 lay-requires c κs =
     let c7 = c .before .before .before .before .before .before .before in
-    let c7 = c7 in
     let c8 = c7 .before in
     let c11 = c8 .before .before .before in
     omega (arith, (c8 .loop .inv .2), (c8 .loop .inv .3), (c7 .loop-test .taken), (c11 .pre .2))
@@ -58,7 +56,6 @@ lay-requires c κs =
 add-from : tie.Need-add-from Inv-loop μ-loop
 add-from c =
     let c10 = c .before .before .before .before .before .before .before .before .before .before in
-    let c10 = c10 in
     let c11 = c10 .before in
     let c14 = c11 .before .before .before in
     omega (arith, (c11 .loop .inv .1), (c10 .loop-test .taken), (c14 .pre .0))
@@ -66,7 +63,6 @@ add-from c =
 add-to : tie.Need-add-to Inv-loop μ-loop
 add-to c =
     let c10 = c .before .before .before .before .before .before .before .before .before .before in
-    let c10 = c10 in
     let c11 = c10 .before in
     let c14 = c11 .before .before .before in
     omega (arith, (c11 .loop .inv .2), (c10 .loop-test .taken), (c14 .pre .0))
@@ -74,19 +70,16 @@ add-to c =
 sub-left : tie.Need-sub-left Inv-loop μ-loop
 sub-left c =
     let c10 = c .before .before .before .before .before .before .before .before .before .before in
-    let c10 = c10 in
     omega (arith, (c10 .loop-test .taken))
 
 loop-less : tie.Need-loop-less Inv-loop μ-loop
 loop-less c =
     let c10 = c .before .before .before .before .before .before .before .before .before .before in
-    let c10 = c10 in
     omega (arith, (c10 .loop-test .taken))
 
 loop-again : tie.Need-loop-again Inv-loop μ-loop
 loop-again c =
     let c2 = c .before .before in
-    let c2 = c2 in
     let c3 = c2 .before in
     let c5 = c3 .before .before in
     let c9 = c5 .before .before .before .before in
