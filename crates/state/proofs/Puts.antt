@@ -56,7 +56,7 @@ module _ (l : List ℕ) (long : length l ≡ cellCount) (f : List Float) where
   pub sent-put : (rx : ℕ) (x : Trans) (a : ℕ) → a ≡ bit (x .long) → rx < 256 → x .cmd < 256 → x .a1 < 256 → x .a2 < 256 → x .a3 < 256
       → Put l f (set (set (set (set (set (set (set l 4 rx) 5 (x .cmd)) 6 (x .a1)) 7 (x .a2)) 8 (x .a3)) 9 (x .pos)) 10 a) f
       (laidAt l 4 (sentCells rx x)) f (sentPut (partsIn l f) rx x)
-  unfolding chipIn panelIn timesIn timerIn irqIn latchIn toneIn ringIn keysIn spread laidAt chipCells panelCells clockCells keyCells cellsOf floatsOf timesFloats sentCells
+  unfolding chipIn panelIn timesIn timerIn irqIn latchIn toneIn ringIn keysIn spread laidAt chipCells panelCells clockCells keyCells cellsOf floatsOf timesFloats
   sent-put rx x a h m n o p q =
       put-of (λ y. sentPut y rx x) (λ z. laidAt z 4 (sentCells rx x)) (λ v. v) l f
       (rw (spread-is 0 l cellCount long, h))
@@ -69,7 +69,7 @@ module _ (l : List ℕ) (long : length l ≡ cellCount) (f : List Float) where
       → Put (set (set (set (set l 0 a) 1 b) 2 c) 3 (x .writes)) f l′ f (laidAt (set (set (set (set l 0 a) 1 b) 2 c) 3 (x .writes)) 4 (sentCells (x .rx) (x .tx))) f
       (sentPut (partsIn (set (set (set (set l 0 a) 1 b) 2 c) 3 (x .writes)) f) (x .rx) (x .tx))
       → Put l f l′ f (laidAt l 0 (chipCells x)) f (flashPut (partsIn l f) x)
-  unfolding chipIn panelIn timesIn timerIn irqIn latchIn toneIn ringIn keysIn spread laidAt chipCells panelCells clockCells keyCells cellsOf floatsOf timesFloats sentCells
+  unfolding chipIn panelIn timesIn timerIn irqIn latchIn toneIn ringIn keysIn spread laidAt chipCells panelCells clockCells keyCells cellsOf floatsOf timesFloats
   chip-put x a b c h i j p =
       put-behind (λ y. flashPut y x) (λ z. laidAt z 0 (chipCells x)) l f p
       (rw (spread-is 0 l cellCount long, h, i, j))
@@ -79,7 +79,7 @@ module _ (l : List ℕ) (long : length l ≡ cellCount) (f : List Float) where
 
   pub pen-put : (x : Pen) (a : ℕ) → (a ≡ heldNumber (x .half)) × (heldIn a ≡ x .half) → x .x < 65536 → x .y < 65536
       → Put l f (set (set (set (set l 21 (x .x)) 22 (x .y)) 23 a) 24 (x .frames)) f (laidAt l 21 (penCells x)) f (penPut (partsIn l f) x)
-  unfolding chipIn panelIn timesIn timerIn irqIn latchIn toneIn ringIn keysIn spread laidAt chipCells panelCells clockCells keyCells cellsOf floatsOf timesFloats penCells
+  unfolding chipIn panelIn timesIn timerIn irqIn latchIn toneIn ringIn keysIn spread laidAt chipCells panelCells clockCells keyCells cellsOf floatsOf timesFloats
   pen-put x a h m n =
       put-of (λ y. penPut y x) (λ z. laidAt z 21 (penCells x)) (λ v. v) l f
       (rw (spread-is 0 l cellCount long, h .0))
@@ -99,7 +99,7 @@ module _ (l : List ℕ) (long : length l ≡ cellCount) (f : List Float) where
         → x .count < 256 → x .window .x0 < 65536 → x .window .x1 < 65536 → x .window .y0 < 65536 → x .window .y1 < 65536
         → Put begun f l′ f (laidAt begun 21 (penCells (x .pen))) f (penPut (partsIn begun f) (x .pen))
         → Put l f l′ f (laidAt l 11 (panelCells x)) f (panelPut (partsIn l f) x)
-    unfolding chipIn panelIn timesIn timerIn irqIn latchIn toneIn ringIn keysIn spread laidAt chipCells panelCells clockCells keyCells cellsOf floatsOf timesFloats penCells
+    unfolding chipIn panelIn timesIn timerIn irqIn latchIn toneIn ringIn keysIn spread laidAt chipCells panelCells clockCells keyCells cellsOf floatsOf timesFloats
     panel-put h four i j k m n o q r s p =
         put-behind (λ y. panelPut y x) (λ z. laidAt z 11 (panelCells x)) l f p
         (rw (spread-is 0 l cellCount long, h .0, i .0, j .0, k .0, m .0))

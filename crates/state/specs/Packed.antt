@@ -38,24 +38,16 @@ heldNumber (Byte b) = b
 
 -- ---- the words of each part, in the order of their places
 
-unfoldable pub chipCells : Chip → List ℕ
-chipCells c =
-    modeNumber (c .mode)
-    ∷ bit (c .cs)
-    ∷ bit (c .wel)
-    ∷ c .writes
-    ∷ c .rx
-    ∷ c .tx .cmd
-    ∷ c .tx .a1
-    ∷ c .tx .a2
-    ∷ c .tx .a3
-    ∷ c .tx .pos
-    ∷ bit (c .tx .long)
-    ∷ []
-
--- of these the flash's answer and transaction
-unfoldable pub sentCells : ℕ → Trans → List ℕ
+-- of the flash what a transfer changes: its answer and the transaction
+abbrev pub sentCells : ℕ → Trans → List ℕ
 sentCells rx tx = rx ∷ tx .cmd ∷ tx .a1 ∷ tx .a2 ∷ tx .a3 ∷ tx .pos ∷ bit (tx .long) ∷ []
+
+unfoldable pub chipCells : Chip → List ℕ
+chipCells c = modeNumber (c .mode) ∷ bit (c .cs) ∷ bit (c .wel) ∷ c .writes ∷ sentCells (c .rx) (c .tx)
+
+-- of the panel what a pixel changes
+abbrev pub penCells : Pen → List ℕ
+penCells p = p .x ∷ p .y ∷ heldNumber (p .half) ∷ p .frames ∷ []
 
 unfoldable pub panelCells : Panel → List ℕ
 panelCells p =
@@ -69,15 +61,7 @@ panelCells p =
     ∷ p .window .x1
     ∷ p .window .y0
     ∷ p .window .y1
-    ∷ p .pen .x
-    ∷ p .pen .y
-    ∷ heldNumber (p .pen .half)
-    ∷ p .pen .frames
-    ∷ []
-
--- of these the pen's
-unfoldable pub penCells : Pen → List ℕ
-penCells p = p .x ∷ p .y ∷ heldNumber (p .half) ∷ p .frames ∷ []
+    ∷ penCells (p .pen)
 
 -- f of each of the six timers
 abbrev pub ofTimers : {A : Type 0} → (Timer → A) → List Timer → List A
