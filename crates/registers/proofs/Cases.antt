@@ -11,7 +11,8 @@ use Rattle.registers.specs.declared.Registers.{Registers}
 use Rattle.registers.specs.declared.Refusal.the-variants.{Done, RegistersFull}
 use Rattle.registers.specs.declared.Spot.{Spot}
 use Rattle.registers.specs.declared.Spot.the-variants.{Own, Never, Held, Absent}
-use Rattle.registers.specs.Words.{wordsFrom, namedWords, ownWords, index, slotOf, unstored, place, otherSpot, spotOf}
+use Rattle.registers.specs.Words.{wordsFrom, namedWords, ownWords, index, slotOf, unstored}
+use Rattle.registers.specs.Words.{place, otherSpot, spotOf}
 use Rattle.registers.specs.Words.{removedTo, insertedTo, Others, others, endOf, putHeld, OtherOutcome}
 use Rattle.registers.specs.Words.{otherOutcome, putAbsent, registersOf, othersOf, outcome, beside, putIn}
 
@@ -104,7 +105,7 @@ module _ (l : List ℕ) (a : ℕ) where
 
 -- ---- what is put there; p and q are the addresses and values that were stored
 module _ (o : Others) (i v : ℕ) where
-  pub held-zero : (n : ℕ) (p q : List ℕ) → v ≡ 0 → n ≡ endOf o
+  pub held-zero : (n : ℕ) (p q : List ℕ) → v ≡ 0 → n ≡ endOf o i
       → p ≡ removedTo n (o .addresses) i → q ≡ removedTo n (o .values) i → others p q ≡ putHeld o i v
   unfolding putHeld
   held-zero n p q z e f g = rw (eq-eqb _ _ z, f, g, e)
@@ -122,7 +123,7 @@ module _ (o : Others) (i v : ℕ) where
     unfolding putAbsent
     absent-full n full = rw (ne-eqb _ _ n, ne-eqb _ _ full)
 
-    pub absent-room : (n : ℕ) (p q : List ℕ) → v ≢ 0 → getD (o .values) 255 0 ≡ 0 → n ≡ endOf o
+    pub absent-room : (n : ℕ) (p q : List ℕ) → v ≢ 0 → getD (o .values) 255 0 ≡ 0 → n ≡ endOf o i
         → p ≡ insertedTo n (o .addresses) i a → q ≡ insertedTo n (o .values) i v
         → otherOutcome Done (others p q) ≡ putAbsent o i a v
     unfolding putAbsent

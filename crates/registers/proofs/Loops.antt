@@ -1,13 +1,15 @@
 -- The loops that give a place back, and take one: from place to place.
-use Prim.Native.Nat.{ℕ, zero, suc, _+_, _-_, _<_, _≤_}
+use Prim.Native.Nat.{ℕ, zero, suc, _+_, _-_, _*_, _<_, _≤_}
 use mathlib.Core.Path.{_≡_, refl, sym, ap, _∙_}
 use mathlib.Core.List.{List, [], _∷_, _++_}
+use mathlib.Core.Logic.{_≢_}
 use native.Mathlib.Numerals.{add-one}
 use native.Mathlib.Omega.{arith}
-use lib.ListN.{length, getD, set, take, drop, take-append-drop, List·getD-append}
+use lib.ListN.{length, getD, set, take, drop, take-append-drop}
 use lib.Seq.{length-take-le, set-append-left, take-set-lt, drop-set-lt, getD-take}
-use Rattle.registers.specs.Words.{removed, inserted, removedTo, insertedTo}
-use Rattle.registers.proofs.Shifts.{removed-out, inserted-out, length-inserted, inserted-before}
+use borrow.Author.Tests.{eq-eqb, ne-eqb, lt-ltb, le-ltb}
+use Rattle.registers.specs.Words.{removed, inserted, removedTo, insertedTo, endFrom}
+use Rattle.registers.proofs.Shifts.{removed-out, inserted-out}
 
 -- ---- one turn
 
@@ -26,39 +28,38 @@ removed-last (x ∷ []) zero last = refl
 removed-last (x ∷ y ∷ ys) zero last = absurd (omega arith)
 removed-last (x ∷ xs) (suc i) last = ap (λ (m : List ℕ). x ∷ m) (removed-last xs i (omega arith))
 
--- a word that comes in twice is set over
-inserted-set : (l : List ℕ) (i y z : ℕ) → set (inserted l i y) i z ≡ inserted l i z
+-- the last place takes what stands before it, and a word comes in among the places before
+inserted-on : (l : List ℕ) (n i y : ℕ) → suc n < length l → i ≤ n
+    → let m = set l (suc n) (getD l n 0) in
+    inserted (take (suc n) m) i y ++ drop (suc n) m ≡ inserted (take (suc (suc n)) l) i y ++ drop (suc (suc n)) l
 unfolding inserted
-inserted-set [] i y z = refl
-inserted-set (x ∷ xs) zero y z = refl
-inserted-set (x ∷ xs) (suc i) y z = ap (λ (m : List ℕ). x ∷ m) (inserted-set xs i y z)
+inserted-on [] n i y less upto = absurd (omega arith)
+inserted-on (x ∷ []) n i y less upto = absurd (omega arith)
+inserted-on (x ∷ z ∷ zs) zero zero y less upto = refl
+inserted-on (x ∷ z ∷ zs) zero (suc i) y less upto = absurd (omega arith)
+inserted-on (x ∷ z ∷ zs) (suc n) zero y less upto =
+    ap (λ (m : List ℕ). y ∷ m) (inserted-on (z ∷ zs) n zero x (omega arith) (omega arith))
+inserted-on (x ∷ z ∷ zs) (suc n) (suc i) y less upto =
+    ap (λ (m : List ℕ). x ∷ m) (inserted-on (z ∷ zs) n i y (omega arith) (omega arith))
 
--- a word comes in before itself or behind
-inserted-twice : (l : List ℕ) (i : ℕ) → inserted l (suc i) (getD l i 0) ≡ inserted l i (getD l i 0)
+inserted-last : (l : List ℕ) (i y : ℕ) → i < length l → set l i y ≡ inserted (take (suc i) l) i y ++ drop (suc i) l
 unfolding inserted
-inserted-twice [] i = refl
-inserted-twice (x ∷ xs) zero = refl
-inserted-twice (x ∷ xs) (suc i) = ap (λ (m : List ℕ). x ∷ m) (inserted-twice xs i)
-
-inserted-first : (l : List ℕ) (i : ℕ) → i + 1 ≡ length l → l ≡ inserted l i (getD l i 0)
-unfolding inserted
-inserted-first [] i last = absurd (omega arith)
-inserted-first (x ∷ []) zero last = refl
-inserted-first (x ∷ y ∷ ys) zero last = absurd (omega arith)
-inserted-first (x ∷ xs) (suc i) last = ap (λ (m : List ℕ). x ∷ m) (inserted-first xs i (omega arith))
-
-inserted-on : (l : List ℕ) (i y : ℕ)
-    → set (inserted l (suc i) y) (suc i) (getD (inserted l (suc i) y) i 0) ≡ inserted l i (getD l i 0)
-inserted-on l i y =
-    inserted-set l (suc i) y (getD (inserted l (suc i) y) i 0)
-    ∙ ap (inserted l (suc i)) (inserted-before l (suc i) i y (omega arith))
-    ∙ inserted-twice l i
+inserted-last [] i y less = absurd (omega arith)
+inserted-last (x ∷ xs) zero y less = refl
+inserted-last (x ∷ xs) (suc i) y less = ap (λ (m : List ℕ). x ∷ m) (inserted-last xs i y (omega arith))
 
 -- ---- among places 0 to n
 
--- place i stands twice, and the last has fallen out
-abbrev pub doubled : ℕ → List ℕ → ℕ → List ℕ
-doubled n l i = insertedTo n l i (getD (take (n + 1) l) i 0)
+pub same-end : (l : List ℕ) (i y : ℕ) {m n : ℕ} → m ≡ n → insertedTo m l i y ≡ insertedTo n l i y
+same-end l i y e = rw e
+
+down-turn : (n : ℕ) (l : List ℕ) (i y : ℕ) → n < length l → i < n
+    → insertedTo (n - 1) (set l n (getD l (n - 1) 0)) i y ≡ insertedTo n l i y
+unfolding insertedTo
+down-turn zero l i y long less = absurd (omega arith)
+down-turn (suc n) l i y long less =
+    let before : suc n - 1 ≡ n = omega arith in
+    rw (before, add-one n, add-one (suc n)) (inserted-on l n i y long (omega arith))
 
 module _ (n : ℕ) (l : List ℕ) (size : length l ≡ 256) (most : n ≤ 255) where
   pub front : length (take (n + 1) l) ≡ n + 1
@@ -102,32 +103,47 @@ module _ (n : ℕ) (l : List ℕ) (size : length l ≡ 256) (most : n ≤ 255) w
       sym joined
       ∙ ap (λ (m : List ℕ). m ++ drop (n + 1) l) (inserted-out (take (n + 1) l) i y (omega (arith, front)))
 
-  pub down-first : l ≡ doubled n l n
-  unfolding insertedTo
-  down-first =
-      sym joined ∙ ap (λ (m : List ℕ). m ++ drop (n + 1) l) (inserted-first (take (n + 1) l) n (sym front))
+  pub down-on : (i y : ℕ) → i < n → insertedTo (n - 1) (set l n (getD l (n - 1) 0)) i y ≡ insertedTo n l i y
+  down-on i y less = down-turn n l i y (omega arith) less
 
-  long-inserted : (i y : ℕ) → length (inserted (take (n + 1) l) i y) ≡ n + 1
-  long-inserted i y = length-inserted (take (n + 1) l) i y ∙ front
-
-  pub down-on : (i : ℕ) (w : List ℕ) → 0 < i → i ≤ n → w ≡ doubled n l i
-      → set w i (getD w (i - 1) 0) ≡ doubled n l (i - 1)
+  pub down-end : (y : ℕ) → set l n y ≡ insertedTo n l n y
   unfolding insertedTo
-  down-on zero w some upto e = absurd (omega arith)
-  down-on (suc i) w some upto e =
-      let p = take (n + 1) l in
-      let y = getD p (suc i) 0 in
-      let m = inserted p (suc i) y in
-      let z : suc i - 1 ≡ i = omega arith in
-      let within : i < length m = omega (arith, long-inserted (suc i) y) in
-      rw (e, z)
-      (set-front m (suc i) (getD (m ++ drop (n + 1) l) i 0) (long-inserted (suc i) y) upto
-      ∙ ap (λ (x : ℕ). set m (suc i) x ++ drop (n + 1) l) (List·getD-append m (drop (n + 1) l) 0 i within)
-      ∙ ap (λ (k : List ℕ). k ++ drop (n + 1) l) (inserted-on p i y))
+  down-end y = rw (add-one n) (inserted-last l n y (omega arith))
 
-  pub down-end : (i j y v : ℕ) (w : List ℕ) → i ≡ j → j ≤ n → w ≡ insertedTo n l i y → set w j v ≡ insertedTo n l j v
-  unfolding insertedTo
-  down-end i j y v w same upto e =
-      rw (e, same)
-      (set-front (inserted (take (n + 1) l) j y) j v (long-inserted j y) upto
-      ∙ ap (λ (m : List ℕ). m ++ drop (n + 1) l) (inserted-set (take (n + 1) l) j y v))
+-- ---- every sixteenth place
+
+-- a search for the last place to be moved has come to place i
+pub record Come (l : List ℕ) (at i : ℕ) : Type 0 where
+  pub left : ℕ
+  pub enough : 240 ≤ i + 16 * left
+  pub same : endFrom left l i ≡ endFrom 15 l at
+
+pub come-first : (l : List ℕ) (at : ℕ) → Come l at at
+come-first l at = record { left = 15; enough = omega arith; same = refl }
+
+module _ (l : List ℕ) (at i : ℕ) where
+  pub come-here : Come l at i → i < 240 → getD l i 0 ≡ 0 → i ≡ endFrom 15 l at
+  unfolding endFrom
+  come-here c less free = here (c .left) (c .enough) ∙ c .same
+    where
+      here : (n : ℕ) → 240 ≤ i + 16 * n → i ≡ endFrom n l i
+      here zero enough = absurd (omega arith)
+      here (suc n) enough = rw (lt-ltb _ _ less, eq-eqb _ _ free)
+
+  pub come-on : Come l at i → i < 240 → getD l i 0 ≢ 0 → Come l at (i + 16)
+  unfolding endFrom
+  come-on c less some = on (c .left) (c .enough) (c .same)
+    where
+      on : (n : ℕ) → 240 ≤ i + 16 * n → endFrom n l i ≡ endFrom 15 l at → Come l at (i + 16)
+      on zero enough same = absurd (omega arith)
+      on (suc n) enough same =
+          let turn : endFrom n l (i + 16) ≡ endFrom (suc n) l i = rw (lt-ltb _ _ less, ne-eqb _ _ some) in
+          record { left = n; enough = omega arith; same = turn ∙ same }
+
+  pub come-past : Come l at i → 240 ≤ i → 255 ≡ endFrom 15 l at
+  unfolding endFrom
+  come-past c past = there (c .left) ∙ c .same
+    where
+      there : (n : ℕ) → 255 ≡ endFrom n l i
+      there zero = refl
+      there (suc n) = rw (le-ltb _ _ past)

@@ -1,20 +1,21 @@
--- To move the places up to the first free one is to move all.
+-- To move the places up to a free one is to move all.
 use Prim.Native.Nat.{ℕ, zero, suc, _+_, _<_, _≤_}
 use mathlib.Core.Path.{_≡_, refl, sym, ap, subst, _∙_}
 use mathlib.Core.List.{List, [], _∷_, _++_, append-assoc}
 use native.Mathlib.Omega.{arith}
 use lib.ListN.{length, getD, take, drop, List·getD-eq-default}
 use lib.Seq.{getD-take, getD-drop}
+use borrow.Author.Tests.{eq-eqb, ne-eqb, lt-ltb, le-ltb}
 use Rattle.registers.specs.declared.Registers.{Registers}
 use Rattle.registers.specs.declared.Refusal.the-variants.{Done}
-use Rattle.registers.specs.Words.{place, removed, inserted, removedTo, insertedTo, Others, endOf}
+use Rattle.registers.specs.Words.{removed, inserted, removedTo, insertedTo, Others, endFrom, endOf}
 use Rattle.registers.specs.Words.{registersOf, othersOf, Outcome, outcome}
-use Rattle.registers.specs.Within.{Other, TidyOthers}
+use Rattle.registers.specs.Within.{TidyOthers}
 use Rattle.registers.proofs.Choice.{by-same, by-less}
-use Rattle.registers.proofs.Search.{place-within, place-stops}
+use Rattle.registers.proofs.Search.{place-within}
 use Rattle.registers.proofs.Loops.{front, joined}
-use Rattle.registers.proofs.Spots.{Here, Gone, placeIn, movedUp, movedDown, PutCases, put-cases}
-use Rattle.registers.proofs.Order.{not-zero, falling, Gap, gap}
+use Rattle.registers.proofs.Spots.{placeIn, movedUp, movedDown, PutCases, put-cases}
+use Rattle.registers.proofs.Order.{not-zero, falling}
 
 -- ---- where all behind place n are free
 
@@ -78,51 +79,52 @@ module _ (n : ℕ) (l : List ℕ) (size : length l ≡ 256) (most : n ≤ 255) (
 
 -- ---- the place that moving ends at, in a tidy table
 
+-- it lies from place i on, and is free but for the last
+pub record End (l : List ℕ) (i e : ℕ) : Type 0 where
+  pub from : i ≤ e
+  pub within : e ≤ 255
+  pub free : e < 255 → getD l e 0 ≡ 0
+
+end-from : (n : ℕ) (l : List ℕ) (i : ℕ) → i ≤ 255 → End l i (endFrom n l i)
+unfolding endFrom
+end-from zero l i most = record { from = most; within = omega arith; free = λ less. absurd (omega arith) }
+end-from (suc n) l i most =
+    by-less i 240
+    (λ less. by-same (getD l i 0) 0
+    (λ free. rw (lt-ltb _ _ less, eq-eqb _ _ free) (record { from = omega arith; within = most; free = λ _. free }))
+    (λ some.
+    let next = end-from n l (i + 16) (omega arith) in
+    rw (lt-ltb _ _ less, ne-eqb _ _ some)
+    (record { from = omega (arith, next .from); within = next .within; free = next .free })))
+    (λ past.
+    rw (le-ltb _ _ past) (record { from = most; within = omega arith; free = λ less. absurd (omega arith) }))
+
 module _ (o : Others) (tidy : TidyOthers o) where
-  falls : (i j : ℕ) → i ≤ j → getD (o .addresses) j 0 ≤ getD (o .addresses) i 0
-  falls = falling o tidy
-
-  end-within : endOf o ≤ 255
-  unfolding endOf
-  end-within = omega (arith, place-within (o .addresses) 0 falls)
-
   free-value : (j : ℕ) → getD (o .addresses) j 0 ≡ 0 → getD (o .values) j 0 ≡ 0
   free-value j z =
       by-same (getD (o .values) j 0) 0 (λ e. e) (λ some. absurd (not-zero _ (tidy .belongs j some) z))
 
-  end-free : endOf o < 255 → getD (o .addresses) (endOf o) 0 ≡ 0
-  unfolding endOf
-  end-free short = omega (arith, place-stops (o .addresses) 0 falls short)
+  module _ (i : ℕ) (most : i ≤ 255) where
+    end-is : End (o .addresses) i (endOf o i)
+    unfolding endOf
+    end-is = end-from 15 (o .addresses) i most
 
-  -- all behind it are free
-  end-behind : (j : ℕ) → endOf o < j → getD (o .addresses) j 0 ≡ 0
-  end-behind j less =
-      by-less (endOf o) 255
-      (λ short. omega (arith, end-free short, falls (endOf o) j (omega arith)))
-      (λ most.
-      let out : length (o .addresses) ≤ j = omega (arith, tidy .addresses) in
-      List·getD-eq-default (o .addresses) 0 out)
+    -- all behind it are free
+    end-behind : (j : ℕ) → endOf o i < j → getD (o .addresses) j 0 ≡ 0
+    end-behind j less =
+        by-less (endOf o i) 255
+        (λ short. omega (arith, end-is .free short, falling o tidy (endOf o i) j (omega arith)))
+        (λ last.
+        let out : length (o .addresses) ≤ j = omega (arith, tidy .addresses) in
+        List·getD-eq-default (o .addresses) 0 out)
 
-  -- and it is itself, where the last is
-  end-room : getD (o .values) 255 0 ≡ 0 → getD (o .addresses) (endOf o) 0 ≡ 0
-  end-room free =
-      by-less (endOf o) 255 end-free
-      (λ most.
-      let last : endOf o ≡ 255 = omega (arith, end-within) in
-      ap (λ (j : ℕ). getD (o .addresses) j 0) last ∙ tidy .free 255 free)
-
-  -- a word that stands in a place, or would, is not behind it
-  held-upto : (a : ℕ) → Other a → Here (o .addresses) a → place (o .addresses) a ≤ endOf o
-  held-upto a other here =
-      by-less (endOf o) (place (o .addresses) a)
-      (λ behind. absurd (not-zero a other (sym here ∙ end-behind (place (o .addresses) a) behind)))
-      (λ upto. upto)
-
-  gap-upto : (a : ℕ) → Gap o tidy a (place (o .addresses) a) → place (o .addresses) a ≤ endOf o
-  gap-upto a g =
-      by-less (endOf o) (place (o .addresses) a)
-      (λ behind. absurd (omega (arith, g .within, g .above (endOf o) behind, end-free (omega (arith, g .within)))))
-      (λ upto. upto)
+    -- and it is itself, where the last is
+    end-room : getD (o .values) 255 0 ≡ 0 → getD (o .addresses) (endOf o i) 0 ≡ 0
+    end-room free =
+        by-less (endOf o i) 255 (end-is .free)
+        (λ past.
+        let last : endOf o i ≡ 255 = omega (arith, end-is .within) in
+        ap (λ (j : ℕ). getD (o .addresses) j 0) last ∙ tidy .free 255 free)
 
 -- ---- a put
 
@@ -134,31 +136,32 @@ abbrev pub takenBy : Registers → ℕ → ℕ → ℕ → Registers
 takenBy r i a v = registersOf (r .own) (inserted (r .addresses) i a) (inserted (r .values) i v)
 
 module _ (r : Registers) (a v : ℕ) (tidy : TidyOthers (othersOf r)) where
-  address-behind : (j : ℕ) → endOf (othersOf r) < j → getD (r .addresses) j 0 ≡ 0
-  address-behind = end-behind (othersOf r) tidy
+  most : placeIn r a ≤ 255
+  most = omega (arith, place-within (r .addresses) a (falling (othersOf r) tidy))
 
-  value-behind : (j : ℕ) → endOf (othersOf r) < j → getD (r .values) j 0 ≡ 0
+  ends : End (r .addresses) (placeIn r a) (endOf (othersOf r) (placeIn r a))
+  ends = end-is (othersOf r) tidy (placeIn r a) most
+
+  address-behind : (j : ℕ) → endOf (othersOf r) (placeIn r a) < j → getD (r .addresses) j 0 ≡ 0
+  address-behind = end-behind (othersOf r) tidy (placeIn r a) most
+
+  value-behind : (j : ℕ) → endOf (othersOf r) (placeIn r a) < j → getD (r .values) j 0 ≡ 0
   value-behind j less = free-value (othersOf r) tidy j (address-behind j less)
 
-  back-all : Other a → Here (r .addresses) a → givenBack r (placeIn r a) ≡ movedUp r (placeIn r a)
-  back-all other here =
-      let most = end-within (othersOf r) tidy in
-      let upto = held-upto (othersOf r) tidy a other here in
+  back-all : givenBack r (placeIn r a) ≡ movedUp r (placeIn r a)
+  back-all =
       rw (
-        removed-all _ (r .addresses) (tidy .addresses) most address-behind (placeIn r a) upto,
-        removed-all _ (r .values) (tidy .values) most value-behind (placeIn r a) upto,
+        removed-all _ (r .addresses) (tidy .addresses) (ends .within) address-behind (placeIn r a) (ends .from),
+        removed-all _ (r .values) (tidy .values) (ends .within) value-behind (placeIn r a) (ends .from),
       )
 
-  taken-all : Gone (r .addresses) a → getD (r .values) 255 0 ≡ 0
-      → takenBy r (placeIn r a) a v ≡ movedDown r (placeIn r a) a v
-  taken-all gone free =
-      let most = end-within (othersOf r) tidy in
-      let upto = gap-upto (othersOf r) tidy a (gap (othersOf r) tidy a gone free) in
-      let room = end-room (othersOf r) tidy free in
+  taken-all : getD (r .values) 255 0 ≡ 0 → takenBy r (placeIn r a) a v ≡ movedDown r (placeIn r a) a v
+  taken-all free =
+      let room = end-room (othersOf r) tidy (placeIn r a) most free in
       let room-value = free-value (othersOf r) tidy _ room in
       rw (
-        inserted-all _ (r .addresses) (tidy .addresses) most address-behind (placeIn r a) a room upto,
-        inserted-all _ (r .values) (tidy .values) most value-behind (placeIn r a) v room-value upto,
+        inserted-all _ (r .addresses) (tidy .addresses) (ends .within) address-behind (placeIn r a) a room (ends .from),
+        inserted-all _ (r .values) (tidy .values) (ends .within) value-behind (placeIn r a) v room-value (ends .from),
       )
 
   -- so a put to a tidy table moves all
@@ -166,8 +169,8 @@ module _ (r : Registers) (a v : ℕ) (tidy : TidyOthers (othersOf r)) where
       → PutCases r a v (givenBack r (placeIn r a)) (takenBy r (placeIn r a) a v) P
   tidy-cases P own never back set none taken full =
       put-cases r a v P own never
-      (λ other here z. subst (λ (x : Registers). P (outcome Done x)) (back-all other here) (back other here z))
+      (λ other here z. subst (λ (x : Registers). P (outcome Done x)) back-all (back other here z))
       set none
       (λ other gone some free.
-      subst (λ (x : Registers). P (outcome Done x)) (taken-all gone free) (taken other gone some free))
+      subst (λ (x : Registers). P (outcome Done x)) (taken-all free) (taken other gone some free))
       full

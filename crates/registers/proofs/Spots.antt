@@ -85,8 +85,8 @@ placeIn r a = place (r .addresses) a
 abbrev pub movedUp : Registers → ℕ → Registers
 movedUp r i =
     registersOf (r .own)
-    (removedTo (endOf (othersOf r)) (r .addresses) i)
-    (removedTo (endOf (othersOf r)) (r .values) i)
+    (removedTo (endOf (othersOf r) i) (r .addresses) i)
+    (removedTo (endOf (othersOf r) i) (r .values) i)
 
 abbrev pub setIn : Registers → ℕ → ℕ → Registers
 setIn r i v = registersOf (r .own) (r .addresses) (set (r .values) i v)
@@ -94,8 +94,8 @@ setIn r i v = registersOf (r .own) (r .addresses) (set (r .values) i v)
 abbrev pub movedDown : Registers → ℕ → ℕ → ℕ → Registers
 movedDown r i a v =
     registersOf (r .own)
-    (insertedTo (endOf (othersOf r)) (r .addresses) i a)
-    (insertedTo (endOf (othersOf r)) (r .values) i v)
+    (insertedTo (endOf (othersOf r) i) (r .addresses) i a)
+    (insertedTo (endOf (othersOf r) i) (r .values) i v)
 
 pub put-never : (r : Registers) (a v : ℕ) → slotOf a ≡ 76 → unstored a ≡ true → putWord r a v ≡ outcome Done r
 unfolding putWord

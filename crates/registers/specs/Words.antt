@@ -105,15 +105,20 @@ removedTo n l i = removed (take (n + 1) l) i ++ drop (n + 1) l
 unfoldable pub insertedTo : ℕ → List ℕ → ℕ → ℕ → List ℕ
 insertedTo n l i y = inserted (take (n + 1) l) i y ++ drop (n + 1) l
 
--- the last place that need be moved: the first that is free, where those come last, or 255
-unfoldable pub endOf : Others → ℕ
-endOf o = place (o .addresses) 0
+-- the last place that need be moved: of every sixteenth from place i on, of which n are looked at, the first that is
+-- free; where none is before place 240, the last of all. The free places come last, so all behind it are free.
+unfoldable pub endFrom : ℕ → List ℕ → ℕ → ℕ
+endFrom zero l i = 255
+endFrom (suc n) l i = cond (ltb i 240) (cond (eqb (getD l i 0) 0) i (endFrom n l (i + 16))) 255
+
+unfoldable pub endOf : Others → ℕ → ℕ
+endOf o i = endFrom 15 (o .addresses) i
 
 -- a word that stands in place i becomes v; with zero it gives the place back
 unfoldable pub putHeld : Others → ℕ → ℕ → Others
 putHeld o i v =
     cond (eqb v 0)
-    (others (removedTo (endOf o) (o .addresses) i) (removedTo (endOf o) (o .values) i))
+    (others (removedTo (endOf o i) (o .addresses) i) (removedTo (endOf o i) (o .values) i))
     (others (o .addresses) (set (o .values) i v))
 
 pub record OtherOutcome : Type 0 where
@@ -128,7 +133,7 @@ unfoldable pub putAbsent : Others → ℕ → ℕ → ℕ → OtherOutcome
 putAbsent o i a v =
     cond (eqb v 0) (otherOutcome Done o)
     (cond (eqb (getD (o .values) 255 0) 0)
-    (otherOutcome Done (others (insertedTo (endOf o) (o .addresses) i a) (insertedTo (endOf o) (o .values) i v)))
+    (otherOutcome Done (others (insertedTo (endOf o i) (o .addresses) i a) (insertedTo (endOf o i) (o .values) i v)))
     (otherOutcome RegistersFull o))
 
 -- ---- all words

@@ -4,10 +4,10 @@
 // The others stand in falling order of their addresses, and the free places, which hold zeros, behind them: so a word
 // is found by halves, and equal words are equal arrays.
 ghost use mathlib.Core.Path.{_≡_};
-ghost use Prim.Native.Nat.{_+_, _≤_};
+ghost use Prim.Native.Nat.{ℕ, _+_, _-_, _≤_};
 ghost use lib.ListN.{length, getD, set};
 ghost use Rattle.registers.specs.Words.{slotOf, index, namedWords, ownAt, ownWith, unstored, halved, place};
-ghost use Rattle.registers.specs.Words.{removedTo, insertedTo, others, putHeld, otherOutcome, putAbsent};
+ghost use Rattle.registers.specs.Words.{removedTo, insertedTo, endFrom, others, putHeld, otherOutcome, putAbsent};
 ghost use Rattle.registers.specs.Words.{otherSpot, spotOf, wordIn, putIn};
 ghost use Rattle.registers.specs.Words.{registersOf, freshRegisters, wordAt, outcome, putWord};
 
@@ -173,38 +173,103 @@ fn sized(words: [u32; 256])
     ensures { λ r. ⌜ length words ≡ 256 ⌝ }
 {}
 
-// Up to place `end` the places behind one move up, and a zero comes last.
-fn shift_up(words: &mut [u32; 256], at: usize, end: usize)
-    requires { ⌜ end ≤ 255 ⌝ }
-    ensures { λ r. ⌜ now (words .exit) ≡ removedTo end (now (words .entry)) at ⌝ }
+// The last place that need be moved with one: of every sixteenth from it on the first that is free, as all behind that
+// are; near the end of the table the last. So places are moved sixteen at a time, and no count of them is guessed.
+fn end_from(addresses: &[u32; 256], at: usize) -> usize
+    ensures { λ r. ⌜ r ≡ endFrom 15 (now (addresses .entry)) at ⌝ }
+    ensures { λ r. ⌜ r ≤ 255 ⌝ }
+{
+    let mut end = at;
+    while end < 240 {
+        if addresses[end] == 0 {
+            return end;
+        }
+        end += 16;
+    }
+    255
+}
+
+// From place `at` on n places take each what stands behind it: then place `at + n` is left to be given back.
+fn copy_up(words: &mut [u32; 256], at: usize, n: usize)
+    requires { ⌜ at + n ≤ 255 ⌝ }
+    ensures { λ r. ⌜ length (now (words .exit)) ≡ 256 ⌝ }
+    ensures { λ r. ⌜ ((end : ℕ) → at + n ≤ end → end ≤ 255
+        → removedTo end (now (words .exit)) (at + n) ≡ removedTo end (now (words .entry)) at) ⌝ }
 {
     sized(*words);
+    let mut k: usize = 0;
+    while k < n {
+        words[at + k] = words[at + k + 1];
+        k += 1;
+    }
+}
+
+// From place `end` down n places take each what stands before it: then a word is left to come in among those before.
+fn copy_down(words: &mut [u32; 256], end: usize, n: usize)
+    requires { ⌜ (n ≤ end) × (end ≤ 255) ⌝ }
+    ensures { λ r. ⌜ length (now (words .exit)) ≡ 256 ⌝ }
+    ensures { λ r. ⌜ ((at word : ℕ) → at + n ≤ end
+        → insertedTo (end - n) (now (words .exit)) at word ≡ insertedTo end (now (words .entry)) at word) ⌝ }
+{
+    sized(*words);
+    let mut k: usize = 0;
+    while k < n {
+        words[end - k] = words[end - k - 1];
+        k += 1;
+    }
+}
+
+// Up to place `end` the places behind one move up, and zeros come last.
+fn shift_up(addresses: &mut [u32; 256], values: &mut [u32; 256], at: usize, end: usize)
+    requires { ⌜ end ≤ 255 ⌝ }
+    ensures { λ r. ⌜ now (addresses .exit) ≡ removedTo end (now (addresses .entry)) at ⌝ }
+    ensures { λ r. ⌜ now (values .exit) ≡ removedTo end (now (values .entry)) at ⌝ }
+{
+    sized(*addresses);
+    sized(*values);
     if at > end {
         return;
     }
     let mut i = at;
-    while i < end {
-        words[i] = words[i + 1];
-        i += 1;
+    while end - i >= 16 {
+        copy_up(addresses, i, 16);
+        copy_up(values, i, 16);
+        i += 16;
     }
-    words[end] = 0;
+    copy_up(addresses, i, end - i);
+    copy_up(values, i, end - i);
+    addresses[end] = 0;
+    values[end] = 0;
 }
 
-// Up to place `end` the places from one on move down, the last falls out, and a word comes in.
-fn shift_down(words: &mut [u32; 256], at: usize, end: usize, word: u32)
+// Up to place `end` the places from one on move down, the last fall out, and a word comes in.
+fn shift_down(
+    addresses: &mut [u32; 256],
+    values: &mut [u32; 256],
+    at: usize,
+    end: usize,
+    addr: u32,
+    value: u32,
+)
     requires { ⌜ end ≤ 255 ⌝ }
-    ensures { λ r. ⌜ now (words .exit) ≡ insertedTo end (now (words .entry)) at word ⌝ }
+    ensures { λ r. ⌜ now (addresses .exit) ≡ insertedTo end (now (addresses .entry)) at addr ⌝ }
+    ensures { λ r. ⌜ now (values .exit) ≡ insertedTo end (now (values .entry)) at value ⌝ }
 {
-    sized(*words);
+    sized(*addresses);
+    sized(*values);
     if at > end {
         return;
     }
     let mut i = end;
-    while i > at {
-        words[i] = words[i - 1];
-        i -= 1;
+    while i - at >= 16 {
+        copy_down(addresses, i, 16);
+        copy_down(values, i, 16);
+        i -= 16;
     }
-    words[at] = word;
+    copy_down(addresses, i, i - at);
+    copy_down(values, i, i - at);
+    addresses[at] = addr;
+    values[at] = value;
 }
 
 pub fn place_get(values: &[u32; 256], i: usize) -> u32
@@ -217,15 +282,14 @@ pub fn place_get(values: &[u32; 256], i: usize) -> u32
     0
 }
 
-// A word that becomes zero gives its place back. Behind the first free place all are free, and need not move.
+// A word that becomes zero gives its place back.
 pub fn put_held(addresses: &mut [u32; 256], values: &mut [u32; 256], i: usize, value: u32)
     ensures { λ r. ⌜ others (now (addresses .exit)) (now (values .exit))
         ≡ putHeld (others (now (addresses .entry)) (now (values .entry))) i value ⌝ }
 {
     if value == 0 {
-        let end = place(addresses, 0);
-        shift_up(addresses, i, end);
-        shift_up(values, i, end);
+        let end = end_from(addresses, i);
+        shift_up(addresses, values, i, end);
         return;
     }
     if i < 256 {
@@ -235,7 +299,7 @@ pub fn put_held(addresses: &mut [u32; 256], values: &mut [u32; 256], i: usize, v
     sized(*values);
 }
 
-// A word that was zero takes a place, where the last is free. No more places move than for one that is given back.
+// A word that was zero takes a place, where the last is free.
 pub fn put_absent(
     addresses: &mut [u32; 256],
     values: &mut [u32; 256],
@@ -252,9 +316,8 @@ pub fn put_absent(
     if values[255] != 0 {
         return Refusal::RegistersFull;
     }
-    let end = place(addresses, 0);
-    shift_down(addresses, i, end, addr);
-    shift_down(values, i, end, value);
+    let end = end_from(addresses, i);
+    shift_down(addresses, values, i, end, addr, value);
     Refusal::Done
 }
 

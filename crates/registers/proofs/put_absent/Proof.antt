@@ -13,15 +13,13 @@ returns-2 c = absent-full _ _ _ _ (c .before .before .if1 .left) (c .if2 .taken)
 returns-3 : tie.Need-returns-3
 unfolding endOf
 returns-3 c =
-    let c2 = c .before .before in
-    let c4 = c2 .before .before in
-    let c6 = c4 .before .before in
-    absent-room _ _ _ _ _ _ _ (c6 .before .before .if1 .left) (c6 .if2 .left) (c4 .place .ensures .0)
-    (c2 .shift-down .ensures)
-    (c .shift-down2 .ensures)
+    let c3 = c .before .before .before in
+    let c5 = c3 .before .before in
+    absent-room _ _ _ _ _ _ _ (c5 .before .before .if1 .left) (c5 .if2 .left) (c3 .end-from .ensures .0)
+    (c .shift-down .ensures .0)
+    (c .shift-down .ensures .1)
 
 pub put-absent-spec : {M : Type 1} → statement M
 put-absent-spec =
     tie.close
-    (tie.spec returns (λ c. search needs) returns-2 (λ c κs. search needs) (λ c κs. search needs)
-    (λ c κs. search needs) returns-3)
+    (tie.spec returns (λ c. search needs) returns-2 (λ c κs. search needs) (λ c κs. search needs) returns-3)

@@ -9,11 +9,10 @@ use Rattle.registers.proofs.put_held.Tie as tie
 returns : tie.Need-returns
 unfolding endOf
 returns c =
-    let c2 = c .before .before in
-    let c4 = c2 .before .before in
-    held-zero _ _ _ _ _ _ (c4 .before .before .if1 .taken) (c4 .place .ensures .0)
-    (c2 .shift-up .ensures)
-    (c .shift-up2 .ensures)
+    let c3 = c .before .before .before in
+    held-zero _ _ _ _ _ _ (c3 .before .before .if1 .taken) (c3 .end-from .ensures .0)
+    (c .shift-up .ensures .0)
+    (c .shift-up .ensures .1)
 
 returns-2 : tie.Need-returns-2
 returns-2 c = held-some _ _ _ _ (c .before .if1 .left) refl
@@ -26,5 +25,5 @@ returns-3 c =
 pub put-held-spec : {M : Type 1} → statement M
 put-held-spec =
     tie.close
-    (tie.spec (λ c κs. search needs) (λ c κs. search needs) (λ c κs. search needs) returns
-    (λ c. search needs) (λ c. search needs) returns-2 (λ c κs. search needs) returns-3)
+    (tie.spec (λ c κs. search needs) (λ c κs. search needs) returns (λ c. search needs) (λ c. search needs) returns-2
+    (λ c κs. search needs) returns-3)
