@@ -1,6 +1,7 @@
 -- The branches of the definitions, laws by subject, and uniqueness.
 pub mod Parts
 pub mod Whole
+pub mod Laid
 pub mod Slots
 pub mod Values
 pub mod Sizes

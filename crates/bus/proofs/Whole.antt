@@ -28,9 +28,6 @@ table-part f l o i (suc n) e h =
     (table-part f l o (suc i) n (λ k b. e k (omega arith)) (omega arith) ∙ ap (λ (x : ℕ). take n (drop x l)) next)
     ∙ sym (ap (λ (t : List ℕ). take (suc n) t) (drop-cons l (o + i) 0 here))
 
-pub listed : (l : List ℕ) (o n : ℕ) → o + n ≤ length l → table (λ k. getD l (o + k) 0) 0 n ≡ take n (drop o l)
-listed l o n h = table-part (λ k. getD l (o + k) 0) l o 0 n (λ k b. refl) (omega arith) ∙ ap (λ (y : ℕ). take n (drop y l)) (add-zero o)
-
 -- ---- where its bytes lie
 
 ram-at : (a : ℕ) → 0x20000000 ≤ a → a ≤ 0x20FFFFFF → placeOf a ≡ Ram (a - 0x20000000)

@@ -1,10 +1,11 @@
 // Bytes of the bus without side effects, and bytes laid into plain memory.
 ghost use mathlib.Core.Path.{_≡_};
-ghost use Prim.Native.Nat.{_+_, _-_, _%_, _^_, _≤_};
+ghost use Prim.Native.Nat.{_+_, _-_, _%_, _^_, _≤_, _<_};
 ghost use lib.Dec.{leb};
-ghost use lib.ListN.{length, take, drop};
+ghost use lib.ListN.{length, getD, set, take, drop};
 ghost use Rattle.registers.specs.Words.{registersOf};
-ghost use Rattle.bus.specs.Block.{peekOf, joinedOf, wordOf, blockOf, liesIn, runOf, wholeOf, block, readOf, plain, pokedOf, laidOf};
+ghost use Rattle.bus.specs.Block.{peekOf, joinedOf, wordOf, blockOf, liesIn, runOf, wholeOf};
+ghost use Rattle.bus.specs.Block.{block, readOf, plain, pokedOf, laidOf};
 use memory::Place;
 
 fn along(from: u32, i: usize) -> u32
@@ -23,7 +24,9 @@ pub fn peek8(
     gpio: &[u8],
     addr: u32,
 ) -> u8
-    ensures { λ r. ⌜ r ≡ peekOf (registersOf (now (own .entry)) (now (addresses .entry)) (now (values .entry))) (now (ram .entry)) (now (sram .entry)) (now (gpio .entry)) addr ⌝ }
+    ensures { λ r. ⌜ r
+        ≡ peekOf (registersOf (now (own .entry)) (now (addresses .entry)) (now (values .entry)))
+        (now (ram .entry)) (now (sram .entry)) (now (gpio .entry)) addr ⌝ }
 {
     let place = memory::locate(addr);
     match place {
@@ -54,7 +57,9 @@ pub fn peek32(
     gpio: &[u8],
     addr: u32,
 ) -> u32
-    ensures { λ r. ⌜ r ≡ wordOf (registersOf (now (own .entry)) (now (addresses .entry)) (now (values .entry))) (now (ram .entry)) (now (sram .entry)) (now (gpio .entry)) addr ⌝ }
+    ensures { λ r. ⌜ r
+        ≡ wordOf (registersOf (now (own .entry)) (now (addresses .entry)) (now (values .entry)))
+        (now (ram .entry)) (now (sram .entry)) (now (gpio .entry)) addr ⌝ }
 {
     let a = peek8(own, addresses, values, ram, sram, gpio, along(addr, 0));
     let b = peek8(own, addresses, values, ram, sram, gpio, along(addr, 1));
@@ -123,14 +128,32 @@ fn offset(addr: u32, first: u32) -> usize
     (addr - first) as usize
 }
 
+fn lay_byte(m: &[u8], at: usize, buf: &mut [u8], i: usize)
+    requires { ⌜ (i < length (now buf)) × (at + i < length (now m)) ⌝ }
+    ensures { λ _. ⌜ now (buf .exit) ≡ set (now (buf .entry)) i (getD (now (m .entry)) (at + i) 0) ⌝ }
+{
+    buf[i] = m[at + i];
+}
+
+// A part of a memory is copied: four runs side by side, so that while one waits for the next page of memory the others
+// go on, and then what is left.
 fn lay(m: &[u8], at: usize, buf: &mut [u8])
     requires { ⌜ at + length (now buf) ≤ length (now m) ⌝ }
     ensures { λ _. ⌜ now (buf .exit) ≡ take (length (now (buf .entry))) (drop at (now (m .entry))) ⌝ }
 {
     let n = buf.len();
+    let run = n / 4;
     let mut i: usize = 0;
+    while i < run {
+        lay_byte(m, at, buf, i);
+        lay_byte(m, at, buf, run + i);
+        lay_byte(m, at, buf, 2 * run + i);
+        lay_byte(m, at, buf, 3 * run + i);
+        i += 1;
+    }
+    i = 4 * run;
     while i < n {
-        buf[i] = m[at + i];
+        lay_byte(m, at, buf, i);
         i += 1;
     }
 }
@@ -145,7 +168,9 @@ fn gather(
     addr: u32,
     buf: &mut [u8],
 )
-    ensures { λ _. ⌜ now (buf .exit) ≡ blockOf (registersOf (now (own .entry)) (now (addresses .entry)) (now (values .entry))) (now (ram .entry)) (now (sram .entry)) (now (gpio .entry)) addr (length (now (buf .entry))) ⌝ }
+    ensures { λ _. ⌜ now (buf .exit)
+        ≡ blockOf (registersOf (now (own .entry)) (now (addresses .entry)) (now (values .entry)))
+        (now (ram .entry)) (now (sram .entry)) (now (gpio .entry)) addr (length (now (buf .entry))) ⌝ }
 {
     let n = buf.len();
     let mut i: usize = 0;
@@ -166,7 +191,9 @@ fn copy(
     addr: u32,
     buf: &mut [u8],
 )
-    ensures { λ _. ⌜ now (buf .exit) ≡ blockOf (registersOf (now (own .entry)) (now (addresses .entry)) (now (values .entry))) (now (ram .entry)) (now (sram .entry)) (now (gpio .entry)) addr (length (now (buf .entry))) ⌝ }
+    ensures { λ _. ⌜ now (buf .exit)
+        ≡ blockOf (registersOf (now (own .entry)) (now (addresses .entry)) (now (values .entry)))
+        (now (ram .entry)) (now (sram .entry)) (now (gpio .entry)) addr (length (now (buf .entry))) ⌝ }
 {
     let run = run_of(ram.len(), sram.len(), gpio.len(), addr, buf.len());
     match run {
@@ -196,7 +223,9 @@ pub fn read_block(
     addr: u32,
     buf: &mut [u8],
 ) -> bool
-    ensures { λ r. ⌜ block r (now (buf .exit)) ≡ readOf (registersOf (now (own .entry)) (now (addresses .entry)) (now (values .entry))) (now (ram .entry)) (now (sram .entry)) (now (gpio .entry)) addr (length (now (buf .entry))) ⌝ }
+    ensures { λ r. ⌜ block r (now (buf .exit))
+        ≡ readOf (registersOf (now (own .entry)) (now (addresses .entry)) (now (values .entry)))
+        (now (ram .entry)) (now (sram .entry)) (now (gpio .entry)) addr (length (now (buf .entry))) ⌝ }
 {
     let n = buf.len();
     copy(own, addresses, values, ram, sram, gpio, addr, buf);
@@ -204,7 +233,8 @@ pub fn read_block(
 }
 
 fn poke8(ram: &mut [u8], sram: &mut [u8], gpio: &mut [u8], addr: u32, b: u8)
-    ensures { λ _. ⌜ plain (now (ram .exit)) (now (sram .exit)) (now (gpio .exit)) ≡ pokedOf (plain (now (ram .entry)) (now (sram .entry)) (now (gpio .entry))) addr b ⌝ }
+    ensures { λ _. ⌜ plain (now (ram .exit)) (now (sram .exit)) (now (gpio .exit))
+        ≡ pokedOf (plain (now (ram .entry)) (now (sram .entry)) (now (gpio .entry))) addr b ⌝ }
 {
     let place = memory::locate(addr);
     match place {
@@ -224,7 +254,8 @@ fn poke8(ram: &mut [u8], sram: &mut [u8], gpio: &mut [u8], addr: u32, b: u8)
 
 // Bytes laid into memories; those that fall elsewhere are dropped.
 pub fn poke(ram: &mut [u8], sram: &mut [u8], gpio: &mut [u8], addr: u32, bytes: &[u8])
-    ensures { λ _. ⌜ plain (now (ram .exit)) (now (sram .exit)) (now (gpio .exit)) ≡ laidOf (plain (now (ram .entry)) (now (sram .entry)) (now (gpio .entry))) addr (now (bytes .entry)) ⌝ }
+    ensures { λ _. ⌜ plain (now (ram .exit)) (now (sram .exit)) (now (gpio .exit))
+        ≡ laidOf (plain (now (ram .entry)) (now (sram .entry)) (now (gpio .entry))) addr (now (bytes .entry)) ⌝ }
 {
     let n = bytes.len();
     let mut i: usize = 0;
