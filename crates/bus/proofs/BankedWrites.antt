@@ -41,7 +41,7 @@ use Rattle.state.specs.Packed.{Kept, Answered}
 use Rattle.state.specs.Parts.{devicesPut, sentWith, flashPut, sentPut, panelPut, latchPut, ringPut}
 use Rattle.time.specs.Clocks.{clockIn}
 use Rattle.bus.specs.declared.Told.{Told}
-use Rattle.bus.specs.World.{World, world, Out, out, done, Wrote, Said, said, answer, well}
+use Rattle.bus.specs.World.{World, world, Out, out, done, Said, answer, well}
 use Rattle.bus.specs.Chip.{Flashed, flashed, chipped, selectWritten, sendWritten}
 use Rattle.bus.specs.Rtc.{Ran, ran, commandWritten}
 use Rattle.bus.specs.Screen.{Copied, copied, controlled}

@@ -1,6 +1,6 @@
 -- The words with storage of their own by their slots, and those without: what the definitions, which go by addresses, say
 -- of each.
-use Prim.Native.Nat.{ℕ, _+_, _-_, _/_, _%_, _<_, _≤_}
+use Prim.Native.Nat.{ℕ, _-_, _/_, _%_, _<_, _≤_}
 use mathlib.Core.Path.{_≡_, refl, sym, ap, _∙_}
 use mathlib.Core.Bool.{Bool, true, false, not, cond, _&&_, _||_}
 use mathlib.Core.List.{List}
@@ -9,7 +9,7 @@ use native.Mathlib.Omega.{arith}
 use lib.Dec.{eqb, ltb}
 use lib.ListN.{set}
 use borrow.Author.Tests.{eq-eqb, ne-eqb, eqb-true, lt-ltb, le-ltb}
-use Rattle.registers.specs.Words.{wordsFrom, namedWords, ownWords, index, slotOf, slotWord, ownWith, unstored}
+use Rattle.registers.specs.Words.{wordsFrom, namedWords, ownWords, slotOf, slotWord, ownWith, unstored}
 use Rattle.registers.proofs.Choice.{by-same, by-less}
 use Rattle.registers.proofs.Own.{timer-own}
 use Rattle.registers.proofs.Slots.{every, at-each, slot-back}

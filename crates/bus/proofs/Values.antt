@@ -1,11 +1,9 @@
 -- What a word reads as, and what a read leaves, by the word's slot or without one.
 use Prim.Native.Nat.{ℕ, _/_, _%_, _<_, _≤_}
 use mathlib.Core.Path.{_≡_, refl, sym, ap, _∙_}
-use mathlib.Core.Bool.{false}
 use mathlib.Core.List.{List}
 use mathlib.Core.Logic.{_≢_}
 use native.Mathlib.Omega.{arith}
-use lib.Dec.{eqb}
 use lib.Bits.{bitAnd}
 use lib.ListN.{getD}
 use borrow.Author.Tests.{eq-eqb, ne-eqb, lt-ltb, le-ltb}
@@ -14,11 +12,11 @@ use Rattle.registers.specs.declared.Spot.{Spot}
 use Rattle.registers.specs.Words.{wordsFrom, namedWords, ownWords, slotOf, slotWord, ownAt, ownWith, otherSpot, wordIn, wordAt}
 use Rattle.registers.proofs.Choice.{by-same}
 use Rattle.registers.proofs.Cases.{spot-other}
-use Rattle.state.specs.declared.Clocks.{Clocks}
 use Rattle.state.specs.declared.Devices.{Devices}
 use Rattle.time.specs.Irq.{pendingOf}
 use Rattle.bus.specs.Words.{controlAt, fieldAt}
-use Rattle.bus.specs.Read.{statusOf, counterAt, dayRead, timerRead, counterRead, timerValue, movedValue, valueOf, otherValue, afterRead, given}
+use Rattle.bus.specs.Read.{statusOf, counterAt, dayRead, timerValue, movedValue, valueOf, otherValue, afterRead}
+use Rattle.bus.specs.Read.{given}
 use Rattle.bus.proofs.Slots.{slot-not, field-slot, control-is, no-control, counter-is, no-counter, other-else, other-control, other-counter}
 
 -- ---- a word in its own storage; s is its slot

@@ -135,8 +135,8 @@ fn lay_byte(m: &[u8], at: usize, buf: &mut [u8], i: usize)
     buf[i] = m[at + i];
 }
 
-// A part of a memory is copied: four runs side by side, so that while one waits for the next page of memory the others
-// go on, and then what is left.
+// A part of a memory is copied: four runs side by side, which took less time than one run (DECISIONS 116), and then
+// what is left.
 fn lay(m: &[u8], at: usize, buf: &mut [u8])
     requires { ⌜ at + length (now buf) ≤ length (now m) ⌝ }
     ensures { λ _. ⌜ now (buf .exit) ≡ take (length (now (buf .entry))) (drop at (now (m .entry))) ⌝ }

@@ -1,6 +1,6 @@
 -- The branches of the definitions, as the functions meet them.
 use mathlib.Core.Path.{_≡_, sym, _∙_, ap}
-use mathlib.Core.Bool.{true, false, not}
+use mathlib.Core.Bool.{true, false}
 use mathlib.Core.List.{List}
 use mathlib.Core.Logic.{_≢_}
 use Prim.Native.Nat.{ℕ, suc, _-_, _*_, _/_, _%_, _^_, _≤_, _<_}
@@ -17,10 +17,8 @@ use Rattle.whole.specs.Limits.{goodTime, goodTurbo, timeOf, turboOf}
 use Rattle.whole.specs.declared.Checked.{Checked}
 use Rattle.whole.specs.declared.Checked.the-variants.{Good, Bad}
 use Rattle.whole.proofs.Numbers.{checked-good, checked-then, checked-bad}
-use Rattle.whole.specs.Words.{has}
 use Rattle.whole.proofs.Words.{has-some, has-not}
 use Rattle.clock.specs.declared.Moved.{Moved}
-use Rattle.clock.specs.declared.Paced.{Paced}
 use Rattle.clock.specs.declared.Paced.the-variants.{By, BadTurbo}
 use Rattle.clock.specs.declared.Times.{Times}
 use Rattle.clock.specs.declared.Moved.the-variants.{To, BadTime}

@@ -1,8 +1,7 @@
 -- Within the limits the time of day is exact and never negative; and the clock stays within them, and does not go back.
-use mathlib.Core.Path.{subst, sym, _≡_, refl}
+use mathlib.Core.Path.{subst, sym, _≡_}
 use mathlib.Core.Bool.{cond}
 use Prim.Native.Nat.{ℕ, _+_, _*_, _/_, _%_, _^_, _≤_, _<_}
-use native.Mathlib.Nat.{le-trans}
 use native.Mathlib.Omega.{arith}
 use lib.IntN.{pos}
 use lib.Dec.{T, eqb, ltb, lit<}
@@ -14,7 +13,6 @@ use Rattle.whole.proofs.Cuts.{whole-part, signed-same}
 use Rattle.whole.proofs.Round.{ofInt-at-most, add-at-most, sub-at-most}
 use Rattle.whole.proofs.Order.{grows, add-turns, le-trans-clear, le-refl-clear}
 use Rattle.whole.proofs.Mono.{add-mono, sub-mono, cut-mono}
-use Rattle.clock.specs.declared.Rtc.{Rtc}
 use Rattle.clock.specs.declared.RtcIrq.{RtcIrq}
 use Rattle.clock.specs.Day.{todOf, composed, setOf, freshIrq}
 use Rattle.clock.specs.Within.{DaySet}

@@ -2,10 +2,9 @@
 use mathlib.Core.Path.{_≡_, refl, sym, subst}
 use mathlib.Core.Bool.{Bool, true, false, cond}
 use Prim.Native.Nat.{ℕ, _^_}
-use native.Mathlib.Nat.{le-trans}
 use native.Mathlib.Omega.{arith}
 use lib.Dec.{T, lit<, lit≤}
-use lib.Ieee.{Float, binary64, ofBits, fits, add, sub, mul, lt, le}
+use lib.Ieee.{Float, binary64, ofBits, fits, sub, mul, lt, le}
 use lib.Ieee.Fits.{add-fits}
 use Rattle.whole.specs.Bounds.{AtMost}
 use Rattle.whole.specs.Limits.{goodTime, goodTurbo}

@@ -19,7 +19,6 @@ use Rattle.whole.proofs.Numbers.{checked-good, checked-then, checked-bad}
 use Rattle.memory.specs.Bytes.{loaded, storedAt}
 use Rattle.keys.specs.declared.Held.{Held}
 use Rattle.keys.specs.declared.Keys.{Keys}
-use Rattle.keys.specs.declared.Refusal.{Refusal}
 use Rattle.keys.specs.declared.Tap.{Tap}
 use Rattle.keys.specs.declared.Tap.the-variants.{Until, Refused}
 use Rattle.keys.specs.declared.Refusal.the-variants.{Done, BadKey, BadTime, KeysFull}
@@ -145,10 +144,6 @@ module _ (k : Keys) (key : ℕ) where
       by false e =
           let h : 2 < key = leb-false key 2 e in
           rw (ne-eqb key 0 (λ z. omega arith), ne-eqb key 1 (λ z. omega arith), ne-eqb key 2 (λ z. omega arith))
-
-  pub live-set : (down a b c : Bool) {r : Refusal} → r ≡ keyRefusal key → a ≡ cond (eqb key 0) down (k .live .a) → b ≡ cond (eqb key 1) down (k .live .b)
-      → c ≡ cond (eqb key 2) down (k .live .c) → live.outcome r (withLive k (record { a = a; b = b; c = c })) ≡ liveOf k key down
-  live-set down a b c e p q r = rw (e, p, q, r) (live-by down)
 
   pub hold-by : (until : Float) {t : Tap} → t ≡ tapOf key until → tapPut k key t ≡ holdOf k key until
   unfolding tapOf holdOf

@@ -5,12 +5,11 @@ use mathlib.Core.Bool.{Bool, true, false, cond}
 use mathlib.Core.Logic.{_≢_}
 use lib.Dec.{leb}
 use lib.Ieee.{Float}
-use Rattle.whole.specs.Limits.{goodTime}
 use Rattle.keys.specs.declared.Keys.{Keys}
-use Rattle.keys.specs.declared.Refusal.the-variants.{Done, BadKey, BadTime}
+use Rattle.keys.specs.declared.Refusal.the-variants.{BadKey}
 use Rattle.keys.specs.Script as script
 use Rattle.keys.specs.Script.{Script, pressOf}
-use Rattle.keys.specs.Live.{Outcome, outcome, liveOf, holdOf}
+use Rattle.keys.specs.Live.{Outcome, outcome, liveOf}
 use Rattle.keys.proofs.Cases.{press-each}
 
 abbrev Still : Keys → Outcome → Type 0
@@ -23,14 +22,6 @@ key-tested k o false h = λ g. refl
 pub live-still : (k : Keys) (key : ℕ) (down : Bool) → liveOf k key down .refusal ≢ 0 → liveOf k key down .keys ≡ k
 unfolding liveOf
 live-still k key down = key-tested k _ (leb key 2) (λ h. absurd (h refl))
-
-pub hold-still : (k : Keys) (key : ℕ) (until : Float) → holdOf k key until .refusal ≢ 0 → holdOf k key until .keys ≡ k
-unfolding holdOf
-hold-still k key until = key-tested k _ (leb key 2) (by (goodTime until) _)
-  where
-    by : (b : Bool) (later : Keys) → Still k (cond b (outcome Done later) (outcome BadTime k))
-    by true later h = absurd (h refl)
-    by false later h = refl
 
 pub press-still : (s : Script) (key : ℕ) (at now : Float) → pressOf s key at now .refusal ≢ 0 → pressOf s key at now .script ≡ s
 press-still s key at now =

@@ -10,12 +10,9 @@ use Rattle.keys.specs.declared.Keys.{Keys}
 use Rattle.keys.specs.declared.Refusal.{Refusal}
 use Rattle.keys.specs.declared.Refusal.the-variants.{Done, BadKey, BadTime, KeysFull}
 use Rattle.keys.specs.declared.Pressed.{Pressed}
-use Rattle.keys.specs.declared.Changed.{Changed}
 use Rattle.keys.specs.Keys.{numberOf, Buttons, buttons}
 use Rattle.keys.specs.Script.{script, outcome}
 use Rattle.keys.specs.Script as presses
-use Rattle.keys.specs.Live as live
-use Rattle.keys.specs.Live.{changed}
 use Rattle.keys.specs.Lines.{Lines, lines}
 
 -- the refusal of a number
@@ -35,9 +32,6 @@ number-tells = told numberOf refusalOf back
 pressed-is : {a b : Refusal} {m n : ℕ} → a ≡ b → m ≡ n → _≡_ {A = Pressed} (record { refusal = a; count = m }) (record { refusal = b; count = n })
 pressed-is e f = rw (e, f)
 
-changed-is : {a b : Refusal} {k l : Keys} → a ≡ b → k ≡ l → _≡_ {A = Changed} (record { refusal = a; keys = k }) (record { refusal = b; keys = l })
-changed-is e f = rw (e, f)
-
 -- of a press there is one answer, and the later arrays are one pair of lists
 pub one-press : (d : presses.Outcome) (r s : Pressed) (times ts : List Float) (codes cs : List ℕ)
     → outcome (r .refusal) (script times codes (r .count)) ≡ d → outcome (s .refusal) (script ts cs (s .count)) ≡ d → (r ≡ s) × (times ≡ ts) × (codes ≡ cs)
@@ -47,12 +41,6 @@ one-press d r s times ts codes cs h k =
       ap (λ (o : presses.Outcome). o .script .times) e,
       ap (λ (o : presses.Outcome). o .script .codes) e,
     )
-
--- of a live key and of a tap there is one answer
-pub one-change : (d : live.Outcome) (r s : Changed) → changed r ≡ d → changed s ≡ d → r ≡ s
-one-change d r s h k =
-    let e : changed r ≡ changed s = unique h k in
-    changed-is (number-tells (r .refusal) (s .refusal) (ap (λ (o : live.Outcome). o .refusal) e)) (ap (λ (o : live.Outcome). o .keys) e)
 
 -- of the lines there is one later memory, and one thing applied
 pub one-sync : (d : Lines) (a b : ℕ) (m n : List ℕ) → lines m a ≡ d → lines n b ≡ d → (a ≡ b) × (m ≡ n)

@@ -9,7 +9,6 @@ use Rattle.whole.specs.Limits.{goodTime}
 use Rattle.keys.specs.declared.Held.{Held}
 use Rattle.keys.specs.declared.Holds.{Holds}
 use Rattle.keys.specs.declared.Keys.{Keys}
-use Rattle.keys.specs.declared.Changed.{Changed}
 use Rattle.keys.specs.declared.Refusal.{Refusal}
 use Rattle.keys.specs.declared.Refusal.the-variants.{Done, BadKey, BadTime}
 use Rattle.keys.specs.declared.Tap.{Tap}
@@ -23,9 +22,6 @@ pub record Outcome : Type 0 where
 
 abbrev pub outcome : Refusal → Keys → Outcome
 outcome r keys = record { refusal = numberOf r; keys = keys }
-
-abbrev pub changed : Changed → Outcome
-changed r = outcome (r .refusal) (r .keys)
 
 -- ---- one key of three
 

@@ -51,11 +51,6 @@ pub struct Pressed {
     pub count: usize,
 }
 
-pub struct Changed {
-    pub refusal: Refusal,
-    pub keys: Keys,
-}
-
 // The keys as they are after a wipe.
 pub fn fresh() -> Keys
     ensures { λ r. ⌜ r ≡ freshKeys ⌝ }

@@ -1,11 +1,10 @@
 // Keys held down right now, taps that stay held, and which keys are down at a time.
 ghost use mathlib.Core.Path.{_≡_};
-ghost use mathlib.Core.Bool.{cond, false};
+ghost use mathlib.Core.Bool.{false};
 ghost use Prim.Native.Nat.{ℕ, _+_, _≤_, _<_};
 ghost use lib.Ieee.{nan, ofBits, binary64};
 ghost use lib.ListN.{getD};
-ghost use Rattle.keys.specs.Live.{changed, keyRefusal, liveOf, tapOf, tapPut, holdOf, downOf, tapped, also, heldFrom, heldOf};
-use crate::Changed;
+ghost use Rattle.keys.specs.Live.{keyRefusal, tapOf, downOf, tapped, also, heldFrom, heldOf};
 use crate::Held;
 use crate::Holds;
 use crate::Keys;
@@ -13,18 +12,6 @@ use crate::Refusal;
 use crate::Tap;
 use crate::script::places;
 use whole::Checked;
-
-fn keep(here: bool, new: bool, old: bool) -> bool
-    ensures { λ r. ⌜ r ≡ cond here new old ⌝ }
-{
-    if here { new } else { old }
-}
-
-fn keep_time(here: bool, new: f64, old: f64) -> f64
-    ensures { λ r. ⌜ r ≡ cond here new old ⌝ }
-{
-    if here { new } else { old }
-}
 
 // What a call for a key answers.
 pub fn check_key(key: u32) -> Refusal
@@ -34,24 +21,6 @@ pub fn check_key(key: u32) -> Refusal
         return Refusal::BadKey;
     }
     Refusal::Done
-}
-
-// A key goes down or up; no other than the three.
-pub fn set_live(keys: Keys, key: u32, down: bool) -> Changed
-    ensures { λ r. ⌜ changed r ≡ liveOf keys key down ⌝ }
-{
-    let live = Held {
-        a: keep(key == 0, down, keys.live.a),
-        b: keep(key == 1, down, keys.live.b),
-        c: keep(key == 2, down, keys.live.c),
-    };
-    let mut next = keys;
-    next.live = live;
-    let refusal = check_key(key);
-    Changed {
-        refusal,
-        keys: next,
-    }
 }
 
 // What is decided of a tap before anything changes: the key is looked at first, then the time.
@@ -79,42 +48,6 @@ pub fn check_hold_bits(key: u32, bits: u64) -> Tap
         Checked::Good(x) => Tap::Until(x),
         Checked::Bad => Tap::Refused(Refusal::BadTime),
     }
-}
-
-fn hold(keys: Keys, key: u32, tap: Tap) -> Changed
-    ensures { λ r. ⌜ changed r ≡ tapPut keys key tap ⌝ }
-{
-    match tap {
-        Tap::Until(until) => {
-            let holds = Holds {
-                a: keep_time(key == 0, until, keys.holds.a),
-                b: keep_time(key == 1, until, keys.holds.b),
-                c: keep_time(key == 2, until, keys.holds.c),
-            };
-            let mut next = keys;
-            next.holds = holds;
-            return Changed {
-                refusal: Refusal::Done,
-                keys: next,
-            };
-        }
-        Tap::Refused(refusal) => {
-            return Changed { refusal, keys };
-        }
-    }
-}
-
-// A tap of a key stays held until a time.
-pub fn hold_until(keys: Keys, key: u32, until: f64) -> Changed
-    ensures { λ r. ⌜ changed r ≡ holdOf keys key until ⌝ }
-{
-    hold(keys, key, check_hold(key, until))
-}
-
-pub fn hold_bits(keys: Keys, key: u32, bits: u64) -> Changed
-    ensures { λ r. ⌜ changed r ≡ holdOf keys key (ofBits binary64 bits) ⌝ }
-{
-    hold(keys, key, check_hold_bits(key, bits))
 }
 
 // A press is held for 0.15 seconds.

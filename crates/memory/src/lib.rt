@@ -1,7 +1,7 @@
 // Where an address lies, the bytes of a memory, and an access's part of a register word: `plain`, `slow_read`, `slow_write`,
 // `is_mmio` and the shifting and masking of `mmio_read` and `mmio_write` of core/src/sys.rs.
 //
-// Every size is taken; what refuses a size asks `good_size` first.
+// Every size is taken: to refuse one is the caller's matter.
 ghost use mathlib.Core.Path.{_≡_};
 ghost use Prim.Native.Nat.{_+_, _*_, _%_, _^_, _≤_};
 ghost use lib.ListN.{length, getD};

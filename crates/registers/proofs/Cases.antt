@@ -7,14 +7,12 @@ use mathlib.Core.Logic.{_≢_}
 use native.Mathlib.Omega.{arith}
 use lib.ListN.{length, getD, set}
 use borrow.Author.Tests.{eq-eqb, ne-eqb, lt-ltb, le-ltb}
-use Rattle.registers.specs.declared.Registers.{Registers}
 use Rattle.registers.specs.declared.Refusal.the-variants.{Done, RegistersFull}
-use Rattle.registers.specs.declared.Spot.{Spot}
 use Rattle.registers.specs.declared.Spot.the-variants.{Own, Never, Held, Absent}
 use Rattle.registers.specs.Words.{wordsFrom, namedWords, ownWords, index, slotOf, unstored}
 use Rattle.registers.specs.Words.{place, otherSpot, spotOf}
-use Rattle.registers.specs.Words.{removedTo, insertedTo, Others, others, endOf, putHeld, OtherOutcome}
-use Rattle.registers.specs.Words.{otherOutcome, putAbsent, registersOf, othersOf, outcome, beside, putIn}
+use Rattle.registers.specs.Words.{removedTo, insertedTo, Others, others, endOf, putHeld}
+use Rattle.registers.specs.Words.{otherOutcome, putAbsent}
 
 -- ---- the slot of a word
 
@@ -128,20 +126,3 @@ module _ (o : Others) (i v : ℕ) where
         → otherOutcome Done (others p q) ≡ putAbsent o i a v
     unfolding putAbsent
     absent-room n p q some free e f g = rw (ne-eqb _ _ some, eq-eqb _ _ free, f, g, e)
-
--- ---- a put in each case of where the word is
-module _ (r : Registers) (spot : Spot) (a v : ℕ) where
-  pub put-own : (s : ℕ) (own : List ℕ) → spot ≡ Own s → own ≡ set (r .own) s v
-      → outcome Done (registersOf own (r .addresses) (r .values)) ≡ putIn r spot a v
-  put-own s own e f = rw (e, f)
-
-  pub put-never : spot ≡ Never → outcome Done r ≡ putIn r spot a v
-  put-never e = rw e
-
-  pub put-held : (i : ℕ) (o : Others) → spot ≡ Held i → o ≡ putHeld (othersOf r) i v
-      → beside (r .own) (otherOutcome Done o) ≡ putIn r spot a v
-  put-held i o e f = rw (e, f)
-
-  pub put-absent : (i : ℕ) (o : OtherOutcome) → spot ≡ Absent i → o ≡ putAbsent (othersOf r) i a v
-      → beside (r .own) o ≡ putIn r spot a v
-  put-absent i o e f = rw (e, f)

@@ -8,7 +8,7 @@ use native.Mathlib.Omega.{arith}
 use lib.ListN.{length, getD, set, take, drop, take-append-drop}
 use lib.Seq.{length-take-le, set-append-left, take-set-lt, drop-set-lt, getD-take}
 use borrow.Author.Tests.{eq-eqb, ne-eqb, lt-ltb, le-ltb}
-use Rattle.registers.specs.Words.{removed, inserted, removedTo, insertedTo, endFrom}
+use Rattle.registers.specs.Words.{removed, inserted, removedTo, insertedTo, stride, strides, endFrom}
 use Rattle.registers.proofs.Shifts.{removed-out, inserted-out}
 
 -- ---- one turn
@@ -110,37 +110,37 @@ module _ (n : ℕ) (l : List ℕ) (size : length l ≡ 256) (most : n ≤ 255) w
   unfolding insertedTo
   down-end y = rw (add-one n) (inserted-last l n y (omega arith))
 
--- ---- every sixteenth place
+-- ---- places a stride apart
 
 -- a search for the last place to be moved has come to place i
 pub record Come (l : List ℕ) (at i : ℕ) : Type 0 where
   pub left : ℕ
-  pub enough : 240 ≤ i + 16 * left
-  pub same : endFrom left l i ≡ endFrom 15 l at
+  pub enough : 256 - stride ≤ i + stride * left
+  pub same : endFrom left l i ≡ endFrom strides l at
 
 pub come-first : (l : List ℕ) (at : ℕ) → Come l at at
-come-first l at = record { left = 15; enough = omega arith; same = refl }
+come-first l at = record { left = strides; enough = omega arith; same = refl }
 
 module _ (l : List ℕ) (at i : ℕ) where
-  pub come-here : Come l at i → i < 240 → getD l i 0 ≡ 0 → i ≡ endFrom 15 l at
+  pub come-here : Come l at i → i < 256 - stride → getD l i 0 ≡ 0 → i ≡ endFrom strides l at
   unfolding endFrom
   come-here c less free = here (c .left) (c .enough) ∙ c .same
     where
-      here : (n : ℕ) → 240 ≤ i + 16 * n → i ≡ endFrom n l i
+      here : (n : ℕ) → 256 - stride ≤ i + stride * n → i ≡ endFrom n l i
       here zero enough = absurd (omega arith)
       here (suc n) enough = rw (lt-ltb _ _ less, eq-eqb _ _ free)
 
-  pub come-on : Come l at i → i < 240 → getD l i 0 ≢ 0 → Come l at (i + 16)
+  pub come-on : Come l at i → i < 256 - stride → getD l i 0 ≢ 0 → Come l at (i + stride)
   unfolding endFrom
   come-on c less some = on (c .left) (c .enough) (c .same)
     where
-      on : (n : ℕ) → 240 ≤ i + 16 * n → endFrom n l i ≡ endFrom 15 l at → Come l at (i + 16)
+      on : (n : ℕ) → 256 - stride ≤ i + stride * n → endFrom n l i ≡ endFrom strides l at → Come l at (i + stride)
       on zero enough same = absurd (omega arith)
       on (suc n) enough same =
-          let turn : endFrom n l (i + 16) ≡ endFrom (suc n) l i = rw (lt-ltb _ _ less, ne-eqb _ _ some) in
+          let turn : endFrom n l (i + stride) ≡ endFrom (suc n) l i = rw (lt-ltb _ _ less, ne-eqb _ _ some) in
           record { left = n; enough = omega arith; same = turn ∙ same }
 
-  pub come-past : Come l at i → 240 ≤ i → 255 ≡ endFrom 15 l at
+  pub come-past : Come l at i → 256 - stride ≤ i → 255 ≡ endFrom strides l at
   unfolding endFrom
   come-past c past = there (c .left) ∙ c .same
     where

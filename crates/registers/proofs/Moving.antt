@@ -1,5 +1,5 @@
 -- To move the places up to a free one is to move all.
-use Prim.Native.Nat.{ℕ, zero, suc, _+_, _<_, _≤_}
+use Prim.Native.Nat.{ℕ, zero, suc, _+_, _-_, _<_, _≤_}
 use mathlib.Core.Path.{_≡_, refl, sym, ap, subst, _∙_}
 use mathlib.Core.List.{List, [], _∷_, _++_, append-assoc}
 use native.Mathlib.Omega.{arith}
@@ -8,7 +8,8 @@ use lib.Seq.{getD-take, getD-drop}
 use borrow.Author.Tests.{eq-eqb, ne-eqb, lt-ltb, le-ltb}
 use Rattle.registers.specs.declared.Registers.{Registers}
 use Rattle.registers.specs.declared.Refusal.the-variants.{Done}
-use Rattle.registers.specs.Words.{removed, inserted, removedTo, insertedTo, Others, endFrom, endOf}
+use Rattle.registers.specs.Words.{removed, inserted, removedTo, insertedTo, Others, stride, strides, endFrom}
+use Rattle.registers.specs.Words.{endOf}
 use Rattle.registers.specs.Words.{registersOf, othersOf, Outcome, outcome}
 use Rattle.registers.specs.Within.{TidyOthers}
 use Rattle.registers.proofs.Choice.{by-same, by-less}
@@ -89,11 +90,11 @@ end-from : (n : ℕ) (l : List ℕ) (i : ℕ) → i ≤ 255 → End l i (endFrom
 unfolding endFrom
 end-from zero l i most = record { from = most; within = omega arith; free = λ less. absurd (omega arith) }
 end-from (suc n) l i most =
-    by-less i 240
+    by-less i (256 - stride)
     (λ less. by-same (getD l i 0) 0
     (λ free. rw (lt-ltb _ _ less, eq-eqb _ _ free) (record { from = omega arith; within = most; free = λ _. free }))
     (λ some.
-    let next = end-from n l (i + 16) (omega arith) in
+    let next = end-from n l (i + stride) (omega arith) in
     rw (lt-ltb _ _ less, ne-eqb _ _ some)
     (record { from = omega (arith, next .from); within = next .within; free = next .free })))
     (λ past.
@@ -107,7 +108,7 @@ module _ (o : Others) (tidy : TidyOthers o) where
   module _ (i : ℕ) (most : i ≤ 255) where
     end-is : End (o .addresses) i (endOf o i)
     unfolding endOf
-    end-is = end-from 15 (o .addresses) i most
+    end-is = end-from strides (o .addresses) i most
 
     -- all behind it are free
     end-behind : (j : ℕ) → endOf o i < j → getD (o .addresses) j 0 ≡ 0

@@ -2,16 +2,15 @@
 use Prim.Native.Nat.{ℕ, _<_, _≤_}
 use mathlib.Core.Path.{_≡_, sym, ap, _∙_}
 use mathlib.Core.Bool.{true≢false}
-use mathlib.Core.Logic.{_≢_, _↔_}
+use mathlib.Core.Logic.{_≢_}
 use native.Mathlib.Omega.{arith}
 use lib.ListN.{length, getD, List·getD-eq-default}
 use Rattle.registers.specs.declared.Registers.{Registers}
-use Rattle.registers.specs.declared.Spot.the-variants.{Held}
-use Rattle.registers.specs.Words.{unstored, place, spotOf, Others, othersOf, wordAt}
+use Rattle.registers.specs.Words.{unstored, place, Others, othersOf, wordAt}
 use Rattle.registers.specs.Within.{Other, TidyOthers}
 use Rattle.registers.proofs.Choice.{by-same, by-less}
 use Rattle.registers.proofs.Search.{place-within, place-more, place-stops}
-use Rattle.registers.proofs.Spots.{Here, Gone, held-spot, absent-spot, read-held, read-absent, placeIn}
+use Rattle.registers.proofs.Spots.{Here, Gone, read-held, read-absent, placeIn}
 
 pub not-zero : (a : ℕ) → Other a → a ≢ 0
 unfolding unstored
@@ -101,18 +100,6 @@ module _ (r : Registers) (tidy : TidyOthers (othersOf r)) (a : ℕ) (other : Oth
   -- a word that stands in a place is not zero, and any other is
   pub some-held : Here (r .addresses) a → wordAt r a ≢ 0
   some-held here z = held (othersOf r) tidy a other (placeIn r a) here (sym (read-held r a other here) ∙ z)
-
-  pub held-exactly : (spotOf (r .addresses) a ≡ Held (placeIn r a)) ↔ (wordAt r a ≢ 0)
-  held-exactly =
-      by-same (getD (r .addresses) (placeIn r a) 0) a
-      (λ here. (λ spot. some-held here, λ some. sym (held-spot (r .addresses) a other here)))
-      (λ gone. (
-        λ spot.
-            let gone-spot = absent-spot (r .addresses) a other gone in
-            let never : _≡_ {A = ℕ} 0 1 = cc in
-            absurd (omega arith),
-        λ some. absurd (some (read-absent r a other gone)),
-      ))
 
   pub word-absent : ((j : ℕ) → getD (r .addresses) j 0 ≢ a) → wordAt r a ≡ 0
   word-absent absent = read-absent r a other (absent (placeIn r a))

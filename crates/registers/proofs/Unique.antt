@@ -4,10 +4,9 @@ use mathlib.Core.Bool.{cond}
 use Prim.Native.Nat.{ℕ}
 use lib.Dec.{eqb}
 use Rattle.whole.proofs.Unique.{unique, told}
-use Rattle.registers.specs.declared.Registers.{Registers}
 use Rattle.registers.specs.declared.Refusal.{Refusal}
 use Rattle.registers.specs.declared.Refusal.the-variants.{Done, RegistersFull}
-use Rattle.registers.specs.Words.{numberOf, Outcome, outcome}
+use Rattle.registers.specs.Words.{numberOf, Others, OtherOutcome, otherOutcome}
 
 -- the refusal of a number
 abbrev refusalOf : ℕ → Refusal
@@ -21,9 +20,15 @@ number-tells = told numberOf refusalOf back
     back Done = refl
     back RegistersFull = refl
 
--- of each put there is one refusal, and the later registers are one
-pub one-stored : (d : Outcome) (a b : Refusal) (p q : Registers) → outcome a p ≡ d → outcome b q ≡ d
+-- of a put to a word that stands there are one later pair of lists
+pub one-held : (d : Others) (p q : Others) → p ≡ d → q ≡ d → (p .addresses ≡ q .addresses) × (p .values ≡ q .values)
+one-held d p q h k =
+    let e : p ≡ q = unique h k in
+    (ap (λ (o : Others). o .addresses) e, ap (λ (o : Others). o .values) e)
+
+-- and of one to a word that does not, one refusal too
+pub one-absent : (d : OtherOutcome) (a b : Refusal) (p q : Others) → otherOutcome a p ≡ d → otherOutcome b q ≡ d
     → (a ≡ b) × (p ≡ q)
-one-stored d a b p q h k =
-    let e : outcome a p ≡ outcome b q = unique h k in
-    (number-tells a b (ap (λ (o : Outcome). o .refusal) e), ap (λ (o : Outcome). o .registers) e)
+one-absent d a b p q h k =
+    let e : otherOutcome a p ≡ otherOutcome b q = unique h k in
+    (number-tells a b (ap (λ (o : OtherOutcome). o .refusal) e), ap (λ (o : OtherOutcome). o .others) e)

@@ -1,4 +1,4 @@
--- What holds of the registers within the limits, and when they are full. Every put keeps `Tidy`.
+-- What holds of the registers within the limits, and when they are full. Every `putWord` keeps `Tidy`.
 use Prim.Native.Nat.{ℕ, _+_, _<_}
 use mathlib.Core.Path.{_≡_}
 use mathlib.Core.Bool.{cond, false}

@@ -1,5 +1,5 @@
 -- What the registers hold, and what a word put there changes.
-use Prim.Native.Nat.{ℕ, zero, suc, _+_, _-_, _^_}
+use Prim.Native.Nat.{ℕ, zero, suc, _+_, _-_, _/_, _^_}
 use mathlib.Core.Bool.{Bool, cond, _||_}
 use mathlib.Core.List.{List, [], _∷_, _++_}
 use lib.ListN.{getD, set, take, drop, replicate}
@@ -74,7 +74,7 @@ unfoldable pub halving : ℕ → List ℕ → ℕ → ℕ → ℕ
 halving zero l k i = i
 halving (suc n) l k i = halving n l k (halved l k i (2 ^ n))
 
--- how many places hold more than the key, where they are in falling order: 0 to 255
+-- how many places hold more than the key, where they are in falling order; 255 where all of them do
 unfoldable pub place : List ℕ → ℕ → ℕ
 place l k = halving 8 l k 0
 
@@ -105,14 +105,21 @@ removedTo n l i = removed (take (n + 1) l) i ++ drop (n + 1) l
 unfoldable pub insertedTo : ℕ → List ℕ → ℕ → ℕ → List ℕ
 insertedTo n l i y = inserted (take (n + 1) l) i y ++ drop (n + 1) l
 
--- the last place that need be moved: of every sixteenth from place i on, of which n are looked at, the first that is
--- free; where none is before place 240, the last of all. The free places come last, so all behind it are free.
+-- how many places are moved at a time, and how often that is in the table
+abbrev pub stride : ℕ
+stride = 16
+
+abbrev pub strides : ℕ
+strides = 256 / stride
+
+-- the last place that need be moved: of those a stride apart from place i on, of which n are looked at, the first that
+-- is free; where none is before the last stride, the last of all. The free places come last, so all behind it are free.
 unfoldable pub endFrom : ℕ → List ℕ → ℕ → ℕ
 endFrom zero l i = 255
-endFrom (suc n) l i = cond (ltb i 240) (cond (eqb (getD l i 0) 0) i (endFrom n l (i + 16))) 255
+endFrom (suc n) l i = cond (ltb i (256 - stride)) (cond (eqb (getD l i 0) 0) i (endFrom n l (i + stride))) 255
 
 unfoldable pub endOf : Others → ℕ → ℕ
-endOf o i = endFrom 15 (o .addresses) i
+endOf o i = endFrom strides (o .addresses) i
 
 -- a word that stands in place i becomes v; with zero it gives the place back
 unfoldable pub putHeld : Others → ℕ → ℕ → Others

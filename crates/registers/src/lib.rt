@@ -7,9 +7,9 @@ ghost use mathlib.Core.Path.{_≡_};
 ghost use Prim.Native.Nat.{ℕ, _+_, _-_, _≤_};
 ghost use lib.ListN.{length, getD, set};
 ghost use Rattle.registers.specs.Words.{slotOf, index, namedWords, ownAt, ownWith, unstored, halved, place};
-ghost use Rattle.registers.specs.Words.{removedTo, insertedTo, endFrom, others, putHeld, otherOutcome, putAbsent};
-ghost use Rattle.registers.specs.Words.{otherSpot, spotOf, wordIn, putIn};
-ghost use Rattle.registers.specs.Words.{registersOf, freshRegisters, wordAt, outcome, putWord};
+ghost use Rattle.registers.specs.Words.{removedTo, insertedTo, strides, endFrom, others, putHeld, otherOutcome};
+ghost use Rattle.registers.specs.Words.{putAbsent, otherSpot, spotOf, wordIn};
+ghost use Rattle.registers.specs.Words.{registersOf, freshRegisters, wordAt};
 
 pub struct Registers {
     pub own: [u32; 76],
@@ -29,11 +29,6 @@ pub enum Spot {
     Never,
     Held(usize),
     Absent(usize),
-}
-
-pub struct Stored {
-    pub registers: Registers,
-    pub refusal: Refusal,
 }
 
 // ---- words with storage of their own
@@ -152,8 +147,8 @@ fn halved(words: &[u32; 256], key: u32, i: usize, half: usize) -> usize
     i
 }
 
-// How many places hold more than the key, where they are in falling order: 0 to 255. No loop, so that no step is
-// counted or tested.
+// How many places hold more than the key, where they are in falling order; 255 where all of them do. No loop, so that
+// no step is counted or tested.
 fn place(words: &[u32; 256], key: u32) -> usize
     ensures { λ r. ⌜ r ≡ place (now (words .entry)) key ⌝ }
     ensures { λ r. ⌜ r ≤ 255 ⌝ }
@@ -173,18 +168,21 @@ fn sized(words: [u32; 256])
     ensures { λ r. ⌜ length words ≡ 256 ⌝ }
 {}
 
-// The last place that need be moved with one: of every sixteenth from it on the first that is free, as all behind that
-// are; near the end of the table the last. So places are moved sixteen at a time, and no count of them is guessed.
+// How many places are moved at a time.
+const STRIDE: usize = 16;
+
+// The last place that need be moved with one: of those a stride apart from it on the first that is free, as all behind
+// that are; near the end of the table the last. So whole strides are moved, but for what is left over there.
 fn end_from(addresses: &[u32; 256], at: usize) -> usize
-    ensures { λ r. ⌜ r ≡ endFrom 15 (now (addresses .entry)) at ⌝ }
+    ensures { λ r. ⌜ r ≡ endFrom strides (now (addresses .entry)) at ⌝ }
     ensures { λ r. ⌜ r ≤ 255 ⌝ }
 {
     let mut end = at;
-    while end < 240 {
+    while end < 256 - STRIDE {
         if addresses[end] == 0 {
             return end;
         }
-        end += 16;
+        end += STRIDE;
     }
     255
 }
@@ -231,10 +229,10 @@ fn shift_up(addresses: &mut [u32; 256], values: &mut [u32; 256], at: usize, end:
         return;
     }
     let mut i = at;
-    while end - i >= 16 {
-        copy_up(addresses, i, 16);
-        copy_up(values, i, 16);
-        i += 16;
+    while end - i >= STRIDE {
+        copy_up(addresses, i, STRIDE);
+        copy_up(values, i, STRIDE);
+        i += STRIDE;
     }
     copy_up(addresses, i, end - i);
     copy_up(values, i, end - i);
@@ -261,10 +259,10 @@ fn shift_down(
         return;
     }
     let mut i = end;
-    while i - at >= 16 {
-        copy_down(addresses, i, 16);
-        copy_down(values, i, 16);
-        i -= 16;
+    while i - at >= STRIDE {
+        copy_down(addresses, i, STRIDE);
+        copy_down(values, i, STRIDE);
+        i -= STRIDE;
     }
     copy_down(addresses, i, i - at);
     copy_down(values, i, i - at);
@@ -321,7 +319,7 @@ pub fn put_absent(
     Refusal::Done
 }
 
-// ---- one look-up, and what is read or stored there
+// ---- one look-up, and what is read there
 
 // A word that has no storage of its own.
 pub fn find_other(addresses: &[u32; 256], addr: u32) -> Spot
@@ -337,7 +335,7 @@ pub fn find_other(addresses: &[u32; 256], addr: u32) -> Spot
     Spot::Absent(i)
 }
 
-pub fn find(addresses: &[u32; 256], addr: u32) -> Spot
+fn find(addresses: &[u32; 256], addr: u32) -> Spot
     ensures { λ r. ⌜ r ≡ spotOf (now (addresses .entry)) addr ⌝ }
 {
     let s = slot(addr);
@@ -358,31 +356,6 @@ pub fn word_in(own: &[u32; 76], values: &[u32; 256], spot: Spot) -> u32
     }
 }
 
-pub fn put_in(
-    own: &mut [u32; 76],
-    addresses: &mut [u32; 256],
-    values: &mut [u32; 256],
-    spot: Spot,
-    addr: u32,
-    value: u32,
-) -> Refusal
-    ensures { λ r. ⌜ outcome r (registersOf (now (own .exit)) (now (addresses .exit)) (now (values .exit)))
-        ≡ putIn (registersOf (now (own .entry)) (now (addresses .entry)) (now (values .entry))) spot addr value ⌝ }
-{
-    match spot {
-        Spot::Own(s) => {
-            slot_set(own, s, value);
-            Refusal::Done
-        }
-        Spot::Never => Refusal::Done,
-        Spot::Held(i) => {
-            put_held(addresses, values, i, value);
-            Refusal::Done
-        }
-        Spot::Absent(i) => put_absent(addresses, values, i, addr, value),
-    }
-}
-
 // ---- all words, over lent arrays
 
 // All words are zero, whatever the arrays held.
@@ -399,54 +372,4 @@ pub fn reg(own: &[u32; 76], addresses: &[u32; 256], values: &[u32; 256], addr: u
         ≡ wordAt (registersOf (now (own .entry)) (now (addresses .entry)) (now (values .entry))) addr ⌝ }
 {
     word_in(own, values, find(addresses, addr))
-}
-
-pub fn insert(
-    own: &mut [u32; 76],
-    addresses: &mut [u32; 256],
-    values: &mut [u32; 256],
-    addr: u32,
-    value: u32,
-) -> Refusal
-    ensures { λ r. ⌜ outcome r (registersOf (now (own .exit)) (now (addresses .exit)) (now (values .exit)))
-        ≡ putWord (registersOf (now (own .entry)) (now (addresses .entry)) (now (values .entry))) addr value ⌝ }
-{
-    let spot = find(addresses, addr);
-    put_in(own, addresses, values, spot, addr, value)
-}
-
-// ---- the same by value: the arrays are copied once, and lent
-
-pub fn fresh() -> Registers
-    ensures { λ r. ⌜ r ≡ freshRegisters ⌝ }
-{
-    Registers {
-        own: [0; 76],
-        addresses: [0; 256],
-        values: [0; 256],
-    }
-}
-
-pub fn word(r: Registers, addr: u32) -> u32
-    ensures { λ w. ⌜ w ≡ wordAt r addr ⌝ }
-{
-    let own = r.own;
-    let addresses = r.addresses;
-    let values = r.values;
-    reg(&own, &addresses, &values, addr)
-}
-
-pub fn with_word(r: Registers, addr: u32, value: u32) -> Stored
-    ensures { λ x. ⌜ outcome (x .refusal) (x .registers) ≡ putWord r addr value ⌝ }
-{
-    let mut own = r.own;
-    let mut addresses = r.addresses;
-    let mut values = r.values;
-    let refusal = insert(&mut own, &mut addresses, &mut values, addr, value);
-    let registers = Registers {
-        own,
-        addresses,
-        values,
-    };
-    Stored { registers, refusal }
 }

@@ -14,7 +14,7 @@ abbrev pub buttonsIn : System → Buttons
 buttonsIn s = buttons (s .presses .times) (s .presses .codes) (s .keys)
 
 pub record WithinLimits (m : Machine) : Type 0 where
-  -- in the table no word stands twice, and a free place holds zeros
+  -- the table's words stand in falling order, so that none stands twice, and its free places, which hold zeros, last
   pub registers : Tidy (m .system .registers)
   -- time and turbo are accepted ones, game time is at most 2 ^ 31; no timer's start and no set time lies after its clock; the ticks
   -- and syncs that were signalled are the whole parts

@@ -1,7 +1,7 @@
 // Time goes on: advance of the Rust, and what it calls, in the Rust's order.
 //
-// Where the Rust leaves the words alone, so does a step here; the definitions put the same values back, which changes
-// nothing.
+// A stopped timer, an ADC that converts nothing, a sync and a tick that have not moved are left alone, as in the Rust.
+// The rest is put back, changed or not, as the definitions put everything.
 ghost use mathlib.Core.Path.{_≡_};
 ghost use mathlib.Core.List.{List};
 ghost use Prim.Native.Nat.{_<_};

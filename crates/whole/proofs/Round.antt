@@ -7,7 +7,7 @@ use native.Mathlib.Nat.{mul-right-comm, mul-mul-mul-comm, mul-pos, mul-le-mul, m
 use native.Mathlib.Nat.{sub-le, two-pow-succ, le-of-suc-le-suc, div-lt-iff-lt-mul, mul-lt-mul-of-pos-right, lt-suc-self}
 use native.Mathlib.Omega.{arith}
 use lib.IntN.{ℤ, pos}
-use lib.Dec.{T, leb, ltb, eqb, leb→le, lit<, lit≤}
+use lib.Dec.{T, ltb, eqb, leb→le, lit<, lit≤}
 use lib.Pow.{pow-pos, pow-add, pow-lt}
 use lib.Ieee.{Float, nan, inf, fin, binary64, up, down, odd, units, round, add, sub, mul, div, le, ofInt, toUnsigned}
 use lib.Ieee.Fits.{round-is, down-pos, and-l, and-r}

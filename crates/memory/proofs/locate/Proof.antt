@@ -1,4 +1,3 @@
-use native.Mathlib.Omega.{arith}
 use Rattle.memory.proofs.Cases.{place-ram, place-gpio, place-low, place-middle, place-sram, past-sram, place-high, past-high, place-stray}
 use borrow.Author.Needs.{needs}
 use Rattle.memory.proofs.locate.Statement.{statement}

@@ -2,7 +2,7 @@ use Prim.Native.Nat.{_+_, _-_, _≤_}
 use mathlib.Core.Path.{_≡_, refl, _∙_}
 use native.Mathlib.Omega.{arith}
 use borrow.Author.Needs.{needs}
-use Rattle.registers.specs.Words.{insertedTo}
+use Rattle.registers.specs.Words.{insertedTo, stride}
 use Rattle.registers.proofs.Loops.{same-end, down-past, down-end}
 use Rattle.registers.proofs.shift_down.Statement.{statement}
 use Rattle.registers.proofs.shift_down.Tie as tie
@@ -33,7 +33,7 @@ loop-again c =
     let turn = c2 .before .before in
     let l = turn .before .loop in
     let a = turn .before .before .before .before .before .before .before .args in
-    let room : a .at + 16 ≤ l .i = omega arith in (
+    let room : a .at + stride ≤ l .i = omega arith in (
       omega arith,
       omega (arith, l .inv .1),
       c2 .copy-down .ensures .1 _ _ room ∙ l .inv .2,

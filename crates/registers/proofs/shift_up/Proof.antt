@@ -2,7 +2,7 @@ use Prim.Native.Nat.{_+_, _-_, _≤_}
 use mathlib.Core.Path.{_≡_, refl, ap, _∙_}
 use native.Mathlib.Omega.{arith}
 use borrow.Author.Needs.{needs}
-use Rattle.registers.specs.Words.{removedTo}
+use Rattle.registers.specs.Words.{removedTo, stride}
 use Rattle.registers.proofs.Loops.{up-past, up-end}
 use Rattle.registers.proofs.shift_up.Statement.{statement}
 use Rattle.registers.proofs.shift_up.Tie as tie
@@ -33,7 +33,8 @@ loop-again c =
     let turn = c2 .before .before in
     let l = turn .before .loop in
     let most = l .inv .1 in
-    let room : l .i + 16 ≤ turn .before .before .before .before .before .before .before .args .end = omega arith in (
+    let a = turn .before .before .before .before .before .before .before .args in
+    let room : l .i + stride ≤ a .end = omega arith in (
       room,
       most,
       c2 .copy-up .ensures .1 _ room most ∙ l .inv .2,

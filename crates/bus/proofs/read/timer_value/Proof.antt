@@ -1,6 +1,5 @@
 use borrow.Author.Tests.{eq-eqb, ne-eqb}
 use Rattle.bus.specs.Read.{timerValue}
-use mathlib.Core.Path.{ap, _∙_}
 use borrow.Author.Needs.{needs}
 use Rattle.bus.proofs.read.timer_value.Statement.{statement}
 use Rattle.bus.proofs.read.timer_value.Tie as tie

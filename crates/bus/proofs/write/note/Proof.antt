@@ -1,5 +1,5 @@
 use mathlib.Core.Path.{refl, sym, _∙_}
-use mathlib.Core.Bool.{true, false, true≢false}
+use mathlib.Core.Bool.{true≢false}
 use Rattle.bus.proofs.BankedWrites.{noted-put, noted-none}
 use Rattle.state.specs.Bank.{partsIn}
 use borrow.Author.Needs.{needs}

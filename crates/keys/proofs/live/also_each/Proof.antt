@@ -1,7 +1,6 @@
 use Prim.Native.Nat.{_-_, _≤_}
-use mathlib.Core.Path.{_≡_, refl, _∙_}
+use mathlib.Core.Path.{_≡_, _∙_}
 use borrow.Author.Needs.{needs}
-use native.Mathlib.Omega.{arith}
 use Rattle.keys.specs.declared.Held.{Held}
 use Rattle.keys.specs.Live.{heldFrom}
 use Rattle.keys.proofs.Cases.{held-more, held-upto}

@@ -1,6 +1,5 @@
 use Rattle.keys.specs.Live.{keyRefusal}
 use borrow.Author.Tests.{lt-leb, le-leb}
-use borrow.Author.Needs.{needs}
 use Rattle.keys.proofs.live.check_key.Statement.{statement}
 use Rattle.keys.proofs.live.check_key.Tie as tie
 

@@ -1,5 +1,5 @@
 use Prim.Native.Nat.{_-_, _≤_}
-use mathlib.Core.Path.{_≡_, _∙_}
+use mathlib.Core.Path.{_≡_}
 use native.Mathlib.Omega.{arith}
 use Rattle.keys.specs.Live.{heldFrom}
 use Rattle.keys.proofs.Cases.{places-most, held-none, held-all}

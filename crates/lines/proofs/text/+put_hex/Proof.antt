@@ -1,6 +1,5 @@
 -- `text::put_hex` meets its contract: the digits but the last, and the last. The measure is the width.
 use borrow.Author.Needs.{needs}
-use mathlib.Core.Path.{_≡_}
 use Prim.Native.Nat.{ℕ, _<_}
 use native.Mathlib.Omega.{arith}
 use Rattle.lines.proofs.Laws.{hex-none, hex-more}
