@@ -56,21 +56,22 @@ static void by_flash(struct script *script) {
     flash_end(script);
 }
 
-static void words_to(struct script *script, uint32_t address) {
-    for (uint32_t i = 0; i < KEY_BYTES; i += 4) {
-        put_word(script, address + i, key_word(i));
-        step(script, TG18_READ, 4, address + i, 0);
+// The key's words, each so many bytes behind the one before it.
+static void words_to(struct script *script, uint32_t address, uint32_t apart) {
+    for (uint32_t i = 0; i < KEY_BYTES; i += 4, address += apart) {
+        put_word(script, address, key_word(i));
+        step(script, TG18_READ, 4, address, 0);
     }
 }
 
 static void by_ram(struct script *script) {
-    words_to(script, 0x20000000 + RAM_PLACE);
-    words_to(script, 0xF8000000 + SRAM_PLACE);
+    words_to(script, 0x20000000 + RAM_PLACE, 4);
+    words_to(script, 0xF8000000 + SRAM_PLACE, 4);
 }
 
 // From RAM to the framebuffer, 32,768 bytes at once.
 static void by_picture(struct script *script) {
-    words_to(script, 0x20000000 + RAM_PLACE);
+    words_to(script, 0x20000000 + RAM_PLACE, 4);
     picture(script, 0x20000000 + RAM_PLACE);
 }
 
@@ -82,8 +83,9 @@ static void by_clock_chip(struct script *script) {
     }
 }
 
-// Words without storage of their own, so they stand one after the other in the room for others.
-static void by_registers(struct script *script) { words_to(script, 0xC0100000); }
+// Words without storage of their own stand one after the other in the room for others, that of the highest address
+// first: so the key is a row there.
+static void by_registers(struct script *script) { words_to(script, 0xC0100000 + KEY_BYTES, -4U); }
 
 static const struct way {
     const char *name;
