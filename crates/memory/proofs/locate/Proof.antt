@@ -1,4 +1,5 @@
-use Rattle.memory.proofs.Cases.{place-ram, place-gpio, place-low, place-middle, place-sram, past-sram, place-high, past-high, place-stray}
+use Rattle.memory.proofs.Cases.{place-ram, place-gpio, place-low, place-middle, place-sram, past-sram}
+use Rattle.memory.proofs.Cases.{place-high, past-high, place-stray}
 use borrow.Author.Needs.{needs}
 use Rattle.memory.proofs.locate.Statement.{statement}
 use Rattle.memory.proofs.locate.Tie as tie
@@ -35,19 +36,5 @@ returns-9 c =
 pub locate-spec : {M : Type 1} → statement M
 locate-spec =
     tie.close
-    (tie.spec
-    (λ c. search needs)
-    (λ c. search needs)
-    returns
-    (λ c. search needs)
-    (λ c. search needs)
-    returns-2
-    returns-3
-    returns-4
-    (λ c. search needs)
-    (λ c. search needs)
-    returns-5
-    returns-6
-    returns-7
-    returns-8
-    returns-9)
+    (tie.spec (λ c. search needs) (λ c. search needs) returns (λ c. search needs) (λ c. search needs) returns-2
+    returns-3 returns-4 (λ c. search needs) (λ c. search needs) returns-5 returns-6 returns-7 returns-8 returns-9)
