@@ -1,47 +1,34 @@
 //! Times the port's library and the Rust device on the same scripts, in one
 //! process and by turns.
 
-#[path = "../oracle/bus_kinds.rs"]
+#[path = "../oracle/bus/mod.rs"]
+mod bus;
+#[path = "../oracle/script/bytes.rs"]
 #[allow(dead_code)]
-mod bus_kinds;
-#[path = "../oracle/bus_map.rs"]
-#[allow(dead_code)]
-mod bus_map;
-#[path = "../oracle/device.rs"]
-mod device;
+mod bytes;
+#[path = "../oracle/common/mod.rs"]
+mod common;
 mod families;
-#[path = "../oracle/full.rs"]
+#[path = "../oracle/script/make.rs"]
 #[allow(dead_code)]
-mod full;
-#[path = "../oracle/memories.rs"]
+mod make;
+#[path = "../oracle/script/memories.rs"]
 #[allow(dead_code)]
 mod memories;
-#[path = "../oracle/random.rs"]
-#[allow(dead_code)]
-mod random;
+#[path = "../oracle/script/port.rs"]
+mod port;
 mod rust_side;
-#[path = "../oracle/script.rs"]
-#[allow(dead_code)]
-mod script;
-#[path = "../oracle/script_make.rs"]
-#[allow(dead_code)]
-mod script_make;
-#[path = "../oracle/script_port.rs"]
-mod script_port;
-#[path = "../oracle/step.rs"]
-#[allow(dead_code)]
-mod step;
 
 use std::env;
 use std::hint::black_box;
 use std::process::ExitCode;
 use std::time::{Duration, Instant};
 
-use device::*;
+use bytes::{out_length, Script};
+use common::device::*;
+use common::full::*;
 use families::{Family, FAMILIES};
-use full::*;
 use memories::Memories;
-use script::{out_length, Script};
 use sys::System;
 
 /// How long each side runs in a family, and how often at least.
@@ -126,7 +113,7 @@ fn measured_rust(system: &mut System, fresh: &System, script: &[u8], out: &mut [
 #[no_mangle]
 #[inline(never)]
 fn measured_port(memories: &mut Memories, script: &[u8], out: &mut [u8]) -> u32 {
-    script_port::run_script(memories, black_box(script), out)
+    port::run_script(memories, black_box(script), out)
 }
 
 fn median(mut times: Vec<Duration>) -> f64 {

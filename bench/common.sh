@@ -2,13 +2,12 @@
 # What bench/run and .ci/speed have in common; they read it in. They set `root`
 # (the repository) and `library` (the port's static library).
 
-sources=${ORACLE_SOURCES:-$root/../shared/docs/src}
-out=${ORACLE_OUT:-$root/target/oracle}
+# shellcheck source-path=SCRIPTDIR
+. "$root/oracle/common/sources.sh"
 
 # Makes $out/bench, with rustc's own optimisation for a release.
 build() {
-    # shellcheck source-path=SCRIPTDIR
-    . "$root/oracle/sources.sh"
+    name_device
     rustc --edition 2021 -C opt-level=3 -C "link-arg=$library" \
         -o "$out/bench" "$root/bench/bench.rs"
 }

@@ -1,10 +1,10 @@
 //! What is timed: a script for each thing that a unit's program does, as many
 //! steps of it as a script holds. No step is refused.
 
-use crate::bus_kinds::OTHERS;
-use crate::bus_map::takes_room;
-use crate::random::Random;
-use crate::script::{Press, ScriptStep, MOST};
+use crate::bus::kinds::OTHERS;
+use crate::bus::map::takes_room;
+use crate::common::random::Random;
+use crate::bytes::{Press, ScriptStep, MOST};
 
 pub struct Family {
     pub name: &'static str,

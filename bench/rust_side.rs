@@ -4,7 +4,7 @@
 //! all steps are read before the first is run, as the port must.
 
 use crate::cpu::Bus;
-use crate::script::{ANSWER_BYTES, BAD_SCRIPT, KINDS, PRESS_BYTES, STEP_BYTES};
+use crate::bytes::{ANSWER_BYTES, BAD_SCRIPT, KINDS, PRESS_BYTES, STEP_BYTES};
 use crate::sys::{Key, System};
 
 fn word(bytes: &[u8], at: usize) -> u32 {
