@@ -1,10 +1,10 @@
 //! What is timed: a script for each thing that a unit's program does, as many
 //! steps of it as a script holds. No step is refused.
 
-use crate::bus::kinds::OTHERS;
 use crate::bus::map::takes_room;
+use crate::bytes::{Press, ScriptStep};
+use crate::common::numbers::*;
 use crate::common::random::Random;
-use crate::bytes::{Press, ScriptStep, MOST};
 
 pub struct Family {
     pub name: &'static str,
@@ -23,7 +23,7 @@ pub struct Author {
 }
 
 const fn family(name: &'static str, make: fn(&mut Author)) -> Family {
-    Family { name, make, most: MOST }
+    Family { name, make, most: MOST_STEPS }
 }
 
 /// One whose steps take long.
@@ -38,10 +38,10 @@ pub const FAMILIES: [Family; 32] = [
     family("memory, GPIO", Author::gpio),
     family("registers, own", Author::own),
     family("registers, four others", |author| author.others(4)),
-    family("registers, 256 others", |author| author.others(OTHERS)),
+    family("registers, 256 others", |author| author.others(REGISTER_PLACES)),
     family("registers, zeros read", Author::zeros),
     family("registers, 64 scattered", |author| author.scattered(64)),
-    family("registers, 256 scattered", |author| author.scattered(OTHERS)),
+    family("registers, 256 scattered", |author| author.scattered(REGISTER_PLACES)),
     family("registers, scattered zeros", Author::scattered_zeros),
     family("registers, words come and go", Author::come_and_go),
     family("registers, timers", Author::timer_words),
@@ -192,7 +192,7 @@ impl Author {
 
     fn scattered_zeros(&mut self) {
         if self.steps.is_empty() {
-            self.fill_table(OTHERS);
+            self.fill_table(REGISTER_PLACES);
         }
         let word = self.scattered_word();
         self.read(word);

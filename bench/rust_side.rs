@@ -3,8 +3,9 @@
 //! for nothing is tested here that the device does not test itself. The kinds of
 //! all steps are read before the first is run, as the port must.
 
+use crate::bytes::KINDS;
+use crate::common::numbers::*;
 use crate::cpu::Bus;
-use crate::bytes::{ANSWER_BYTES, BAD_SCRIPT, KINDS, PRESS_BYTES, STEP_BYTES};
 use crate::sys::{Key, System};
 
 fn word(bytes: &[u8], at: usize) -> u32 {
@@ -37,7 +38,7 @@ fn write(system: &mut System, size: u8, address: u32, value: u32) {
 
 /// One pixel, as `rgb` gives it for all of them.
 fn colour(system: &System, pixel: u32) -> u64 {
-    let at = 2 * (pixel as usize % 16_384);
+    let at = 2 * (pixel as usize % PIXELS);
     let v = u32::from(u16::from_le_bytes([system.lcd.fb[at], system.lcd.fb[at + 1]]));
     let (r, g, b) = (v >> 11 & 0x1F, v >> 5 & 0x3F, v & 0x1F);
     let (r, g, b) = (r * 255 / 31, g * 255 / 63, b * 255 / 31);
@@ -71,20 +72,20 @@ fn step(system: &mut System, fresh: &System, step: &[u8]) -> [u64; 3] {
     let number = f64::from_bits(value);
     let one = |a: u64| [a, 0, 0];
     match step[0] {
-        1 => return one(read(system, step[1], address).into()),
-        2 => write(system, step[1], address, value as u32),
-        3 => system.advance(number),
-        4 => return one(system.next_event().to_bits()),
-        5 => return one(system.pending_irq().into()),
-        6 => system.turbo = number,
-        7 => system.live_keys[address as usize] = value != 0,
-        8 => system.hold_until[address as usize] = number,
-        9 => {
+        READ => return one(read(system, step[1], address).into()),
+        WRITE => write(system, step[1], address, value as u32),
+        ADVANCE => system.advance(number),
+        NEXT => return one(system.next_event().to_bits()),
+        PENDING => return one(system.pending_irq().into()),
+        TURBO => system.turbo = number,
+        KEY => system.live_keys[address as usize] = value != 0,
+        HOLD => system.hold_until[address as usize] = number,
+        SOUND => {
             let (time, frequency, duty) = system.sound.events.remove(0);
             return [time, frequency, duty].map(f64::to_bits);
         }
-        10 => return [system.lcd.frames, system.flash.writes, system.powered_off.into()],
-        11 => return one(colour(system, address)),
+        COUNTERS => return [system.lcd.frames, system.flash.writes, system.powered_off.into()],
+        COLOUR => return one(colour(system, address)),
         _ => wipe(system, fresh),
     }
     [0; 3]
@@ -108,7 +109,7 @@ pub fn run(system: &mut System, fresh: &System, script: &[u8], out: &mut [u8]) -
     let presses = word(script, 0) as usize;
     let first = 8 + PRESS_BYTES * presses;
     if !kinds_known(&script[first..]) {
-        return BAD_SCRIPT;
+        return BAD_SCRIPT.into();
     }
     run_all(system, fresh, script, out);
     0

@@ -3,8 +3,7 @@
 use super::clocks::*;
 use super::list::List;
 use super::map::NEVER_STORED;
-use super::status::{ADC_CONTROL, RTC_STATUS};
-use crate::common::limits::FASTEST;
+use crate::common::numbers::*;
 
 /// Registers with a meaning and without, staging, alarm, and the count.
 pub fn rtc_registers(list: &mut List) {
@@ -104,31 +103,31 @@ pub fn adc_controls(list: &mut List) {
 }
 
 pub fn ports_and_power(list: &mut List) {
-    list.write(SPI_STATE, 0xFFFF_FFF0);
-    for (size, address) in [(4, SPI_VALUE), (1, SPI_VALUE + 3), (2, SPI_VALUE + 1)] {
-        list.write(SPI_VALUE, 0x1234_5678);
-        list.write_sized(1, SPI_STATE, 0x0F);
-        list.peek32(SPI_VALUE);
-        list.read(SPI_STATE);
+    list.write(SPI2_STATE, 0xFFFF_FFF0);
+    for (size, address) in [(4, SPI2_VALUE), (1, SPI2_VALUE + 3), (2, SPI2_VALUE + 1)] {
+        list.write(SPI2_VALUE, 0x1234_5678);
+        list.write_sized(1, SPI2_STATE, 0x0F);
+        list.peek32(SPI2_VALUE);
+        list.read(SPI2_STATE);
         list.read_sized(size, address);
-        list.read(SPI_STATE);
-        list.write_sized(size, SPI_START, 0);
-        list.read(SPI_STATE);
-        list.peek32(SPI_VALUE);
+        list.read(SPI2_STATE);
+        list.write_sized(size, SPI2_START, 0);
+        list.read(SPI2_STATE);
+        list.peek32(SPI2_VALUE);
     }
     for switch in [0x8000, 0xFFFF_7FFF, 0xFFFF_FFFF] {
-        list.write(SWITCH, switch);
-        list.write(SWITCHED, switch);
-        list.read(SWITCHED);
-        list.read_sized(1, SWITCHED + 1);
-        list.peek32(SWITCHED);
-        list.read(SWITCH);
+        list.write(CLOCK_SWITCH, switch);
+        list.write(CLOCK_STATUS, switch);
+        list.read(CLOCK_STATUS);
+        list.read_sized(1, CLOCK_STATUS + 1);
+        list.peek32(CLOCK_STATUS);
+        list.read(CLOCK_SWITCH);
     }
     for (size, at, value) in [(4, 0, 1), (4, 0, 0xFFFF_FFFF), (1, 1, 0), (1, 0, 2), (4, 0, 1)] {
-        list.write_sized(size, POWER + at, value);
+        list.write_sized(size, POWER_REG + at, value);
         list.counters();
     }
-    list.read(POWER);
+    list.read(POWER_REG);
     list.pass(1.0);
     list.lines();
 }

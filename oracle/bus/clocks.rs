@@ -4,22 +4,9 @@
 use super::families::Author;
 use super::list::List;
 use super::map::NEVER_STORED;
-use super::status::{ADC_CONTROL, RTC_STATUS};
-use crate::common::step::Answer;
 use crate::common::edges::{BYTES, FIELDS};
-
-pub const RTC_ADDRESS: u32 = 0xC009_0004;
-pub const RTC_DATA: u32 = 0xC009_0008;
-pub const RTC_COMMAND: u32 = 0xC009_000C;
-pub const RTC_READY: u32 = 0xC009_0010;
-pub const RTC_OUT: u32 = 0xC009_0014;
-pub const ADC_VALUE: u32 = 0xC00C_0008;
-pub const SPI_START: u32 = 0xC008_0008;
-pub const SPI_STATE: u32 = 0xC008_000C;
-pub const SPI_VALUE: u32 = 0xC008_0010;
-pub const SWITCH: u32 = 0xD000_001C;
-pub const SWITCHED: u32 = 0xD000_003C;
-pub const POWER: u32 = 0xD000_0078;
+use crate::common::numbers::*;
+use crate::common::step::Answer;
 
 pub fn rtc(author: &mut Author) {
     match author.random.below(12) {
@@ -85,7 +72,7 @@ pub fn adc(author: &mut Author) {
 
 /// A read of the value clears bits beside it; a peek does not.
 pub fn spi2(author: &mut Author) {
-    let word = author.random.pick(&[SPI_START, SPI_STATE, SPI_VALUE]);
+    let word = author.random.pick(&[SPI2_START, SPI2_STATE, SPI2_VALUE]);
     match author.random.below(4) {
         0 | 1 => {
             let value = author.bits();
@@ -93,27 +80,27 @@ pub fn spi2(author: &mut Author) {
         }
         2 => {
             let at = author.random.below(4) as u32;
-            author.list.peek8(SPI_VALUE + at);
+            author.list.peek8(SPI2_VALUE + at);
         }
-        _ => author.get_part(SPI_VALUE),
+        _ => author.get_part(SPI2_VALUE),
     }
-    for word in [SPI_STATE, SPI_VALUE, SPI_STATE] {
+    for word in [SPI2_STATE, SPI2_VALUE, SPI2_STATE] {
         author.get(word);
     }
-    author.list.peek32(SPI_START);
+    author.list.peek32(SPI2_START);
 }
 
 pub fn power(author: &mut Author) {
     let value = author.value(&[1, 3, 0x8000, 0x8001, 0xFFFF_FFFF]);
     match author.random.below(6) {
-        0 | 1 => author.put_part(SWITCH, value),
-        2 => author.put_part(SWITCHED, value),
-        3 | 4 => author.put_part(POWER, value | 1),
-        _ => author.put_part(POWER, value),
+        0 | 1 => author.put_part(CLOCK_SWITCH, value),
+        2 => author.put_part(CLOCK_STATUS, value),
+        3 | 4 => author.put_part(POWER_REG, value | 1),
+        _ => author.put_part(POWER_REG, value),
     }
-    author.get(SWITCHED);
-    author.get(POWER);
-    author.list.peek32(SWITCHED);
+    author.get(CLOCK_STATUS);
+    author.get(POWER_REG);
+    author.list.peek32(CLOCK_STATUS);
     author.list.counters();
     if author.list.system().powered_off && author.random.one_in(4) {
         author.pass();

@@ -2,6 +2,7 @@
 
 use super::families::Author;
 use super::flash::with_address;
+use crate::common::numbers::PAINT;
 
 /// Bytes of a transaction or of pixels are missing, added or changed, and then
 /// comes the same without damage.
@@ -40,7 +41,7 @@ impl Author {
             self.random.damage(&mut bad);
         }
         for bytes in [bad, good] {
-            self.send_command(0x2C);
+            self.send_command(PAINT);
             self.send(&bytes);
             self.list.digest(3);
             self.pixel();

@@ -3,16 +3,15 @@
 use super::flash::*;
 use super::list::List;
 use super::panel::*;
-use super::status::LCD_STATUS;
-use crate::FLASH_BASE;
+use crate::common::numbers::*;
 
 /// A transaction without its answers.
 fn send(list: &mut List, bytes: &[u8]) {
-    list.write(SELECT, SELECTED);
+    list.write(FLASH_SELECT, FLASH_SELECTED);
     for &byte in bytes {
-        list.write(TRANSFER, byte.into());
+        list.write(FLASH_TRANSFER, byte.into());
     }
-    list.write(SELECT, 0);
+    list.write(FLASH_SELECT, 0);
 }
 
 /// With write enable and without, with no data, round the page's end, twice.
@@ -38,12 +37,12 @@ pub fn programs(list: &mut List) {
     frame(list, &with_address(0x0B, 0x01_0100, &[0; 2]));
     // A write above the low byte sends that one again.
     send(list, &[0x06]);
-    list.write(SELECT, SELECTED);
+    list.write(FLASH_SELECT, FLASH_SELECTED);
     for byte in [0x02, 0x00, 0x01, 0x05] {
-        list.write(TRANSFER, byte);
+        list.write(FLASH_TRANSFER, byte);
     }
-    list.write_sized(1, TRANSFER + 1, 0x36);
-    list.write(SELECT, 0);
+    list.write_sized(1, FLASH_TRANSFER + 1, 0x36);
+    list.write(FLASH_SELECT, 0);
     list.read(FLASH_BASE + 0x104);
     list.digest(0);
 }
@@ -77,9 +76,9 @@ pub fn erases(list: &mut List) {
 fn unselected_ends(list: &mut List) {
     send(list, &[0x06]);
     send(list, &[0x20, 0x00, 0x30]);
-    list.write(TRANSFER, 0x00);
-    list.read(ANSWER);
-    list.write(SELECT, 0);
+    list.write(FLASH_TRANSFER, 0x00);
+    list.read(FLASH_ANSWER);
+    list.write(FLASH_SELECT, 0);
     list.counters();
     list.digest(0);
     frame(list, &[0x05, 0]);
@@ -88,53 +87,55 @@ fn unselected_ends(list: &mut List) {
 /// Identities and status, second selects, and transfers without a select.
 pub fn answers_of_flash(list: &mut List) {
     for (command, first) in [(0xAB, 3), (0x4B, 4), (0x35, 4), (0x77, 5)] {
-        list.write(SELECT, SELECTED);
+        list.write(FLASH_SELECT, FLASH_SELECTED);
         for (at, byte) in [command, 0, 0, 0, 0, 0].into_iter().enumerate() {
-            list.write(TRANSFER, byte);
+            list.write(FLASH_TRANSFER, byte);
             if at >= first {
-                list.read(ANSWER);
+                list.read(FLASH_ANSWER);
             }
         }
-        list.write(SELECT, 0);
+        list.write(FLASH_SELECT, 0);
     }
-    list.write(SELECT, SELECTED);
-    list.write(TRANSFER, 0x9F);
-    list.write(SELECT, 0xFFFF_FF40);
-    list.write_sized(2, TRANSFER, 0x0100);
-    list.read(ANSWER);
+    list.write(FLASH_SELECT, FLASH_SELECTED);
+    list.write(FLASH_TRANSFER, 0x9F);
+    list.write(FLASH_SELECT, 0xFFFF_FF40);
+    list.write_sized(2, FLASH_TRANSFER, 0x0100);
+    list.read(FLASH_ANSWER);
     // Only these bytes are not the one with bit 6, or not the low one.
-    list.write_sized(1, SELECT + 1, 0);
-    list.write_sized(1, TRANSFER + 2, 0x55);
-    list.read(ANSWER);
-    list.write_sized(1, SELECT, 0xBF);
-    list.write(TRANSFER, 0);
-    list.read(ANSWER);
-    list.write(SELECT, SELECTED);
-    list.write(TRANSFER, 0x06);
-    list.read(ANSWER);
-    list.write(SELECT, 0x80);
-    for (word, value) in [(STATE, u32::MAX), (ANSWER, 0x1234_5678), (TRANSFER, 0xABCD_EF05)] {
+    list.write_sized(1, FLASH_SELECT + 1, 0);
+    list.write_sized(1, FLASH_TRANSFER + 2, 0x55);
+    list.read(FLASH_ANSWER);
+    list.write_sized(1, FLASH_SELECT, 0xBF);
+    list.write(FLASH_TRANSFER, 0);
+    list.read(FLASH_ANSWER);
+    list.write(FLASH_SELECT, FLASH_SELECTED);
+    list.write(FLASH_TRANSFER, 0x06);
+    list.read(FLASH_ANSWER);
+    list.write(FLASH_SELECT, 0x80);
+    for (word, value) in
+        [(FLASH_STATE, u32::MAX), (FLASH_ANSWER, 0x1234_5678), (FLASH_TRANSFER, 0xABCD_EF05)]
+    {
         list.write(word, value);
         list.read(word);
         list.peek32(word);
     }
-    list.read_sized(1, ANSWER);
-    list.read_sized(2, ANSWER + 1);
-    list.peek32(SELECT);
+    list.read_sized(1, FLASH_ANSWER);
+    list.read_sized(2, FLASH_ANSWER + 1);
+    list.peek32(FLASH_SELECT);
 }
 
 /// The ways to send, and the controls that do not.
 pub fn panel_controls(list: &mut List) {
-    command(list, 0x2A, &[0, 2, 0, 3]);
-    command(list, 0x2B, &[0, 1, 0, 2]);
-    command(list, 0x2C, &[0x12]);
+    command(list, COLUMNS, &[0, 2, 0, 3]);
+    command(list, ROWS, &[0, 1, 0, 2]);
+    command(list, PAINT, &[0x12]);
     for (control, data) in [
         (SEND_TWO, 0xFFFF_3456),
         (SEND_TWO, 0x789A),
         (SEND_BYTE, 0xFFFF_FFBC),
         (0xA0, 0xDEF0),
         (0x20A0, 0x11),
-        (0x80, 0x2C),
+        (0x80, PAINT.into()),
         (0x91, 0x22),
         (0xB1, 0x33),
         (0x01, 0x66),
@@ -142,11 +143,11 @@ pub fn panel_controls(list: &mut List) {
         (0xFFFF_DFA1, 0x8899),
         (0x4000_00A1, 0xAABB),
     ] {
-        list.write(DATA, data);
-        list.write(CONTROL, control);
+        list.write(LCD_DATA, data);
+        list.write(LCD_CONTROL, control);
         list.digest(3);
         if control >= 0xFFFF || control % 2 == 0 {
-            list.read(CONTROL);
+            list.read(LCD_CONTROL);
         }
     }
     for at in [128 + 2, 128 + 3, 256 + 2, 256 + 3, 16_384 + 130, 0xFFFF_FFFF] {
@@ -159,21 +160,21 @@ pub fn panel_controls(list: &mut List) {
 /// The code by one byte, the start by another; and windows of odd ends.
 fn short_controls(list: &mut List) {
     for (size, at, control) in [(1, 0, 0x81), (1, 0, 0xA1), (1, 1, 0x20), (2, 0, 0x20A1)] {
-        list.write_sized(1, DATA, 0x2C);
-        list.write_sized(size, CONTROL + at, control);
-        list.read(CONTROL);
+        list.write_sized(1, LCD_DATA, PAINT.into());
+        list.write_sized(size, LCD_CONTROL + at, control);
+        list.read(LCD_CONTROL);
     }
     list.counters();
     for (columns, rows) in [([0, 127, 0, 128], [0, 127, 0, 127]), ([0, 9, 0, 3], [0, 9, 0, 3])] {
-        command(list, 0x2A, &columns);
-        command(list, 0x2B, &rows);
-        command(list, 0x2A, &[1, 2]);
-        command(list, 0x2C, &[1, 2, 3, 4, 5, 6]);
+        command(list, COLUMNS, &columns);
+        command(list, ROWS, &rows);
+        command(list, COLUMNS, &[1, 2]);
+        command(list, PAINT, &[1, 2, 3, 4, 5, 6]);
         list.digest(3);
         list.counters();
     }
-    command(list, 0x2B, &[0, 0, 0, 1, 0xFF, 0xFF]);
-    command(list, 0x2C, &[0xF0, 0x0F]);
+    command(list, ROWS, &[0, 0, 0, 1, 0xFF, 0xFF]);
+    command(list, PAINT, &[0xF0, 0x0F]);
     list.digest(3);
 }
 
@@ -182,31 +183,31 @@ pub fn pictures(list: &mut List) {
     for (at, picture) in PICTURES.into_iter().enumerate() {
         list.write(picture, 0x0102_0304 * (at as u32 + 1));
     }
-    list.poke(0x2000_0000, 0x1111_0001);
-    list.poke(0x2000_7FFE, 0x2222_0002);
-    list.poke(0x2000_FFFC, 0x3333_0003);
-    list.poke(0xF800_7FFC, 0x4444_0004);
-    list.poke(0xC000_0FFC, 0x5555_0005);
+    list.poke(FLASH_BASE, 0x1111_0001);
+    list.poke(FLASH_BASE + 0x7FFE, 0x2222_0002);
+    list.poke(FLASH_BASE + 0xFFFC, 0x3333_0003);
+    list.poke(SRAM_BASE + 0x7FFC, 0x4444_0004);
+    list.poke(REGISTERS_C - 4, 0x5555_0005);
     for picture in PICTURES.into_iter().chain([0, 1, 0x3000_0000, 0]) {
         dma(list, picture);
         list.digest(3);
     }
     list.counters();
     for run in [0xD0, 0x20D1, 0x00D3] {
-        list.write(PICTURE, 0x2000_0000);
+        list.write(LCD_PICTURE, FLASH_BASE);
         list.write(LCD_STATUS, u32::MAX);
-        list.write(CONTROL, run);
+        list.write(LCD_CONTROL, run);
         list.read(LCD_STATUS);
-        list.read(CONTROL);
+        list.read(LCD_CONTROL);
         list.counters();
     }
     for at in [0, 1, 16_383] {
         list.pixel(at);
     }
     // A DMA leaves the pen and a held byte alone.
-    command(list, 0x2C, &[1, 2, 3]);
+    command(list, PAINT, &[1, 2, 3]);
     dma(list, 0x3000_0000);
-    list.write(DATA, 4);
-    list.write(CONTROL, SEND_BYTE);
+    list.write(LCD_DATA, 4);
+    list.write(LCD_CONTROL, SEND_BYTE);
     list.digest(3);
 }

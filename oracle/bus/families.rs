@@ -14,10 +14,10 @@ use super::steps::Board;
 use super::timers::{sound, timers};
 use super::wipes::wipes;
 use super::words::{others, words};
-use crate::common::generator::{family, Authorship, Family};
-use crate::common::limits::{LAST_GAME_TIME, LAST_TIME};
-use crate::common::random::Random;
 use crate::common::edges::{fraction, off, TURBOS};
+use crate::common::generator::{family, Authorship, Family};
+use crate::common::numbers::{LAST_GAME_TIME, LAST_TIME};
+use crate::common::random::Random;
 
 pub const FAMILIES: [Family<Author>; 19] = [
     family("memory", memory),

@@ -5,16 +5,15 @@ use super::cases::*;
 use super::clock_cases::*;
 use super::clocks::{rtc_read, rtc_write};
 use super::device_cases::*;
-use super::flash::{ANSWER, SELECT, SELECTED, TRANSFER};
 use super::limit_cases::*;
 use super::list::List;
+use super::map::OTHER_WORD;
 use super::panel::{command, dma};
-use super::status::LCD_STATUS;
 use super::status_cases::*;
 use super::time_cases::*;
-use super::timers::{timer_word, CONTROL, COUNTER, RELOAD};
+use super::timers::timer_word;
 use crate::common::generator::expect;
-use crate::common::limits::{BAD_TIME, LAST_TIME};
+use crate::common::numbers::*;
 
 /// The family that a case belongs to, and its steps.
 type Case = (&'static str, fn(&mut List));
@@ -65,32 +64,32 @@ pub fn fixed_list() -> List {
 /// What these answer was worked out by hand.
 pub fn examples(list: &mut List) {
     for (timer, reload) in [(0, 0x0000), (1, 0xFFFF), (2, 0xFC18)] {
-        list.write(timer_word(timer, RELOAD), reload);
-        list.write(timer_word(timer, CONTROL), 0x6000);
+        list.write(timer_word(timer, TIMER_RELOAD), reload);
+        list.write(timer_word(timer, TIMER_CONTROL), 0x6000);
     }
     expect(list.advance(0.5), 0, [0, 0, 0]);
     for (timer, counter) in [(0, 0x8D80), (1, 0xFFFF), (2, 0xFC18)] {
-        expect(list.read(timer_word(timer, COUNTER)), 0, [counter, 0, 0]);
-        expect(list.read(timer_word(timer, CONTROL)), 0, [0xE000, 0, 0]);
+        expect(list.read(timer_word(timer, TIMER_COUNTER)), 0, [counter, 0, 0]);
+        expect(list.read(timer_word(timer, TIMER_CONTROL)), 0, [0xE000, 0, 0]);
     }
     for (size, left) in [(1, 0), (4, 0x2000)] {
-        dma(list, 0x2000_0000);
+        dma(list, FLASH_BASE);
         list.pass(0.1);
         expect(list.read(LCD_STATUS), 0, [0x2040, 0, 0]);
         list.write_sized(size, LCD_STATUS, 0x40);
         expect(list.read(LCD_STATUS), 0, [left, 0, 0]);
     }
     expect(list.counters(), 0, [2, 0, 0]);
-    list.write(0xC010_0002, 0x1122_3344);
-    expect(list.read(0xC010_0000), 0, [0x3344_0000, 0, 0]);
-    list.write(0xC010_0000, 0);
-    list.write_sized(2, 0xC010_0003, 0xBEEF);
-    expect(list.read(0xC010_0000), 0, [0xEF00_0000, 0, 0]);
+    list.write(OTHER_WORD + 2, 0x1122_3344);
+    expect(list.read(OTHER_WORD), 0, [0x3344_0000, 0, 0]);
+    list.write(OTHER_WORD, 0);
+    list.write_sized(2, OTHER_WORD + 3, 0xBEEF);
+    expect(list.read(OTHER_WORD), 0, [0xEF00_0000, 0, 0]);
     identities(list);
-    command(list, 0x2C, &[0x84, 0x10]);
+    command(list, PAINT, &[0x84, 0x10]);
     expect(list.pixel(0), 0, [131 << 16 | 129 << 8 | 131, 0, 0]);
-    list.write(0xC004_0008, 25);
-    expect(list.read(0xC004_0008), 0, [1, 0, 0]);
+    list.write(DAY_HOURS, 25);
+    expect(list.read(DAY_HOURS), 0, [1, 0, 0]);
     staging(list);
     expect(list.advance(LAST_TIME.next_up()), BAD_TIME, [0, 0, 0]);
     expect(list.advance(-0.0), BAD_TIME, [0, 0, 0]);
@@ -103,12 +102,12 @@ fn identities(list: &mut List) {
         (&[0x90, 0, 0, 0, 0, 0, 0], &[0xFF, 0xFF, 0xFF, 0xFF, 0xEF, 0x16, 0xEF]),
     ];
     for (bytes, answers) in transactions {
-        list.write(SELECT, SELECTED);
+        list.write(FLASH_SELECT, FLASH_SELECTED);
         for (&byte, &answer) in bytes.iter().zip(answers) {
-            list.write(TRANSFER, byte.into());
-            expect(list.read(ANSWER), 0, [answer, 0, 0]);
+            list.write(FLASH_TRANSFER, byte.into());
+            expect(list.read(FLASH_ANSWER), 0, [answer, 0, 0]);
         }
-        list.write(SELECT, 0);
+        list.write(FLASH_SELECT, 0);
     }
 }
 

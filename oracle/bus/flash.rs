@@ -2,14 +2,8 @@
 
 use super::families::Author;
 use super::list::List;
-use crate::{FLASH_BASE, FLASH_SIZE};
-
-pub const SELECT: u32 = 0xC015_0000;
-pub const STATE: u32 = 0xC015_0004;
-pub const TRANSFER: u32 = 0xC015_0008;
-pub const ANSWER: u32 = 0xC015_000C;
-
-pub const SELECTED: u32 = 0x40;
+use crate::common::numbers::*;
+use crate::FLASH_SIZE;
 
 /// Every command that does or answers something.
 #[rustfmt::skip]
@@ -38,12 +32,12 @@ pub fn flash(author: &mut Author) {
 
 /// The whole of a transaction, with each answer.
 pub fn frame(list: &mut List, bytes: &[u8]) {
-    list.write(SELECT, SELECTED);
+    list.write(FLASH_SELECT, FLASH_SELECTED);
     for &byte in bytes {
-        list.write(TRANSFER, byte.into());
-        list.read(ANSWER);
+        list.write(FLASH_TRANSFER, byte.into());
+        list.read(FLASH_ANSWER);
     }
-    list.write(SELECT, 0);
+    list.write(FLASH_SELECT, 0);
 }
 
 pub fn with_address(command: u8, address: u32, data: &[u8]) -> Vec<u8> {
@@ -54,24 +48,24 @@ pub fn with_address(command: u8, address: u32, data: &[u8]) -> Vec<u8> {
 impl Author {
     /// Only bit 6 counts, whichever write has brought it there.
     fn select(&mut self, on: bool) {
-        let others = if self.random.one_in(3) { self.bits() & !SELECTED } else { 0 };
-        self.put_once(SELECT, others | if on { SELECTED } else { 0 });
+        let others = if self.random.one_in(3) { self.bits() & !FLASH_SELECTED } else { 0 };
+        self.put_once(FLASH_SELECT, others | if on { FLASH_SELECTED } else { 0 });
     }
 
     /// Any write to the word transfers its low byte, as it then is. So a write
     /// above it sends the last byte again, and one that is shifted sends 0.
     fn transfer(&mut self, byte: u8) {
         let (at, value) = (self.random.between(1, 3) as u32, self.bits());
-        if byte == self.list.system().reg(TRANSFER) as u8 && self.random.one_in(2) {
-            self.list.write_sized(1, TRANSFER + at, value);
+        if byte == self.list.system().reg(FLASH_TRANSFER) as u8 && self.random.one_in(2) {
+            self.list.write_sized(1, FLASH_TRANSFER + at, value);
             return;
         }
         if byte == 0 && self.random.one_in(8) {
-            self.list.write(TRANSFER + at, value);
+            self.list.write(FLASH_TRANSFER + at, value);
             return;
         }
         let above = if self.random.one_in(4) { self.bits() << 8 } else { 0 };
-        self.put_once(TRANSFER, above | u32::from(byte));
+        self.put_once(FLASH_TRANSFER, above | u32::from(byte));
     }
 
     pub fn frame(&mut self, bytes: &[u8]) {
@@ -79,10 +73,10 @@ impl Author {
         for &byte in bytes {
             self.transfer(byte);
             if self.random.one_in(3) || byte == 0 {
-                self.get(ANSWER);
+                self.get(FLASH_ANSWER);
             }
         }
-        self.list.read(ANSWER);
+        self.list.read(FLASH_ANSWER);
         self.select(false);
     }
 
@@ -221,7 +215,7 @@ impl Author {
                 _ => {
                     let byte = self.random.pick(&[0x06, 0x05, 0x9F, 0x03, 0x00]);
                     self.transfer(byte);
-                    self.list.read(ANSWER);
+                    self.list.read(FLASH_ANSWER);
                 }
             }
         }
@@ -230,7 +224,7 @@ impl Author {
 
     /// What is stored in the four words, and the bytes beside those that count.
     fn flash_words(&mut self) {
-        for word in [SELECT, STATE, TRANSFER, ANSWER] {
+        for word in [FLASH_SELECT, FLASH_STATE, FLASH_TRANSFER, FLASH_ANSWER] {
             let value = self.bits();
             self.put_part(word, value);
             self.list.read(word);

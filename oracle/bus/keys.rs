@@ -1,13 +1,10 @@
 //! The family for keys and the lines that they drive.
 
 use super::families::Author;
-use super::kinds::{PRESS, PRESSES};
+use super::kinds::PRESS;
 use super::list::List;
-use crate::sys::{GPIO_BASE, KEY_HOLD};
 use crate::common::edges::{fraction, off, TIME_EDGES};
-
-/// The word of GPIO whose bits 5, 6 and 7 are the keys' lines.
-pub const LINES: u32 = GPIO_BASE + 0x20;
+use crate::common::numbers::{GPIO_BASE, KEY_HOLD, KEY_LINES, KEY_PLACES};
 
 pub fn keys(author: &mut Author) {
     match author.random.below(12) {
@@ -25,12 +22,12 @@ pub fn keys(author: &mut Author) {
         _ => author.keys_pass(),
     }
     author.list.keys();
-    author.list.read(LINES);
+    author.list.read(KEY_LINES);
 }
 
 /// Presses of one key after the other, each at `time`, until no more fit.
 pub fn fill_presses(list: &mut List, time: f64) {
-    for at in 0..PRESSES as u64 {
+    for at in 0..KEY_PLACES as u64 {
         list.press(at % 3, time);
     }
 }
@@ -88,7 +85,7 @@ impl Author {
     /// Lines and other bits of their word set and cleared by writes.
     fn line_bits(&mut self) {
         let bits = self.value(&[0, 0x20, 0x40, 0x80, 0xE0, 0x1F, 0xFFFF_FFFF]);
-        self.put_part(LINES, bits);
+        self.put_part(KEY_LINES, bits);
         let word = GPIO_BASE + 0x20 * self.random.below(8) as u32;
         let value = self.bits();
         self.list.write(word, value);

@@ -1,17 +1,16 @@
 //! Cases of the fixed list about next events, limits and wiping.
 
 use super::clocks::{rtc_read, rtc_write};
-use super::flash::{frame, SELECT, SELECTED};
-use super::kinds::*;
+use super::flash::frame;
+use super::kinds::{ADVANCE, HOLD, LIVE, PRESS};
 use super::list::List;
+use super::map::OTHER_WORD;
 use super::panel::{command, dma};
-use super::status::*;
 use super::timers::*;
 use super::wipes::probe;
-use crate::common::generator::expect;
-use crate::common::limits::*;
-use crate::sys::{INTC_DISABLE, INTC_MASK, SYSCLK_VAR};
 use crate::common::edges::{off, TIME_EDGES, TURBO_EDGES};
+use crate::common::generator::expect;
+use crate::common::numbers::*;
 
 /// To the next event.
 fn go(list: &mut List) {
@@ -35,19 +34,19 @@ pub fn next_events(list: &mut List) {
     let now = list.now();
     list.press(0, now + 0.002);
     list.hold(1, now + 0.003);
-    list.write(timer_word(5, RELOAD), 0xE000);
-    list.write(timer_word(5, CONTROL), 0x6000);
-    list.write(timer_word(2, CONTROL), 0x2000);
+    list.write(timer_word(5, TIMER_RELOAD), 0xE000);
+    list.write(timer_word(5, TIMER_CONTROL), 0x6000);
+    list.write(timer_word(2, TIMER_CONTROL), 0x2000);
     for _ in 0..6 {
         go(list);
         list.keys();
-        list.write(timer_word(5, CONTROL), 0xE000);
+        list.write(timer_word(5, TIMER_CONTROL), 0xE000);
     }
     // A pending timer comes now, masked or not, while it is enabled.
     list.write(INTC_MASK, u32::MAX);
     list.pass(0.01);
     for control in [0x6000, 0x2000, 0x4000, 0x6000, 0xE000] {
-        list.write(timer_word(5, CONTROL), control);
+        list.write(timer_word(5, TIMER_CONTROL), control);
         list.next();
     }
     list.write(SYSCLK_VAR, 1);
@@ -110,40 +109,40 @@ fn game_times(list: &mut List) {
         list.turbo(FASTEST);
         for &time in times {
             list.advance(time);
-            list.read(0xC004_0000);
+            list.read(DAY_SECONDS);
             list.next();
         }
         expect(list.advance(LAST_TIME), 0, [0, 0, 0]);
         list.next();
         // 2^31 seconds are 24,855 days and 11,648 seconds.
-        expect(list.read(0xC004_0008), 0, [3, 0, 0]);
-        expect(list.read(0xC004_0004), 0, [14, 0, 0]);
-        expect(list.read(0xC004_0000), 0, [8, 0, 0]);
+        expect(list.read(DAY_HOURS), 0, [3, 0, 0]);
+        expect(list.read(DAY_MINUTES), 0, [14, 0, 0]);
+        expect(list.read(DAY_SECONDS), 0, [8, 0, 0]);
         expect(list.advance(LAST_TIME), 0, [0, 0, 0]);
     }
 }
 
 /// Everything is changed, and then nothing is left of it.
 pub fn wiping(list: &mut List) {
-    for memory in [0x2000_0000, 0xF800_0000, 0xC000_0000, 0xC010_0000] {
+    for memory in [FLASH_BASE, SRAM_BASE, GPIO_BASE, OTHER_WORD] {
         list.write(memory, 0x1234_5678);
     }
-    list.write(0xD000_0078, 0);
-    dma(list, 0x2000_0000);
-    command(list, 0x2A, &[0, 5, 0, 6]);
-    command(list, 0x2C, &[1, 2, 3, 4, 5]);
+    list.write(POWER_REG, 0);
+    dma(list, FLASH_BASE);
+    command(list, COLUMNS, &[0, 5, 0, 6]);
+    command(list, PAINT, &[1, 2, 3, 4, 5]);
     frame(list, &[0x06]);
     frame(list, &[0x9F, 0]);
-    list.write(SELECT, SELECTED);
+    list.write(FLASH_SELECT, FLASH_SELECTED);
     rtc_write(list, 0x15, 0x99);
     rtc_read(list, 0x15);
-    list.write(0xC004_0008, 7);
+    list.write(DAY_HOURS, 7);
     list.turbo(7.0);
     list.live(0, 1);
     list.hold(1, 1e6);
     list.press(2, 0.3);
-    list.write(timer_word(4, CONTROL), 0x2000);
-    list.write(timer_word(0, CONTROL), 0x6001);
+    list.write(timer_word(4, TIMER_CONTROL), 0x2000);
+    list.write(timer_word(0, TIMER_CONTROL), 0x6001);
     list.advance(100.1);
     list.write(ADC_CONTROL, 0x4040);
     list.wipe();

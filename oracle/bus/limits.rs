@@ -1,9 +1,10 @@
 //! The families for limits, and for everything mixed.
 
 use super::families::{Author, FAMILIES};
-use super::kinds::*;
-use crate::common::limits::{FASTEST, LAST_GAME_TIME, LAST_TIME, SLOWEST};
+use super::kinds::{ADVANCE, HOLD, LIVE, PRESS, READ, WRITE};
+use super::map::OTHER_WORD;
 use crate::common::edges::{fraction, TIME_EDGES, TURBO_EDGES};
+use crate::common::numbers::*;
 
 /// How many of the families, in their order, others draw from.
 pub const TAME: usize = 17;
@@ -35,7 +36,7 @@ pub fn limits(author: &mut Author) {
         _ => author.pass(),
     }
     author.list.next();
-    author.list.read(0xC004_0000);
+    author.list.read(DAY_SECONDS);
 }
 
 /// Each action belongs to another family.
@@ -54,7 +55,7 @@ impl Author {
     /// Sizes come before all else, and before the address.
     fn any_size(&mut self) {
         let address = self.address();
-        let address = self.random.pick(&[address, 0xC010_0000, 0x1000_0000, 0xC002_0080]);
+        let address = self.random.pick(&[address, OTHER_WORD, 0x1000_0000, TIMER_BASE + 0x80]);
         let kind = self.random.pick(&[READ, WRITE]);
         for _ in 0..4 {
             let size = self.random.pick(&[0, 3, 5, 6, 7, 8, 9, 10, 11, 12, 13, 14, 15]);
@@ -63,8 +64,8 @@ impl Author {
         }
         // A write takes its value modulo 2^32.
         let value = self.random.next();
-        self.list.step(WRITE + 4, 0xC010_0000, value);
-        self.list.read(0xC010_0000);
+        self.list.step(WRITE + 4, OTHER_WORD.into(), value);
+        self.list.read(OTHER_WORD);
     }
 
     /// Keys come before times.

@@ -3,6 +3,9 @@
 use super::kinds::*;
 use super::map::{merged, others, own_words, passes_end, NEVER_STORED};
 use super::steps::Board;
+use crate::common::numbers::{
+    FRAMEBUFFER_BYTES, INTC_PENDING, LCD_CONTROL, LCD_PICTURE, START_DMA,
+};
 use crate::common::step::{Answer, DONE};
 use crate::common::step_list::StepList;
 use crate::sys::System;
@@ -42,9 +45,9 @@ impl List {
     /// Whether the write starts a DMA that would pass the end of a memory.
     fn starts_long_dma(&self, size: u64, address: u32, value: u32) -> bool {
         let control = merged(self.system(), address, size, value);
-        address & !3 == 0xD050_0140
-            && control & 0xF1 == 0xD1
-            && passes_end(self.system().reg(0xD050_033C), 32_768)
+        address & !3 == LCD_CONTROL
+            && control & 0xF1 == START_DMA
+            && passes_end(self.system().reg(LCD_PICTURE), FRAMEBUFFER_BYTES as u32)
     }
 
     pub fn read(&mut self, address: u32) -> Answer {
@@ -144,7 +147,7 @@ impl List {
     /// Interrupts, each way to ask for them.
     pub fn lines(&mut self) {
         self.pending();
-        self.read(0xD010_0028);
+        self.read(INTC_PENDING);
         self.wanted();
     }
 

@@ -1,7 +1,8 @@
 //! Where an address lies, and which register words have storage of their own:
 //! the paper's map.
 
-use crate::sys::{System, TIMER_BASE};
+use crate::common::numbers::*;
+use crate::sys::System;
 use crate::{RAM_SIZE, SRAM_LENGTH};
 
 #[derive(Clone, Copy, PartialEq, Eq, Debug)]
@@ -15,36 +16,37 @@ pub enum Place {
 
 pub fn place(address: u32) -> Place {
     match address {
-        0x2000_0000..=0x20FF_FFFF => Place::Ram,
-        0xF800_0000..=0xF80F_FFFF => Place::Sram,
-        0xC000_0000..=0xC000_0FFF => Place::Gpio,
-        0xC000_1000..=0xC0FF_FFFF | 0xD000_0000..=0xD0FF_FFFF | 0xFF00_0000..=0xFFFF_EFFF => {
-            Place::Register
-        }
+        FLASH_BASE..RAM_END => Place::Ram,
+        SRAM_BASE..SRAM_END => Place::Sram,
+        GPIO_BASE..REGISTERS_C => Place::Gpio,
+        REGISTERS_C..REGISTERS_C_END => Place::Register,
+        REGISTERS_D..REGISTERS_D_END => Place::Register,
+        REGISTERS_F..REGISTERS_F_END => Place::Register,
         _ => Place::Stray,
     }
 }
 
-pub const TIMER_WORDS: u32 = 48;
-
 /// The words with storage of their own, but for the timers'.
 #[rustfmt::skip]
 pub const OWN: [u32; 28] = [
-    0xC004_0054, 0xC004_0058,
-    0xC008_0008, 0xC008_000C, 0xC008_0010,
-    0xC009_0004, 0xC009_0008, 0xC009_000C, 0xC009_0010, 0xC009_0014,
-    0xC00C_0004, 0xC00C_0008,
-    0xC015_0000, 0xC015_0004, 0xC015_0008, 0xC015_000C,
-    0xD000_001C, 0xD000_003C, 0xD000_0078,
-    0xD010_0028, 0xD010_002C, 0xD010_0030, 0xD010_0038,
-    0xD050_0140, 0xD050_016C, 0xD050_0188, 0xD050_018C, 0xD050_033C,
+    RTC_STATUS, RTC_ENABLE,
+    SPI2_START, SPI2_STATE, SPI2_VALUE,
+    RTC_ADDRESS, RTC_DATA, RTC_COMMAND, RTC_READY, RTC_OUT,
+    ADC_CONTROL, ADC_VALUE,
+    FLASH_SELECT, FLASH_STATE, FLASH_TRANSFER, FLASH_ANSWER,
+    CLOCK_SWITCH, CLOCK_STATUS, POWER_REG,
+    INTC_PENDING, INTC_PENDING_FIQ, INTC_MASK, INTC_DISABLE,
+    LCD_CONTROL, LCD_DATA, LCD_ENABLE, LCD_STATUS, LCD_PICTURE,
 ];
 
 /// The words that are never stored: seconds, minutes, hours.
-pub const NEVER_STORED: [u32; 3] = [0xC004_0000, 0xC004_0004, 0xC004_0008];
+pub const NEVER_STORED: [u32; 3] = [DAY_SECONDS, DAY_MINUTES, DAY_HOURS];
+
+/// A word without storage of its own, such as lists write.
+pub const OTHER_WORD: u32 = 0xC010_0000;
 
 /// The words that a tone follows.
-pub const TONE_WORDS: [u32; 3] = [0xC002_0080, 0xC002_0088, 0xC002_008C];
+pub const TONE_WORDS: [u32; 3] = [TIMER_BASE + 0x80, TIMER_BASE + 0x88, TIMER_BASE + 0x8C];
 
 pub fn own_words() -> impl Iterator<Item = u32> {
     (0..TIMER_WORDS).map(|at| TIMER_BASE + 4 * at).chain(OWN)
@@ -77,8 +79,8 @@ pub fn merged(system: &System, address: u32, size: u64, value: u32) -> u32 {
 
 fn past_end(address: u32) -> bool {
     match place(address) {
-        Place::Ram => (address & 0x00FF_FFFF) as usize >= RAM_SIZE,
-        Place::Sram => (address & 0x000F_FFFF) as usize >= SRAM_LENGTH,
+        Place::Ram => (address - FLASH_BASE) as usize >= RAM_SIZE,
+        Place::Sram => (address - SRAM_BASE) as usize >= SRAM_LENGTH,
         _ => false,
     }
 }

@@ -2,30 +2,32 @@
 
 use super::families::Author;
 use super::map::passes_end;
-use crate::sys::{GPIO_BASE, GPIO_SIZE};
-use crate::{FLASH_BASE, RAM_SIZE, SRAM_BASE, SRAM_LENGTH};
+use crate::common::numbers::*;
+use crate::{RAM_SIZE, SRAM_LENGTH};
 
 /// Addresses about the edges of what is stray, and amid it.
 #[rustfmt::skip]
 pub const STRAY: [u32; 27] = [
-    0x0000_0000, 0x0000_0001, 0x1234_5678, 0x1FFF_FFFC, 0x1FFF_FFFE, 0x1FFF_FFFF, 0x2100_0000,
-    0x2100_0003, 0x8000_0000, 0xBFFF_FFFE, 0xBFFF_FFFF, 0xC100_0000, 0xC100_0001, 0xCFFF_FFFD,
-    0xCFFF_FFFF, 0xD100_0000, 0xD100_0002, 0xF7FF_FFFF, 0xF810_0000, 0xF810_0001, 0xF8FF_FFFF,
-    0xFEFF_FFFD, 0xFEFF_FFFF, 0xFFFF_F000, 0xFFFF_F001, 0xFFFF_FFFD, 0xFFFF_FFFF,
+    0x0000_0000, 0x0000_0001, 0x1234_5678, FLASH_BASE - 4, FLASH_BASE - 2, FLASH_BASE - 1, RAM_END,
+    RAM_END + 3, 0x8000_0000, GPIO_BASE - 2, GPIO_BASE - 1, REGISTERS_C_END, REGISTERS_C_END + 1,
+    REGISTERS_D - 3, REGISTERS_D - 1, REGISTERS_D_END, REGISTERS_D_END + 2, SRAM_BASE - 1, SRAM_END,
+    SRAM_END + 1, 0xF8FF_FFFF, REGISTERS_F - 3, REGISTERS_F - 1, REGISTERS_F_END,
+    REGISTERS_F_END + 1, 0xFFFF_FFFD, 0xFFFF_FFFF,
 ];
 
 /// Past the end of the memories where they are short, within the paper's.
 #[rustfmt::skip]
 const PAST: [u32; 10] = [
-    0x2001_0000, 0x2001_0003, 0x2080_0000, 0x20FF_FFFC, 0x20FF_FFFF, 0xF801_0000, 0xF801_0001,
-    0xF808_0000, 0xF80F_FFFC, 0xF80F_FFFF,
+    FLASH_BASE + 0x1_0000, FLASH_BASE + 0x1_0003, FLASH_BASE + 0x80_0000, RAM_END - 4, RAM_END - 1,
+    SRAM_BASE + 0x1_0000, SRAM_BASE + 0x1_0001, SRAM_BASE + 0x8_0000, SRAM_END - 4, SRAM_END - 1,
 ];
 
 /// Where blocks begin that leave one place for another.
 #[rustfmt::skip]
 const SEAMS: [u32; 11] = [
-    0x1FFF_FFF0, 0x2100_0000, 0xBFFF_FFF0, 0xC000_0FF0, 0xC0FF_FFF0, 0xCFFF_FFF0, 0xD0FF_FFF0,
-    0xF7FF_FFF0, 0xFEFF_FFF0, 0xFFFF_EFF0, 0xFFFF_FFF0,
+    FLASH_BASE - 0x10, RAM_END, GPIO_BASE - 0x10, REGISTERS_C - 0x10, REGISTERS_C_END - 0x10,
+    REGISTERS_D - 0x10, REGISTERS_D_END - 0x10, SRAM_BASE - 0x10, REGISTERS_F - 0x10,
+    REGISTERS_F_END - 0x10, 0xFFFF_FFF0,
 ];
 
 pub fn memory(author: &mut Author) {
@@ -49,7 +51,7 @@ impl Author {
         let (base, length) = self.random.pick(&[
             (FLASH_BASE, RAM_SIZE),
             (SRAM_BASE, SRAM_LENGTH),
-            (GPIO_BASE, GPIO_SIZE),
+            (GPIO_BASE, GPIO_BYTES),
         ]);
         let any = self.bits();
         let near = any % 8;

@@ -3,22 +3,15 @@
 use super::families::Author;
 use super::list::List;
 use super::memory::STRAY;
-
-pub const CONTROL: u32 = 0xD050_0140;
-pub const DATA: u32 = 0xD050_016C;
-pub const PICTURE: u32 = 0xD050_033C;
-
-pub const SEND_COMMAND: u32 = 0x81;
-pub const SEND_BYTE: u32 = 0x20A1;
-pub const SEND_TWO: u32 = 0x00A1;
-pub const START_DMA: u32 = 0xD1;
+use crate::common::numbers::*;
 
 /// Where pictures lie: in each memory, over its end, in registers, astray.
 #[rustfmt::skip]
 pub const PICTURES: [u32; 19] = [
-    0x2000_0000, 0x2000_0001, 0x2000_8000, 0xF800_0000, 0xF800_7FFD, 0xF800_8000, 0xC000_0000,
-    0xC000_0FF1, 0xC000_1000, 0xC001_FFE0, 0xC003_F800, 0xC0FF_FF00, 0xD04F_FFF0, 0xFFFF_EF02,
-    0xFFFF_FFFE, 0x1FFF_FFF3, 0xBFFF_F000, 0xF7FF_8001, 0xFEFF_FFFC,
+    FLASH_BASE, FLASH_BASE + 1, FLASH_BASE + 0x8000, SRAM_BASE, SRAM_BASE + 0x7FFD,
+    SRAM_BASE + 0x8000, GPIO_BASE, REGISTERS_C - 0xF, REGISTERS_C, TIMER_BASE - 0x20,
+    RTC_IRQ_BASE - 0x800, REGISTERS_C_END - 0x100, LCD_BASE - 0x10, REGISTERS_F_END - 0xFE,
+    0xFFFF_FFFE, FLASH_BASE - 0xD, GPIO_BASE - 0x1000, SRAM_BASE - 0x7FFF, REGISTERS_F - 4,
 ];
 
 pub fn panel(author: &mut Author) {
@@ -39,18 +32,18 @@ pub fn panel(author: &mut Author) {
 
 /// A command and its data, two bytes at a time.
 pub fn command(list: &mut List, command: u8, data: &[u8]) {
-    list.write(DATA, command.into());
-    list.write(CONTROL, SEND_COMMAND);
+    list.write(LCD_DATA, command.into());
+    list.write(LCD_CONTROL, SEND_COMMAND);
     for bytes in data.chunks(2) {
         let word = bytes.iter().fold(0, |word, &byte| word << 8 | u32::from(byte));
-        list.write(DATA, word);
-        list.write(CONTROL, if bytes.len() == 2 { SEND_TWO } else { SEND_BYTE });
+        list.write(LCD_DATA, word);
+        list.write(LCD_CONTROL, if bytes.len() == 2 { SEND_TWO } else { SEND_BYTE });
     }
 }
 
 pub fn dma(list: &mut List, picture: u32) {
-    list.write(PICTURE, picture);
-    list.write(CONTROL, START_DMA);
+    list.write(LCD_PICTURE, picture);
+    list.write(LCD_CONTROL, START_DMA);
 }
 
 impl Author {
@@ -68,15 +61,15 @@ impl Author {
     fn control(&mut self, how: u32) {
         let others = if self.random.one_in(3) { self.bits() & !0x20F1 } else { 0 };
         let size = self.random.pick(&[4, 4, 2]);
-        self.list.write_sized(size, CONTROL, how | others);
+        self.list.write_sized(size, LCD_CONTROL, how | others);
         if self.random.one_in(6) {
-            self.get(CONTROL);
+            self.get(LCD_CONTROL);
         }
     }
 
     pub fn send_command(&mut self, command: u8) {
         let above = if self.random.one_in(3) { self.bits() << 8 } else { 0 };
-        self.put_once(DATA, above | u32::from(command));
+        self.put_once(LCD_DATA, above | u32::from(command));
         self.control(SEND_COMMAND);
     }
 
@@ -88,12 +81,12 @@ impl Author {
                 [second, after @ ..] if !self.random.one_in(3) => {
                     let two = u32::from(*first) << 8 | u32::from(*second);
                     let above = self.bits() << 16;
-                    self.list.write(DATA, above | two);
+                    self.list.write(LCD_DATA, above | two);
                     self.control(SEND_TWO);
                     rest = after;
                 }
                 _ => {
-                    self.put_once(DATA, u32::from(*first));
+                    self.put_once(LCD_DATA, u32::from(*first));
                     self.control(SEND_BYTE);
                     rest = others;
                 }
@@ -112,7 +105,7 @@ impl Author {
     }
 
     pub fn window(&mut self) {
-        for command in [0x2A, 0x2B] {
+        for command in [COLUMNS, ROWS] {
             if !self.random.one_in(4) {
                 self.send_command(command);
                 let ends = self.ends();
@@ -125,7 +118,7 @@ impl Author {
         if self.random.one_in(3) {
             self.window();
         }
-        self.send_command(0x2C);
+        self.send_command(PAINT);
         let count = self.random.between(1, 12);
         let bytes = self.data(count);
         self.send(&bytes);
@@ -134,7 +127,7 @@ impl Author {
 
     /// Fewer arguments than four, or more.
     fn arguments(&mut self) {
-        let command = self.random.pick(&[0x2A, 0x2B]);
+        let command = self.random.pick(&[COLUMNS, ROWS]);
         self.send_command(command);
         let mut bytes = self.ends().to_vec();
         bytes.extend(self.ends());
@@ -155,21 +148,21 @@ impl Author {
         let picture = match self.random.below(4) {
             0 if self.random.one_in(2) => 0,
             0 => self.random.pick(&STRAY),
-            1 => 0x2000_0000 + self.bits() % 0x8001,
+            1 => FLASH_BASE + self.bits() % 0x8001,
             _ => self.random.pick(&PICTURES),
         };
-        self.put(PICTURE, picture);
+        self.put(LCD_PICTURE, picture);
         self.control(START_DMA);
         self.list.digest(3);
-        self.get(0xD050_018C);
+        self.get(LCD_STATUS);
     }
 
     /// A DMA between the bytes of a command leaves them as they are, and so
     /// does a control that does nothing.
     fn something_between(&mut self) {
-        let command = self.random.pick(&[0x2A, 0x2B, 0x2C, 0x2C]);
+        let command = self.random.pick(&[COLUMNS, ROWS, PAINT, PAINT]);
         self.send_command(command);
-        let bytes = if command == 0x2C { self.data(5) } else { self.ends().to_vec() };
+        let bytes = if command == PAINT { self.data(5) } else { self.ends().to_vec() };
         let (before, after) = bytes.split_at(self.random.between(1, 3));
         self.send(before);
         let nothing = self.random.pick(&[0x91, 0xB1, 0xC1, 0xE1, 0x01, 0x80, 0xA0]);
@@ -201,19 +194,19 @@ impl Author {
         let known = self.random.pick(&[0x80, 0xA0, 0x20A0, 0xD0]);
         let beside = self.random.pick(&[0x90, 0xB0, 0xC0, 0xE0]);
         let code = self.random.pick(&[code, known, beside]);
-        self.put_once(CONTROL, code | run);
-        self.get(CONTROL);
+        self.put_once(LCD_CONTROL, code | run);
+        self.get(LCD_CONTROL);
         let (at, value) = (self.random.between(1, 3) as u32, self.bits());
-        self.list.write_sized(1, CONTROL + at, value);
-        self.get(CONTROL);
+        self.list.write_sized(1, LCD_CONTROL + at, value);
+        self.get(LCD_CONTROL);
         self.list.digest(3);
     }
 
     fn panel_words(&mut self) {
-        let word = self.random.pick(&[DATA, PICTURE, 0xD050_0188, 0xD050_018C]);
+        let word = self.random.pick(&[LCD_DATA, LCD_PICTURE, LCD_ENABLE, LCD_STATUS]);
         let value = self.bits();
         self.put_part(word, value);
         self.get(word);
-        self.list.peek32(CONTROL);
+        self.list.peek32(LCD_CONTROL);
     }
 }

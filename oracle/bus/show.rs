@@ -4,6 +4,7 @@ use std::mem;
 
 use super::kinds::*;
 use super::steps::{digest, one, Board};
+use crate::common::numbers::PIXELS;
 use crate::common::step::{words, Answer, DONE};
 
 impl Board {

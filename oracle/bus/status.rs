@@ -1,14 +1,8 @@
 //! The families for interrupts, and for the next event.
 
 use super::families::Author;
-use super::timers::{timer_word, CONTROL, RELOAD};
-use crate::sys::{ADC_BASE, INTC_DISABLE, INTC_MASK, INTC_PENDING, INTC_PENDING_FIQ, TIMER_COUNT};
-
-pub const RTC_STATUS: u32 = 0xC004_0054;
-pub const RTC_ENABLE: u32 = 0xC004_0058;
-pub const LCD_ENABLE: u32 = 0xD050_0188;
-pub const LCD_STATUS: u32 = 0xD050_018C;
-pub const ADC_CONTROL: u32 = ADC_BASE + 4;
+use super::timers::timer_word;
+use crate::common::numbers::*;
 
 /// The bits that mask interrupts 1, 8, 27 and 29, those beside them, and some
 /// that would mask them if counted otherwise.
@@ -82,9 +76,9 @@ impl Author {
             }
             1 => {
                 let n = self.random.below(TIMER_COUNT);
-                self.list.write(timer_word(n, RELOAD), 0xFF00);
-                self.list.write(timer_word(n, CONTROL), 0);
-                self.list.write(timer_word(n, CONTROL), 0x6000);
+                self.list.write(timer_word(n, TIMER_RELOAD), 0xFF00);
+                self.list.write(timer_word(n, TIMER_CONTROL), 0);
+                self.list.write(timer_word(n, TIMER_CONTROL), 0x6000);
                 self.list.pass(0.001);
             }
             2 => {
@@ -135,8 +129,8 @@ impl Author {
         let pending: Vec<usize> =
             (0..TIMER_COUNT).filter(|&n| self.list.system().timers[n].pending).collect();
         for n in pending {
-            let control = self.list.system().reg(timer_word(n, CONTROL));
-            self.list.write(timer_word(n, CONTROL), control | 0x8000);
+            let control = self.list.system().reg(timer_word(n, TIMER_CONTROL));
+            self.list.write(timer_word(n, TIMER_CONTROL), control | 0x8000);
         }
         self.list.write(RTC_STATUS, u32::MAX);
         self.list.write(LCD_STATUS, u32::MAX);

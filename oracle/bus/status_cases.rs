@@ -1,24 +1,23 @@
 //! Cases of the fixed list about room for other words, and about interrupts.
 
-use super::kinds::*;
 use super::list::List;
-use super::map::{NEVER_STORED, OWN};
+use super::map::{NEVER_STORED, OTHER_WORD, OWN};
 use super::panel::dma;
 use super::status::*;
-use super::timers::{timer_word, CONTROL, RELOAD};
+use super::timers::timer_word;
 use crate::common::generator::expect;
-use crate::sys::{INTC_DISABLE, INTC_MASK, INTC_PENDING, INTC_PENDING_FIQ};
+use crate::common::numbers::*;
 
 /// Addresses of other words in all three ranges.
 fn place_of(at: u32) -> u32 {
-    [0xC010_0000, 0xD020_0000, 0xFF00_0000][at as usize % 3] + 4 * at
+    [OTHER_WORD, 0xD020_0000, REGISTERS_F][at as usize % 3] + 4 * at
 }
 
 pub fn room(list: &mut List) {
-    for at in 0..OTHERS as u32 {
+    for at in 0..REGISTER_PLACES as u32 {
         expect(list.write(place_of(at), 1 + at), 0, [0, 0, 0]);
     }
-    for word in [place_of(256), 0xD000_0000, 0xFFFF_EFFC] {
+    for word in [place_of(REGISTER_PLACES as u32), REGISTERS_D, REGISTERS_F_END - 4] {
         for (size, address, value) in [(4, word, 7), (2, word + 3, 1), (1, word + 1, 0xFF)] {
             expect(list.write_sized(size, address, value), REGISTERS_FULL, [0, 0, 0]);
         }
@@ -45,7 +44,7 @@ fn needs_no_room(list: &mut List) {
     }
     expect(list.write_sized(1, place_of(5) + 3, 0xFE), 0, [0, 0, 0]);
     expect(list.read(place_of(5)), 0, [0xFE00_0006, 0, 0]);
-    expect(list.write(place_of(256), 7), REGISTERS_FULL, [0, 0, 0]);
+    expect(list.write(place_of(REGISTER_PLACES as u32), 7), REGISTERS_FULL, [0, 0, 0]);
 }
 
 fn gives_room_back(list: &mut List) {
@@ -59,7 +58,7 @@ fn gives_room_back(list: &mut List) {
         list.read(new);
         list.read(place_of(at));
     }
-    for word in [0xC010_0000, 0xD020_0000, 0xFF00_0000] {
+    for word in [OTHER_WORD, 0xD020_0000, REGISTERS_F] {
         list.block(word, 8192);
     }
     list.wipe();
@@ -71,8 +70,8 @@ fn gives_room_back(list: &mut List) {
 fn raise_all(list: &mut List) {
     list.write(RTC_ENABLE, 2);
     list.write(LCD_ENABLE, 0x2000);
-    list.write(timer_word(3, RELOAD), 0xFF00);
-    list.write(timer_word(3, CONTROL), 0x6000);
+    list.write(timer_word(3, TIMER_RELOAD), 0xFF00);
+    list.write(timer_word(3, TIMER_CONTROL), 0x6000);
     list.write(ADC_CONTROL, 0x4040);
     list.pass(1.0);
 }
@@ -123,10 +122,10 @@ pub fn acknowledging(list: &mut List) {
         list.pending();
     }
     for control in [0x6000, 0xE000] {
-        list.write(timer_word(3, CONTROL), control);
+        list.write(timer_word(3, TIMER_CONTROL), control);
         list.pending();
     }
-    list.peek32(timer_word(3, CONTROL));
+    list.peek32(timer_word(3, TIMER_CONTROL));
     list.write(LCD_STATUS, 0x40);
     list.pending();
     list.write_sized(1, LCD_STATUS + 1, 0x20);
@@ -143,7 +142,7 @@ pub fn acknowledging(list: &mut List) {
 /// Ones clear; a short write to the panel's status clears more.
 fn status_words(list: &mut List) {
     for (size, at, ones) in [(1, 0, 0x40), (1, 3, 0), (2, 0, 0x2000)] {
-        dma(list, 0x2000_0000);
+        dma(list, FLASH_BASE);
         list.write(LCD_ENABLE, 0x40);
         list.pending();
         list.pass(1.0);
@@ -168,12 +167,12 @@ fn status_words(list: &mut List) {
 /// Any of the six raises the line, enabled or not by then.
 fn any_timer(list: &mut List) {
     for timer in 0..6 {
-        list.write(timer_word(timer, RELOAD), 0xF000);
-        list.write(timer_word(timer, CONTROL), 0x6000);
+        list.write(timer_word(timer, TIMER_RELOAD), 0xF000);
+        list.write(timer_word(timer, TIMER_CONTROL), 0x6000);
         list.pass(0.001);
-        list.write(timer_word(timer, CONTROL), 0);
+        list.write(timer_word(timer, TIMER_CONTROL), 0);
         list.pending();
-        list.write_sized(1, timer_word(timer, CONTROL) + 1, 0x80);
+        list.write_sized(1, timer_word(timer, TIMER_CONTROL) + 1, 0x80);
         list.pending();
     }
 }

@@ -4,11 +4,15 @@
 
 use super::kinds::*;
 use super::map::*;
-use crate::cpu::Bus;
 use crate::common::device::fresh;
 use crate::common::limits::*;
+use crate::common::numbers::{
+    BAD_KEY, BAD_SIZE, BAD_TIME, BAD_TURBO, KEYS_FULL, KEY_HOLD, KEY_PLACES, NO_EVENT,
+    NO_NEXT_TIME, REGISTERS_FULL, REGISTER_PLACES, SOUND_FULL, SOUND_PLACES, STRAY_WRITE,
+};
 use crate::common::step::*;
-use crate::sys::{Key, System, KEY_HOLD};
+use crate::cpu::Bus;
+use crate::sys::{Key, System};
 use crate::{LAST_KIND, SRAM_LENGTH};
 
 pub struct Board {
@@ -132,11 +136,11 @@ impl Board {
         takes_room(word)
             && self.system.reg(word) == 0
             && merged(&self.system, address, size, value) != 0
-            && others(&self.system).len() >= OTHERS
+            && others(&self.system).len() >= REGISTER_PLACES
     }
 
     fn no_event_fits(&self, address: u32) -> bool {
-        TONE_WORDS.contains(&(address & !3)) && self.system.sound.events.len() >= EVENTS
+        TONE_WORDS.contains(&(address & !3)) && self.system.sound.events.len() >= SOUND_PLACES
     }
 
     /// The device itself has no limit of events. So the write is tried, and
@@ -201,7 +205,7 @@ impl Board {
         let now = self.system.now;
         let presses = &mut self.system.key_script;
         presses.retain(|&(time, _)| time + KEY_HOLD > now);
-        if presses.len() >= PRESSES {
+        if presses.len() >= KEY_PLACES {
             return refused(KEYS_FULL);
         }
         presses.push((time, key));

@@ -1,71 +1,69 @@
 //! Cases of the fixed list about timers, sound and keys.
 
-use super::keys::{fill_presses, LINES};
-use super::kinds::*;
+use super::keys::fill_presses;
 use super::list::List;
 use super::map::TONE_WORDS;
 use super::timers::*;
-use crate::common::generator::expect;
-use crate::common::limits::*;
-use crate::sys::{KEY_HOLD, SYSCLK_VAR};
 use crate::common::edges::off;
+use crate::common::generator::expect;
+use crate::common::numbers::*;
 
 /// Each with its own reload and rate, about the end of a period, and then
 /// with another clock.
 pub fn six_timers(list: &mut List) {
     let reloads = [0x0000, 0xFFFF, 0xFC18, 0xABCD_8000, 0x0001, 0xFFFE];
     for (timer, reload) in reloads.into_iter().enumerate() {
-        list.write(timer_word(timer, RELOAD), reload);
-        list.write(timer_word(timer, CONTROL), 0x6000 + timer as u32 % 2);
+        list.write(timer_word(timer, TIMER_RELOAD), reload);
+        list.write(timer_word(timer, TIMER_CONTROL), 0x6000 + timer as u32 % 2);
     }
     for time in [1000.0 / 12e6, 65_536.0 / 12e6, 0.699_05, 2.0] {
         list.advance(off(time, -1));
         for timer in [0, 2, 4] {
-            list.read(timer_word(timer, COUNTER));
+            list.read(timer_word(timer, TIMER_COUNTER));
         }
         list.advance(time);
         for timer in 0..6 {
-            list.read(timer_word(timer, COUNTER));
+            list.read(timer_word(timer, TIMER_COUNTER));
         }
     }
     for timer in 0..6 {
-        list.read(timer_word(timer, CONTROL));
+        list.read(timer_word(timer, TIMER_CONTROL));
     }
     for clock in [1, 24_000_001, u32::MAX] {
         list.write(SYSCLK_VAR, clock);
         list.pass(0.01);
         for timer in 0..6 {
-            list.read(timer_word(timer, COUNTER));
+            list.read(timer_word(timer, TIMER_COUNTER));
         }
         list.next();
     }
     for (size, at) in [(1, 0), (1, 1), (1, 2), (2, 0), (2, 1), (4, 1), (4, 3)] {
-        list.read_sized(size, timer_word(2, COUNTER) + at);
-        list.read_sized(size, timer_word(2, CONTROL) + at);
+        list.read_sized(size, timer_word(2, TIMER_COUNTER) + at);
+        list.read_sized(size, timer_word(2, TIMER_CONTROL) + at);
     }
 }
 
 /// Starting, starting again, standing, and what pending takes.
 pub fn timer_controls(list: &mut List) {
-    list.write(timer_word(1, COUNTER), 0x1234_5678);
-    list.write(timer_word(1, RELOAD), 0xFFF0);
+    list.write(timer_word(1, TIMER_COUNTER), 0x1234_5678);
+    list.write(timer_word(1, TIMER_RELOAD), 0xFFF0);
     for control in [0x2000, 0x6000, 0x4000, 0x6000, 0xE001, 0xA000, 0x8000, 0x6000] {
-        list.write(timer_word(1, CONTROL), control);
-        list.read(timer_word(1, COUNTER));
+        list.write(timer_word(1, TIMER_CONTROL), control);
+        list.read(timer_word(1, TIMER_COUNTER));
         list.pass(0.0007);
-        list.read(timer_word(1, CONTROL));
-        list.read(timer_word(1, COUNTER));
+        list.read(timer_word(1, TIMER_CONTROL));
+        list.read(timer_word(1, TIMER_COUNTER));
         list.pending();
     }
     // Byte for byte: the run bit goes up by the second write.
-    list.write(timer_word(1, CONTROL), 0x8000);
-    list.write_sized(1, timer_word(1, CONTROL), 0x01);
-    list.write_sized(1, timer_word(1, CONTROL) + 1, 0x60);
+    list.write(timer_word(1, TIMER_CONTROL), 0x8000);
+    list.write_sized(1, timer_word(1, TIMER_CONTROL), 0x01);
+    list.write_sized(1, timer_word(1, TIMER_CONTROL) + 1, 0x60);
     list.pass(0.01);
-    list.read(timer_word(1, CONTROL));
-    list.read(timer_word(1, COUNTER));
-    list.write_sized(1, timer_word(1, CONTROL), 0x00);
-    list.read(timer_word(1, CONTROL));
+    list.read(timer_word(1, TIMER_CONTROL));
+    list.read(timer_word(1, TIMER_COUNTER));
+    list.write_sized(1, timer_word(1, TIMER_CONTROL), 0x00);
+    list.read(timer_word(1, TIMER_CONTROL));
 }
 
 /// The three words by each size, duties at their ends, other clocks.
@@ -94,7 +92,7 @@ pub fn tones(list: &mut List) {
     // No other timer is a reason to look at the tone again.
     list.write(SYSCLK_VAR, 12_345);
     for timer in [0, 3, 5] {
-        list.write(timer_word(timer, CONTROL), 0x2000);
+        list.write(timer_word(timer, TIMER_CONTROL), 0x2000);
     }
     list.write(compare, 0xFFF6);
     list.write(control, 0xA001);
@@ -133,32 +131,32 @@ pub fn full_store(list: &mut List) {
 
 /// Presses, holds and live keys, and the lines that follow at an advance.
 pub fn keys_and_lines(list: &mut List) {
-    list.write(LINES, 0x5A5A_5A1B);
+    list.write(KEY_LINES, 0x5A5A_5A1B);
     for (key, bit) in [(0, 0x20), (1, 0x40), (2, 0x80)] {
         list.live(key, 1 << 32);
         expect(list.keys(), 0, [1 << key, 0, 0]);
-        list.read(LINES);
+        list.read(KEY_LINES);
         list.pass(0.0);
-        expect(list.read(LINES), 0, [0x5A5A_5A1B | bit, 0, 0]);
+        expect(list.read(KEY_LINES), 0, [0x5A5A_5A1B | bit, 0, 0]);
         list.live(key, 0);
     }
     list.pass(0.0);
-    list.read(LINES);
+    list.read(KEY_LINES);
     // Bits that are written stay until the keys change.
     for bits in [0xE0, 0x00, 0xFF] {
         list.live(1, bits & 0x20);
-        list.write(LINES, bits as u32);
+        list.write(KEY_LINES, bits as u32);
         list.pass(0.01);
-        list.read(LINES);
+        list.read(KEY_LINES);
         list.pass(0.01);
-        list.read(LINES);
+        list.read(KEY_LINES);
     }
     // Not even the line of a key that stays down comes back.
     list.live(1, 1);
     list.pass(0.01);
-    list.write_sized(1, LINES, 0x11);
+    list.write_sized(1, KEY_LINES, 0x11);
     list.pass(0.01);
-    list.read(LINES);
+    list.read(KEY_LINES);
     list.live(1, 0);
     list.digest(2);
     press_and_hold(list);
@@ -177,14 +175,14 @@ fn press_and_hold(list: &mut List) {
             list.keys();
             list.next();
         }
-        list.read(LINES);
+        list.read(KEY_LINES);
     }
     let (before, time) = (list.now(), list.now() + 0.02);
     list.press(1, before - 0.1);
     list.hold(2, before - 1.0);
     list.keys();
     list.advance(time);
-    list.read(LINES);
+    list.read(KEY_LINES);
 }
 
 fn no_more_presses(list: &mut List) {

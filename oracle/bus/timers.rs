@@ -3,17 +3,11 @@
 use super::families::Author;
 use super::list::List;
 use super::map::TONE_WORDS;
-use crate::common::limits::{EVENTS, LAST_TIME};
-use crate::sys::{SOUND_TIMER, SYSCLK_VAR, TIMER_BASE, TIMER_COUNT};
 use crate::common::edges::{fraction, CLOCKS, RELOADS, SOUND_RELOADS};
-
-pub const CONTROL: u32 = 0x00;
-pub const RELOAD: u32 = 0x08;
-pub const COMPARE: u32 = 0x0C;
-pub const COUNTER: u32 = 0x10;
+use crate::common::numbers::*;
 
 pub fn timer_word(timer: usize, word: u32) -> u32 {
-    TIMER_BASE + 0x20 * timer as u32 + word
+    TIMER_BASE + TIMER_STRIDE * timer as u32 + word
 }
 
 /// Rate, run, interrupt, pending: the control bits that do something.
@@ -26,19 +20,19 @@ pub fn timers(author: &mut Author) {
         0..=2 => author.set_up(n),
         3 => {
             let control = author.value(&CONTROLS);
-            author.put_part(timer_word(n, CONTROL), control);
+            author.put_part(timer_word(n, TIMER_CONTROL), control);
         }
         4 => {
             let reload = author.value(&RELOADS);
-            author.put_part(timer_word(n, RELOAD), reload);
+            author.put_part(timer_word(n, TIMER_RELOAD), reload);
         }
         5 => author.change_clock(),
         6 => author.other_timer_word(n),
         7 => author.acknowledge(n),
         _ => author.timer_passes(n),
     }
-    author.get(timer_word(n, CONTROL));
-    author.get(timer_word(n, COUNTER));
+    author.get(timer_word(n, TIMER_CONTROL));
+    author.get(timer_word(n, TIMER_COUNTER));
 }
 
 pub fn sound(author: &mut Author) {
@@ -47,13 +41,13 @@ pub fn sound(author: &mut Author) {
         3..=6 => author.compare(),
         7..=9 => {
             let control = author.value(&CONTROLS);
-            author.put_part(timer_word(SOUND_TIMER, CONTROL), control);
+            author.put_part(timer_word(SOUND_TIMER, TIMER_CONTROL), control);
         }
         10 => {
             author.change_clock();
             // Another timer is no reason to look at the tone again.
             let n = author.random.pick(&[0, 3, 5]);
-            author.put_once(timer_word(n, CONTROL), 0x2000);
+            author.put_once(timer_word(n, TIMER_CONTROL), 0x2000);
             author.same_again();
         }
         11 => author.same_again(),
@@ -69,10 +63,10 @@ pub fn sound(author: &mut Author) {
 impl Author {
     pub fn set_up(&mut self, n: usize) {
         let reload = self.value(&RELOADS);
-        self.put(timer_word(n, RELOAD), reload);
-        self.put(timer_word(n, CONTROL), 0);
+        self.put(timer_word(n, TIMER_RELOAD), reload);
+        self.put(timer_word(n, TIMER_CONTROL), 0);
         let control = self.value(&CONTROLS) | 0x2000;
-        self.put_once(timer_word(n, CONTROL), control);
+        self.put_once(timer_word(n, TIMER_CONTROL), control);
     }
 
     /// The clock is a word of SRAM as any other.
@@ -89,16 +83,16 @@ impl Author {
 
     /// A word that is only stored; the counter's shows while the timer stands.
     fn other_timer_word(&mut self, n: usize) {
-        let word = self.random.pick(&[0x04, COMPARE, COUNTER, 0x14, 0x18, 0x1C]);
+        let word = self.random.pick(&[0x04, TIMER_COMPARE, TIMER_COUNTER, 0x14, 0x18, 0x1C]);
         let value = self.bits();
         self.put_part(timer_word(n, word), value);
         self.get(timer_word(n, word));
     }
 
     fn acknowledge(&mut self, n: usize) {
-        let control = self.list.system().reg(timer_word(n, CONTROL));
+        let control = self.list.system().reg(timer_word(n, TIMER_CONTROL));
         self.list.lines();
-        self.put_once(timer_word(n, CONTROL), control | 0x8000);
+        self.put_once(timer_word(n, TIMER_CONTROL), control | 0x8000);
         self.list.lines();
     }
 
@@ -120,7 +114,7 @@ impl Author {
         let counts = self.random.one_in(4);
         let more = self.random.pick(&[0.0, 1.0, 1.0, 2.0, 777.0]);
         let system = self.list.system();
-        let slow = system.reg(timer_word(n, CONTROL)) & 1 != 0;
+        let slow = system.reg(timer_word(n, TIMER_CONTROL)) & 1 != 0;
         let rate = system.sysclk() / if slow { 256.0 } else { 2.0 };
         let length = if counts { 1.0 } else { system.timer_period(n) as f64 };
         let start = system.timers[n].start;
@@ -131,7 +125,7 @@ impl Author {
     fn reload(&mut self) {
         let high = if self.random.one_in(3) { self.bits() << 16 } else { 0 };
         let reload = self.value(&SOUND_RELOADS) & 0xFFFF | high;
-        self.put_part(timer_word(SOUND_TIMER, RELOAD), reload);
+        self.put_part(timer_word(SOUND_TIMER, TIMER_RELOAD), reload);
     }
 
     /// Compares whose duty is about one of its ends, or plain ones.
@@ -141,7 +135,7 @@ impl Author {
         let high = (period * part) as u32 + self.random.below(4) as u32;
         let compare = 0x1_0001u32.wrapping_sub(high);
         let compare = self.value(&[compare, compare & 0xFFFF, 0, 0xFFFF]);
-        self.put_once(timer_word(SOUND_TIMER, COMPARE), compare);
+        self.put_once(timer_word(SOUND_TIMER, TIMER_COMPARE), compare);
     }
 
     /// The same tone, unless the clock has changed meanwhile.
@@ -187,10 +181,10 @@ impl Author {
 
 /// Writes tones until all places are taken.
 pub fn fill_events(list: &mut List, first: u32) {
-    list.write(timer_word(SOUND_TIMER, CONTROL), 0x6000);
+    list.write(timer_word(SOUND_TIMER, TIMER_CONTROL), 0x6000);
     let mut reload = first;
-    while list.waiting() < EVENTS {
-        list.write_sized(2, timer_word(SOUND_TIMER, RELOAD), reload);
+    while list.waiting() < SOUND_PLACES {
+        list.write_sized(2, timer_word(SOUND_TIMER, TIMER_RELOAD), reload);
         reload += 1;
     }
 }

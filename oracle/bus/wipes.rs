@@ -1,16 +1,14 @@
 //! The family for wipes: whatever came before, nothing is left of it.
 
 use super::cases::look_stored;
-use super::clocks::{rtc_read, RTC_OUT};
+use super::clocks::rtc_read;
 use super::families::{Author, FAMILIES};
-use super::flash::{frame, ANSWER, SELECT, TRANSFER};
-use super::keys::LINES;
+use super::flash::frame;
 use super::limits::TAME;
 use super::list::List;
-use super::panel::{command, CONTROL, DATA, SEND_TWO};
-use super::status::ADC_CONTROL;
+use super::panel::command;
 use super::timers::timer_word;
-use crate::sys::SOUND_TIMER;
+use crate::common::numbers::*;
 
 pub fn wipes(author: &mut Author) {
     for _ in 0..author.random.between(1, 4) {
@@ -29,16 +27,16 @@ impl Author {
         match self.random.below(8) {
             0 => self.list.write(ADC_CONTROL, 0x4000),
             1 => {
-                command(&mut self.list, 0x2A, &[0, bytes[0] % 128, 0, 127]);
+                command(&mut self.list, COLUMNS, &[0, bytes[0] % 128, 0, 127]);
                 self.list.counters()
             }
             2 => {
-                command(&mut self.list, 0x2C, &bytes);
+                command(&mut self.list, PAINT, &bytes);
                 self.list.counters()
             }
             3 => {
                 frame(&mut self.list, &[0x06]);
-                self.list.write(SELECT, 0x40)
+                self.list.write(FLASH_SELECT, FLASH_SELECTED)
             }
             4 => {
                 self.list.press(2, 0.3);
@@ -47,9 +45,9 @@ impl Author {
             }
             5 => self.list.write(timer_word(SOUND_TIMER, 0), 0x2000),
             6 => {
-                self.list.write(0xC009_0004, 0x15);
-                self.list.write(0xC009_0008, bytes[0].into());
-                self.list.write(0xC009_000C, 1);
+                self.list.write(RTC_ADDRESS, 0x15);
+                self.list.write(RTC_DATA, bytes[0].into());
+                self.list.write(RTC_COMMAND, 1);
                 rtc_read(&mut self.list, 0x15)
             }
             _ => self.list.pass(0.1),
@@ -62,7 +60,7 @@ pub fn probe(list: &mut List) {
     list.look_state();
     look_stored(list);
     list.take();
-    for word in [ANSWER, RTC_OUT, 0xC004_0000] {
+    for word in [FLASH_ANSWER, RTC_OUT, DAY_SECONDS] {
         list.read(word);
     }
     for register in [0x15, 0x30, 0x35, 0x40] {
@@ -70,24 +68,24 @@ pub fn probe(list: &mut List) {
     }
     // Data without a command, and then the whole window's first pixel.
     for two in [0x1234, 0x5678] {
-        list.write(DATA, two);
-        list.write(CONTROL, SEND_TWO);
+        list.write(LCD_DATA, two);
+        list.write(LCD_CONTROL, SEND_TWO);
     }
-    command(list, 0x2C, &[0xF8, 0x01]);
+    command(list, PAINT, &[0xF8, 0x01]);
     list.digest(3);
     list.pixel(0);
     // Nothing is selected, so this ends nothing.
-    list.write(TRANSFER, 0x06);
-    list.write(SELECT, 0);
+    list.write(FLASH_TRANSFER, 0x06);
+    list.write(FLASH_SELECT, 0);
     frame(list, &[0x05, 0]);
     // No tone was there, and no line was driven.
     list.write(timer_word(SOUND_TIMER, 0), 0);
     list.take();
-    list.write(LINES, 0xE0);
+    list.write(KEY_LINES, 0xE0);
     list.advance(0.35);
     list.keys();
-    list.read(LINES);
-    list.read(0xC004_0000);
+    list.read(KEY_LINES);
+    list.read(DAY_SECONDS);
     list.lines();
     list.next();
 }

@@ -1,16 +1,17 @@
 //! The families for register words: merged words, and room for 256 others.
 
 use super::families::Author;
-use super::kinds::OTHERS;
 use super::map::*;
+use crate::common::numbers::*;
 
 /// The edges of the three ranges, and neighbours of own words.
 #[rustfmt::skip]
 const OTHER_WORDS: [u32; 25] = [
-    0xC000_1000, 0xC000_1004, 0xC001_FFFC, 0xC002_00C0, 0xC003_FFFC, 0xC004_000C, 0xC004_0050,
-    0xC004_005C, 0xC006_0000, 0xC006_0010, 0xC008_0004, 0xC009_0018, 0xC00C_000C, 0xC010_0000,
-    0xC015_0010, 0xC0FF_FFFC, 0xD000_0000, 0xD000_0018, 0xD010_0034, 0xD050_0144, 0xD0FF_FFFC,
-    0xFF00_0000, 0xFF12_3454, 0xFFFF_EFF8, 0xFFFF_EFFC,
+    REGISTERS_C, REGISTERS_C + 4, TIMER_BASE - 4, TIMER_BASE + 0xC0, RTC_IRQ_BASE - 4,
+    RTC_IRQ_BASE + 0xC, RTC_IRQ_BASE + 0x50, RTC_IRQ_BASE + 0x5C, 0xC006_0000, 0xC006_0010,
+    SPI2_BASE + 4, RTC_BUS + 0x18, ADC_BASE + 0xC, OTHER_WORD, SPIFC_BASE + 0x10,
+    REGISTERS_C_END - 4, REGISTERS_D, REGISTERS_D + 0x18, INTC_MASK + 4, LCD_BASE + 0x144,
+    REGISTERS_D_END - 4, REGISTERS_F, 0xFF12_3454, REGISTERS_F_END - 8, REGISTERS_F_END - 4,
 ];
 
 pub fn words(author: &mut Author) {
@@ -41,7 +42,7 @@ pub fn words(author: &mut Author) {
 }
 
 pub fn others(author: &mut Author) {
-    if author.list.taken() < OTHERS && author.random.one_in(12) {
+    if author.list.taken() < REGISTER_PLACES && author.random.one_in(12) {
         author.fill_others();
     }
     match author.random.below(10) {
@@ -74,14 +75,14 @@ impl Author {
         let at = self.bits();
         let word = match self.random.below(4) {
             0 => self.random.pick(&OTHER_WORDS),
-            1 => 0xC000_1000 + at % 0x00FF_F000,
-            2 => 0xD000_0000 + at % 0x0100_0000,
-            _ => 0xFF00_0000 + at % 0x00FF_F000,
+            1 => REGISTERS_C + at % 0x00FF_F000,
+            2 => REGISTERS_D + at % 0x0100_0000,
+            _ => REGISTERS_F + at % 0x00FF_F000,
         };
         if takes_room(word & !3) {
             word & !3
         } else {
-            0xC010_0000
+            OTHER_WORD
         }
     }
 
@@ -91,7 +92,7 @@ impl Author {
     }
 
     pub fn fill_others(&mut self) {
-        while self.list.taken() < OTHERS {
+        while self.list.taken() < REGISTER_PLACES {
             let (word, value) = (self.other_word(), self.bits());
             self.list.write(word, value | 1);
         }

@@ -1,6 +1,6 @@
 //! Numbers at the edges of what the time devices do.
 
-use super::limits::{FASTEST, LAST_GAME_TIME, LAST_TIME, SLOWEST};
+use super::numbers::{FASTEST, LAST_GAME_TIME, LAST_TIME, SLOWEST};
 use super::random::Random;
 
 pub const RELOADS: [u32; 8] = [0, 1, 2, 0x7FFF, 0x8000, 0xFC18, 0xFFFE, 0xFFFF];

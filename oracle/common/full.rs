@@ -1,8 +1,10 @@
 //! The Rust's own sizes, at which scripts are compared.
 
-pub const FLASH_SIZE: usize = 0x80_0000;
-pub const RAM_SIZE: usize = 0x100_0000;
-pub const SRAM_LENGTH: usize = crate::SRAM_SIZE;
+use super::numbers::{FLASH_BYTES, RAM_BYTES, SRAM_BYTES};
+
+pub const FLASH_SIZE: usize = FLASH_BYTES;
+pub const RAM_SIZE: usize = RAM_BYTES;
+pub const SRAM_LENGTH: usize = SRAM_BYTES;
 
 /// The last kind of step that a list may hold: what follows a press, no script
 /// has.

@@ -1,20 +1,8 @@
 //! What the paper adds to document 000 and more than one harness needs: the
-//! numbers of refusals, and the limits of time and turbo.
+//! limits of time and turbo.
 
+use super::numbers::{FASTEST, LAST_GAME_TIME, LAST_TIME, SLOWEST};
 use crate::sys::System;
-
-pub const BAD_TIME: u8 = 1;
-pub const BAD_TURBO: u8 = 2;
-pub const SOUND_FULL: u8 = 5;
-pub const NO_EVENT: u8 = 12;
-
-pub const LAST_TIME: f64 = 2_097_152.0;
-pub const LAST_GAME_TIME: f64 = 2_147_483_648.0;
-pub const SLOWEST: f64 = 1.0 / 1024.0;
-pub const FASTEST: f64 = 1024.0;
-
-/// The sound events that wait at most.
-pub const EVENTS: usize = 256;
 
 /// No step may name such a time.
 pub fn bad_time(time: f64) -> bool {

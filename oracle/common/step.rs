@@ -40,14 +40,12 @@ pub trait Device {
 
     /// A step that ends the list, and is not answered. A program that writes
     /// lists does not ask.
-    #[allow(dead_code)]
     fn ends(_step: Step) -> bool {
         false
     }
 
     /// A step that a list may hold. One that it may not is neither written nor
     /// worked. A program that answers lists does not ask.
-    #[allow(dead_code)]
     fn has(_step: Step) -> bool {
         true
     }

@@ -2,6 +2,7 @@
 //! included unchanged. Standard input holds one step a line: `+` selects, `-`
 //! deselects, two lowercase hex digits transfer a byte.
 
+use crate::common::numbers::{FLASH_ANSWER, FLASH_SELECT, FLASH_SELECTED, FLASH_TRANSFER};
 #[path = "../common/mod.rs"]
 mod common;
 
@@ -11,11 +12,6 @@ use common::device::*;
 use common::small::*;
 use cpu::Bus;
 use sys::System;
-
-const SELECT: u32 = 0xC015_0000;
-const SELECTED: u32 = 0x40;
-const SEND: u32 = 0xC015_0008;
-const ANSWER: u32 = 0xC015_000C;
 
 enum Step {
     Select,
@@ -42,11 +38,11 @@ fn parse(line: &[u8]) -> Option<Step> {
 
 fn step(system: &mut System, step: Step, out: &mut impl Write) -> io::Result<()> {
     match step {
-        Step::Select => system.write32(SELECT, SELECTED),
-        Step::Deselect => system.write32(SELECT, 0),
+        Step::Select => system.write32(FLASH_SELECT, FLASH_SELECTED),
+        Step::Deselect => system.write32(FLASH_SELECT, 0),
         Step::Transfer(byte) => {
-            system.write32(SEND, byte.into());
-            writeln!(out, "{:02x}", system.read32(ANSWER))?;
+            system.write32(FLASH_TRANSFER, byte.into());
+            writeln!(out, "{:02x}", system.read32(FLASH_ANSWER))?;
         }
     }
     Ok(())

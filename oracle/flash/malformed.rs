@@ -1,5 +1,6 @@
 //! Lists with one line that is no step.
 
+use crate::common::numbers::SMALL_BYTES;
 use crate::transactions::Author;
 
 const MILLION: usize = 1_000_000;
@@ -20,7 +21,7 @@ pub fn malformed(seed: u64) -> (Vec<u8>, usize) {
         author.transaction();
     }
     if author.random.one_in(16) {
-        author.list.read_back(0, 65_536);
+        author.list.read_back(0, SMALL_BYTES);
     }
     let number = author.list.lines() + 1;
     let mut text = author.list.into_text();

@@ -1,9 +1,8 @@
 //! Random transactions and the lists made of them.
 
-use crate::list::{with_address, List, COMMANDS};
+use crate::common::numbers::SMALL_BYTES;
 use crate::common::random::Random;
-
-const ARRAY: usize = 65_536;
+use crate::list::{with_address, List, COMMANDS};
 
 /// The commands that erase all of so small an array.
 const ERASES_ALL: [u8; 3] = [0xD8, 0xC7, 0x60];
@@ -60,7 +59,7 @@ pub fn random_list(seed: u64, transactions: usize) -> List {
         }
         author.transaction();
     }
-    author.list.read_back(0, ARRAY);
+    author.list.read_back(0, SMALL_BYTES);
     author.loose_end();
     author.list
 }
@@ -89,10 +88,10 @@ impl Author {
         };
         let number = number / kinds;
         let rounds = 1 + number / LONG_LENGTHS % 2;
-        let length = rounds * ARRAY - 6 + number % LONG_LENGTHS;
+        let length = rounds * SMALL_BYTES - 6 + number % LONG_LENGTHS;
         let address = self.address();
         if ERASES_ALL.contains(&command) {
-            self.list.read_back(0, ARRAY);
+            self.list.read_back(0, SMALL_BYTES);
         }
         if !self.random.one_in(4) {
             self.frame(&[0x06]);
@@ -150,14 +149,14 @@ impl Author {
 
     fn address(&mut self) -> usize {
         let any = self.random.below(1 << 24);
-        let size = self.random.pick(&[0x100, 0x1000, 0x8000, ARRAY]);
+        let size = self.random.pick(&[0x100, 0x1000, 0x8000, SMALL_BYTES]);
         let edge = any - any % size + size;
         let address = match self.random.below(8) {
             0..=2 => any,
             3 | 4 => edge - 4 + self.random.below(8),
-            5 => any - any % ARRAY + ARRAY - self.random.between(1, 300),
+            5 => any - any % SMALL_BYTES + SMALL_BYTES - self.random.between(1, 300),
             // Four pages only, so that programs meet programs.
-            _ => any - any % ARRAY + any % 0x400,
+            _ => any - any % SMALL_BYTES + any % 0x400,
         };
         address % (1 << 24)
     }

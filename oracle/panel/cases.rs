@@ -1,6 +1,7 @@
 //! The cases of the fixed list about commands, windows and frames.
 
 use crate::common::generator::expect;
+use crate::common::numbers::{COLUMNS, PAINT, ROWS};
 use crate::list::*;
 use crate::steps::NONE;
 
@@ -39,7 +40,7 @@ pub fn argument_counts(list: &mut List) {
     expect_window(list, 0x0000_007F_0000_007F, (0, 0), 0);
     list.data(&[0x24]);
     expect_window(list, 0x0102_1324_0000_007F, (0, 0), 0);
-    expect(list.look_command(), 0, [0x2A, NONE, 0x4_0102_1324]);
+    expect(list.look_command(), 0, [COLUMNS.into(), NONE, 0x4_0102_1324]);
     list.command(ROWS);
     list.data(&[0xFF, 0xFE, 0x00, 0x03]);
     expect_window(list, 0x0102_1324_FFFE_0003, (0, 0), 0);
@@ -122,7 +123,7 @@ pub fn other_commands(list: &mut List) {
 pub fn half_bytes(list: &mut List) {
     restart(list);
     list.data(&[0xA1]);
-    expect(list.look_command(), 0, [0x2C, 0xA1, 0]);
+    expect(list.look_command(), 0, [PAINT.into(), 0xA1, 0]);
     for command in [PAINT, COLUMNS, ROWS, 0x00, 0x2D] {
         list.command(PAINT);
         list.data(&[0xA1, 0xB2, 0xC3]);
@@ -136,7 +137,7 @@ pub fn half_bytes(list: &mut List) {
     list.data(&[0x55]);
     list.dma(0x1234);
     list.rgb();
-    expect(list.look_command(), 0, [0x2C, 0x55, 0]);
+    expect(list.look_command(), 0, [PAINT.into(), 0x55, 0]);
     list.data(&[0xAA, 0x01]);
     list.look_command();
     list.look_checksums();

@@ -1,7 +1,7 @@
 //! The families for the panel's colours and for the lengths of its memories.
 
+use crate::common::numbers::{FRAMEBUFFER_BYTES, PAINT, PIXELS, SCREEN_BYTES};
 use crate::families::Author;
-use crate::list::*;
 use crate::steps::*;
 
 /// The first colours of the four DMAs that bring all 65,536 colours.
@@ -34,15 +34,17 @@ pub fn some_colours(author: &mut Author) {
         // A pixel beyond the last counts from the first again.
         let pixel = author.random.next() as u32 as usize;
         author.list.pixel_rgb(pixel);
-        let at = author.random.below(SCREEN / LOOK_BYTES) as u64;
+        let at = author.random.below(SCREEN_BYTES / LOOK_BYTES) as u64;
         author.list.look(LOOK_SCREEN + at);
         author.list.look(LOOK_FRAMEBUFFER + at);
     }
     author.look();
 }
 
-const FRAMEBUFFER_LENGTHS: [usize; 6] = [0, 1, 32_767, 32_768, 32_769, 0xFFFF_FFFF];
-const SCREEN_LENGTHS: [usize; 7] = [0, 1, 32_768, 49_151, 49_152, 49_153, usize::MAX];
+const FRAMEBUFFER_LENGTHS: [usize; 6] =
+    [0, 1, FRAMEBUFFER_BYTES - 1, FRAMEBUFFER_BYTES, FRAMEBUFFER_BYTES + 1, 0xFFFF_FFFF];
+const SCREEN_LENGTHS: [usize; 7] =
+    [0, 1, FRAMEBUFFER_BYTES, SCREEN_BYTES - 1, SCREEN_BYTES, SCREEN_BYTES + 1, usize::MAX];
 
 /// Memories that are too short, or just long enough, between good steps.
 pub fn lengths(author: &mut Author) {
@@ -50,9 +52,9 @@ pub fn lengths(author: &mut Author) {
     author.list.window(columns, rows);
     author.command(PAINT);
     for _ in 0..author.random.between(1, 6) {
-        let framebuffer = length(author, &FRAMEBUFFER_LENGTHS, FRAMEBUFFER);
+        let framebuffer = length(author, &FRAMEBUFFER_LENGTHS, FRAMEBUFFER_BYTES);
         if author.random.one_in(4) {
-            let screen = length(author, &SCREEN_LENGTHS, SCREEN);
+            let screen = length(author, &SCREEN_LENGTHS, SCREEN_BYTES);
             author.list.lent_rgb(framebuffer, screen);
             author.list.look_checksums();
         } else {
@@ -83,7 +85,7 @@ fn lent_argument(author: &mut Author) {
     let command = author.any_command();
     author.command(command);
     author.any_data(3);
-    for length in [FRAMEBUFFER - 1, FRAMEBUFFER] {
+    for length in [FRAMEBUFFER_BYTES - 1, FRAMEBUFFER_BYTES] {
         let byte = author.random.byte();
         author.list.lent_data(length, byte);
         author.list.look_command();

@@ -1,6 +1,7 @@
 //! Counts of what a list brings to the panel.
 
-use crate::sys::{Lcd, LCD_H, LCD_W};
+use crate::common::numbers::{COLUMNS, LCD_H, LCD_W, PAINT, ROWS};
+use crate::sys::Lcd;
 
 #[derive(Default)]
 pub struct Counts {
@@ -28,8 +29,8 @@ impl Counts {
         let on_glass = (lcd.x as usize) < LCD_W && (lcd.y as usize) < LCD_H;
         let sets_ends = lcd.args.len() < 4 && lcd.args.len() + bytes >= 4;
         match lcd.cmd {
-            Some(0x2C) => self.pixels += u64::from(ends_pixel && on_glass),
-            Some(0x2A | 0x2B) => self.windows += u64::from(sets_ends),
+            Some(PAINT) => self.pixels += u64::from(ends_pixel && on_glass),
+            Some(COLUMNS | ROWS) => self.windows += u64::from(sets_ends),
             _ => {}
         }
     }

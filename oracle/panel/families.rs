@@ -1,13 +1,14 @@
 //! The families of lists for the panel, and what their authors share.
 
-use crate::common::generator::{family, whole_family, Authorship, Family};
 use crate::colours::{all_colours, lengths, some_colours};
+use crate::common::generator::{family, whole_family, Authorship, Family};
+use crate::common::numbers::{COLUMNS, PAINT, ROWS};
+use crate::common::random::Random;
 use crate::fixed::fixed_list;
 use crate::frames::{damage, frames, wild};
 use crate::list::*;
 use crate::steps::{Panel, COMMAND, DATA, MOST};
 use crate::windows::{arguments, halves, windows};
-use crate::common::random::Random;
 
 const FAMILIES: [Family<Author>; 9] = [
     family("windows", windows),

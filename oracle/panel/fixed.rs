@@ -1,13 +1,14 @@
 //! The fixed list for the panel: the paper's example, then each rule and each
 //! edge at least once, in little text, then random steps.
 
-use crate::common::generator::{expect, take_turns, Authorship};
 use crate::cases::*;
 use crate::colours::QUARTERS;
+use crate::common::generator::{expect, take_turns, Authorship};
+use crate::common::numbers::*;
+use crate::common::step::{LOOK, PUT};
 use crate::families::Author;
 use crate::list::*;
 use crate::steps::*;
-use crate::common::step::{LOOK, PUT};
 
 /// With the last turn and the ending there are at most 2,950.
 const STEPS: usize = 2_850;
@@ -125,35 +126,35 @@ fn damage_heals(list: &mut List) {
 fn lengths(list: &mut List) {
     list.rgb();
     restart(list);
-    for length in [0, 1, FRAMEBUFFER - 1] {
-        expect(list.lent_data(length, 0x77), BAD_LENGTH, [0, 0, 0]);
-        expect(list.look_command(), 0, [0x2C, NONE, 0]);
+    for length in [0, 1, FRAMEBUFFER_BYTES - 1] {
+        expect(list.lent_data(length, 0x77), BAD_MEMORY, [0, 0, 0]);
+        expect(list.look_command(), 0, [PAINT.into(), NONE, 0]);
     }
-    list.lent_data(FRAMEBUFFER, 0x66);
+    list.lent_data(FRAMEBUFFER_BYTES, 0x66);
     list.look_command();
-    expect(list.lent_data(FRAMEBUFFER - 1, 0x77), BAD_LENGTH, [0, 0, 0]);
+    expect(list.lent_data(FRAMEBUFFER_BYTES - 1, 0x77), BAD_MEMORY, [0, 0, 0]);
     list.lent_data(0xFFFF_FFFF, 0x55);
     let before = list.look_checksums();
     for (framebuffer, screen) in [
         (0, 0),
-        (0, SCREEN),
-        (FRAMEBUFFER - 1, SCREEN),
-        (FRAMEBUFFER, 0),
-        (FRAMEBUFFER, FRAMEBUFFER),
-        (FRAMEBUFFER, SCREEN - 1),
+        (0, SCREEN_BYTES),
+        (FRAMEBUFFER_BYTES - 1, SCREEN_BYTES),
+        (FRAMEBUFFER_BYTES, 0),
+        (FRAMEBUFFER_BYTES, FRAMEBUFFER_BYTES),
+        (FRAMEBUFFER_BYTES, SCREEN_BYTES - 1),
     ] {
-        expect(list.lent_rgb(framebuffer, screen), BAD_LENGTH, [0, 0, 0]);
+        expect(list.lent_rgb(framebuffer, screen), BAD_MEMORY, [0, 0, 0]);
         expect(list.look_checksums(), 0, before.words);
     }
-    list.lent_rgb(FRAMEBUFFER, SCREEN);
+    list.lent_rgb(FRAMEBUFFER_BYTES, SCREEN_BYTES);
     list.look_checksums();
     list.lent_rgb(0xFFFF_FFFF, usize::MAX);
     // An argument is refused as well, and does not count.
     list.command(ROWS);
     list.data(&[0x00, 0x01, 0x00]);
-    list.lent_data(FRAMEBUFFER - 1, 0x02);
+    list.lent_data(FRAMEBUFFER_BYTES - 1, 0x02);
     list.look_command();
-    list.lent_data(FRAMEBUFFER, 0x03);
+    list.lent_data(FRAMEBUFFER_BYTES, 0x03);
     list.look_window();
 }
 
@@ -209,7 +210,7 @@ fn counts_and_cuts(list: &mut List) {
         list.look_window();
         list.look_command();
     }
-    list.step(LENT_DATA, FRAMEBUFFER as u64, 0xFFFF_FFFF_FFFF_FF99);
+    list.step(LENT_DATA, FRAMEBUFFER_BYTES as u64, 0xFFFF_FFFF_FFFF_FF99);
     list.look_command();
     for kind in [DMA, RGB, PIXEL_RGB] {
         list.step(kind, 0xFFFF_0123, 0xFFFF_FFFF_FFFF_4567);

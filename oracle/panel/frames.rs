@@ -1,9 +1,10 @@
 //! The families for the panel's frames, for damaged data that later data
 //! heals, and for wild state.
 
+use crate::common::numbers::{COLUMNS, PAINT, ROWS};
+use crate::common::step::{LOOK, PUT};
 use crate::families::Author;
 use crate::list::*;
-use crate::common::step::{LOOK, PUT};
 
 /// Counts of frames that go round soon, or at which some narrower count would.
 const FRAME_COUNTS: [u64; 8] =

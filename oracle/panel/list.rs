@@ -1,12 +1,9 @@
 //! A list for the panel being written.
 
-use crate::steps::*;
+use crate::common::numbers::{COLUMNS, FRAMEBUFFER_BYTES, ROWS, SCREEN_BYTES};
 use crate::common::step::Answer;
 use crate::common::step_list::StepList;
-
-pub const COLUMNS: u8 = 0x2A;
-pub const ROWS: u8 = 0x2B;
-pub const PAINT: u8 = 0x2C;
+use crate::steps::*;
 
 /// The places of puts.
 pub const X0: u64 = 0;
@@ -102,13 +99,13 @@ impl List {
     /// The same, and the whole framebuffer.
     pub fn look_all(&mut self) {
         self.look_short();
-        for at in 0..FRAMEBUFFER.div_ceil(LOOK_BYTES) {
+        for at in 0..FRAMEBUFFER_BYTES.div_ceil(LOOK_BYTES) {
             self.look(LOOK_FRAMEBUFFER + at as u64);
         }
     }
 
     pub fn look_screen(&mut self) {
-        for at in 0..SCREEN / LOOK_BYTES {
+        for at in 0..SCREEN_BYTES / LOOK_BYTES {
             self.look(LOOK_SCREEN + at as u64);
         }
     }

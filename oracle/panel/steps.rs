@@ -4,12 +4,12 @@
 
 use std::mem;
 
-use crate::cpu::Bus;
 use crate::common::device::fresh;
-use crate::counts::Counts;
+use crate::common::numbers::*;
 use crate::common::step::*;
-use crate::sys::{Lcd, System, LCD_BASE};
-use crate::FLASH_BASE;
+use crate::counts::Counts;
+use crate::cpu::Bus;
+use crate::sys::{Lcd, System};
 
 pub const COMMAND: u64 = 0x1;
 pub const DATA: u64 = 0x2;
@@ -18,12 +18,6 @@ pub const PIXEL_RGB: u64 = 0x4;
 pub const RGB: u64 = 0x5;
 pub const LENT_DATA: u64 = 0x6;
 pub const LENT_RGB: u64 = 0x7;
-
-pub const BAD_LENGTH: u8 = 7;
-
-pub const PIXELS: usize = 16_384;
-pub const FRAMEBUFFER: usize = 2 * PIXELS;
-pub const SCREEN: usize = 3 * PIXELS;
 
 /// The most data bytes of one step.
 pub const MOST: usize = 8;
@@ -38,15 +32,6 @@ pub const LOOK_SCREEN: u64 = 0x20000;
 /// How many bytes such a look shows.
 pub const LOOK_BYTES: usize = 24;
 
-const CONTROL: u32 = LCD_BASE + 0x140;
-const DATA_WORD: u32 = LCD_BASE + 0x16C;
-const PICTURE: u32 = LCD_BASE + 0x33C;
-
-const SEND_COMMAND: u32 = 0x81;
-const SEND_BYTE: u32 = 0x20A1;
-const SEND_TWO_BYTES: u32 = 0x00A1;
-const START_DMA: u32 = 0xD1;
-
 /// The device, and the screen that its colours are written to.
 pub struct Panel {
     system: System,
@@ -59,21 +44,23 @@ impl Device for Panel {
         &[COMMAND, DATA, DMA, PIXEL_RGB, RGB, LENT_DATA, LENT_RGB, LOOK, PUT];
 
     fn start() -> Panel {
-        Panel { system: fresh(&[]), screen: vec![0; SCREEN], counts: Counts::default() }
+        Panel { system: fresh(&[]), screen: vec![0; SCREEN_BYTES], counts: Counts::default() }
     }
 
     fn answer(&mut self, step: Step) -> Answer {
         let Step { kind, address, value } = step;
-        let short_framebuffer = address < FRAMEBUFFER as u64;
+        let short_framebuffer = address < FRAMEBUFFER_BYTES as u64;
         match kind {
             COMMAND => self.command(value as u32),
             DATA => self.data(last_bytes(&value.to_be_bytes(), address)),
             DMA => self.dma(value as u16),
             PIXEL_RGB => return self.pixel_rgb(address as usize % PIXELS),
             RGB => return self.rgb(),
-            LENT_DATA if short_framebuffer => return refused(BAD_LENGTH),
+            LENT_DATA if short_framebuffer => return refused(BAD_MEMORY),
             LENT_DATA => self.data(&[value as u8]),
-            LENT_RGB if short_framebuffer || value < SCREEN as u64 => return refused(BAD_LENGTH),
+            LENT_RGB if short_framebuffer || value < SCREEN_BYTES as u64 => {
+                return refused(BAD_MEMORY)
+            }
             LENT_RGB => return self.rgb(),
             LOOK => return self.look(address),
             PUT => self.put(address, value),
@@ -97,8 +84,8 @@ impl Panel {
     }
 
     fn send(&mut self, how: u32, word: u32) {
-        self.system.write32(DATA_WORD, word);
-        self.system.write32(CONTROL, how);
+        self.system.write32(LCD_DATA, word);
+        self.system.write32(LCD_CONTROL, how);
     }
 
     /// The device itself takes the last byte.
@@ -113,7 +100,7 @@ impl Panel {
         for some in bytes.chunks(2) {
             self.counts.data(&self.system.lcd, some.len());
             match *some {
-                [high, low] => self.send(SEND_TWO_BYTES, u16::from_be_bytes([high, low]).into()),
+                [high, low] => self.send(SEND_TWO, u16::from_be_bytes([high, low]).into()),
                 _ => self.send(SEND_BYTE, some[0].into()),
             }
         }
@@ -121,11 +108,11 @@ impl Panel {
 
     fn dma(&mut self, first: u16) {
         self.counts.dma();
-        for (at, pixel) in self.system.ram[..FRAMEBUFFER].chunks_exact_mut(2).enumerate() {
+        for (at, pixel) in self.system.ram[..FRAMEBUFFER_BYTES].chunks_exact_mut(2).enumerate() {
             pixel.copy_from_slice(&first.wrapping_add(at as u16).to_le_bytes());
         }
-        self.system.write32(PICTURE, FLASH_BASE);
-        self.system.write32(CONTROL, START_DMA);
+        self.system.write32(LCD_PICTURE, FLASH_BASE);
+        self.system.write32(LCD_CONTROL, START_DMA);
     }
 
     /// The device knows only the whole framebuffer. For the time of the call

@@ -1,8 +1,8 @@
 //! The families for the panel's windows, for arguments and for half bytes.
 
+use crate::common::numbers::{FRAMEBUFFER_BYTES, PAINT};
 use crate::families::Author;
 use crate::list::*;
-use crate::steps::FRAMEBUFFER;
 
 /// Ends in order and out of order, on the glass, across its edge and far off,
 /// of any width.
@@ -50,7 +50,7 @@ pub fn windows(author: &mut Author) {
 /// A frame as programs bring it, and the next one's first pixel.
 fn whole_glass(author: &mut Author) {
     author.command(PAINT);
-    let bytes = author.bytes(FRAMEBUFFER + 2);
+    let bytes = author.bytes(FRAMEBUFFER_BYTES + 2);
     author.list.data(&bytes);
     author.look();
 }

@@ -1,19 +1,11 @@
 //! The paper's scripts: what stands in their bytes.
 
+use std::ops::RangeInclusive;
+
+use crate::common::numbers::*;
 use crate::common::step::{Answer, Step};
 
-pub const MOST: usize = 4096;
-pub const PRESS_BYTES: usize = 9;
-pub const STEP_BYTES: usize = 16;
-pub const ANSWER_BYTES: usize = 25;
-pub const KINDS: std::ops::RangeInclusive<u8> = 1..=12;
-
-pub const BAD_MEMORY: u32 = 7;
-pub const BAD_SCRIPT: u32 = 10;
-pub const OUT_TOO_SHORT: u32 = 11;
-
-const READ: u8 = 1;
-const WRITE: u8 = 2;
+pub const KINDS: RangeInclusive<u8> = READ..=WIPE;
 
 /// A key, and the bits of a time.
 pub type Press = (u8, u64);
@@ -47,9 +39,9 @@ fn number<const N: usize>(bytes: &[u8], at: usize) -> Option<[u8; N]> {
 }
 
 /// A count, unless it is above what is allowed.
-fn count(bytes: &[u8], at: usize) -> Option<usize> {
+fn count(bytes: &[u8], at: usize, most: usize) -> Option<usize> {
     let count = u32::from_le_bytes(number(bytes, at)?) as usize;
-    (count <= MOST).then_some(count)
+    (count <= most).then_some(count)
 }
 
 fn press(bytes: &[u8]) -> Option<Press> {
@@ -69,8 +61,8 @@ fn step(bytes: &[u8]) -> Option<ScriptStep> {
 impl Script {
     /// None is what the paper calls a bad script.
     pub fn read(bytes: &[u8]) -> Option<Script> {
-        let first_step = 8 + PRESS_BYTES * count(bytes, 0)?;
-        let steps = count(bytes, first_step - 4)?;
+        let first_step = 8 + PRESS_BYTES * count(bytes, 0, MOST_PRESSES)?;
+        let steps = count(bytes, first_step - 4, MOST_STEPS)?;
         if bytes.len() != first_step + STEP_BYTES * steps {
             return None;
         }

@@ -3,11 +3,12 @@
 use crate::bus::families::{Author, FAMILIES};
 use crate::bus::limits::LARGE;
 use crate::bus::list::List;
+use crate::bytes::{out_length, Script};
 use crate::common::generator::{Authorship, Family};
-use crate::memories::LENGTHS;
+use crate::common::numbers::*;
 use crate::common::random::Random;
-use crate::bytes::{out_length, Script, MOST};
 use crate::faults::FAULTS;
+use crate::memories::LENGTHS;
 use crate::starts::{put_into, puts, Put, PICTURES};
 use crate::steps::OWN;
 
@@ -30,7 +31,7 @@ impl Case {
     pub fn of_script(script: Vec<u8>) -> Case {
         Case {
             family: "",
-            out: out_length(2 * MOST),
+            out: out_length(MOST_PRESSES + MOST_STEPS),
             script,
             lengths: LENGTHS,
             picture: 0,
@@ -80,7 +81,7 @@ fn more(random: &mut Random) -> usize {
 }
 
 fn many(random: &mut Random) -> usize {
-    random.pick(&[1000, 2000, 4096, 4096])
+    random.pick(&[1000, 2000, MOST_STEPS, MOST_STEPS])
 }
 
 impl Making {
@@ -126,7 +127,7 @@ fn end(author: &mut Author, random: &mut Random) {
 
 pub fn look_a_little(list: &mut List) {
     list.look_state();
-    for word in [0xC000_0020, 0xC002_0090, 0xC004_0000, 0xC015_000C, 0xD050_018C, 0xF800_90A4] {
+    for word in [KEY_LINES, TIMER_BASE + 0x90, DAY_SECONDS, FLASH_ANSWER, LCD_STATUS, SYSCLK_VAR] {
         list.read(word);
     }
     list.take();

@@ -2,11 +2,11 @@
 //! and shows what they leave.
 
 use crate::bus::steps::digest;
-use crate::memories::Memories;
 use crate::bytes::read_answer;
+use crate::common::step::*;
+use crate::memories::Memories;
 use crate::run::run_script;
 use crate::starts::fill;
-use crate::common::step::*;
 
 pub const LAY: u64 = 0xC0;
 pub const BYTES: u64 = 0xC1;

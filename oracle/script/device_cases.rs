@@ -5,8 +5,8 @@ use crate::bus::clocks::*;
 use crate::bus::flash::*;
 use crate::bus::list::List;
 use crate::bus::panel::{command, dma};
-use crate::bus::timers::{timer_word, CONTROL, COUNTER, RELOAD};
-use crate::FLASH_BASE;
+use crate::bus::timers::timer_word;
+use crate::common::numbers::*;
 
 pub fn devices(list: &mut List) {
     panel(list);
@@ -17,16 +17,16 @@ pub fn devices(list: &mut List) {
 
 /// A window of two by two pixels, painted more than once.
 fn panel(list: &mut List) {
-    command(list, 0x2A, &[0, 5, 0, 6]);
-    command(list, 0x2B, &[0, 126, 0, 127]);
-    command(list, 0x2C, &[0x11, 0x12, 0x13, 0x14, 0x15, 0x16, 0x17, 0x18, 0x19, 0x1A]);
+    command(list, COLUMNS, &[0, 5, 0, 6]);
+    command(list, ROWS, &[0, 126, 0, 127]);
+    command(list, PAINT, &[0x11, 0x12, 0x13, 0x14, 0x15, 0x16, 0x17, 0x18, 0x19, 0x1A]);
     for at in [126 * 128 + 5, 126 * 128 + 6, 127 * 128 + 5, 127 * 128 + 6, 5] {
         list.pixel(at);
     }
     list.counters();
     // From odd addresses over the end of GPIO into registers, and from none.
-    list.write(0xC000_1004, 0x8182_8384);
-    dma(list, 0xC000_0FFD);
+    list.write(REGISTERS_C + 4, 0x8182_8384);
+    dma(list, REGISTERS_C - 3);
     for at in [0, 1, 2, 3, 4] {
         list.pixel(at);
     }
@@ -45,21 +45,21 @@ fn clocks(list: &mut List) {
     for register in [0x30, 0x31, 0x32, 0x35] {
         rtc_read(list, register);
     }
-    list.write(SPI_VALUE, 0x77);
-    list.write(SPI_START, 0x88);
-    list.read(SPI_VALUE);
-    list.read(SPI_STATE);
+    list.write(SPI2_VALUE, 0x77);
+    list.write(SPI2_START, 0x88);
+    list.read(SPI2_VALUE);
+    list.read(SPI2_STATE);
 }
 
 /// Running again is no start, and the acknowledging bit is not kept.
 fn timers(list: &mut List) {
-    list.write(timer_word(3, RELOAD), 1);
-    list.write(timer_word(3, CONTROL), 0x6000);
+    list.write(timer_word(3, TIMER_RELOAD), 1);
+    list.write(timer_word(3, TIMER_CONTROL), 0x6000);
     list.pass(0.013);
-    list.write(timer_word(3, CONTROL), 0xE000);
+    list.write(timer_word(3, TIMER_CONTROL), 0xE000);
     list.pass(0.001);
-    list.read(timer_word(3, COUNTER));
-    list.read(timer_word(3, CONTROL));
+    list.read(timer_word(3, TIMER_COUNTER));
+    list.read(timer_word(3, TIMER_CONTROL));
     list.next();
 }
 
@@ -71,10 +71,10 @@ fn flash(list: &mut List) {
     }
     list.counters();
     // Nothing is selected when the bytes come, so they enable nothing.
-    list.write(SELECT, SELECTED);
-    list.write(SELECT, 0);
-    list.write(TRANSFER, 0x06);
-    list.write(SELECT, 0);
+    list.write(FLASH_SELECT, FLASH_SELECTED);
+    list.write(FLASH_SELECT, 0);
+    list.write(FLASH_TRANSFER, 0x06);
+    list.write(FLASH_SELECT, 0);
     frame(list, &[0x05, 0]);
     for bytes in [&[0x06][..], &[0xC7], &[0x05, 0]] {
         frame(list, bytes);

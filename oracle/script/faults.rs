@@ -1,10 +1,11 @@
 //! The families of scripts that are refused as a whole, and of those that are
 //! nearly so.
 
-use crate::memories::LENGTHS;
-use crate::common::random::Random;
 use crate::bytes::*;
 use crate::cases::Case;
+use crate::common::numbers::{PENDING, PRESS_BYTES, STEP_BYTES};
+use crate::common::random::Random;
+use crate::memories::LENGTHS;
 
 type Fault = fn(&mut Case, &mut Random);
 
@@ -36,13 +37,13 @@ fn steps_at(bytes: &[u8]) -> usize {
 }
 
 /// A script of these counts and of as many bytes as they say, going round in
-/// 32 bits, unless that is too many. All its steps are of kind 5.
+/// 32 bits, unless that is too many. All its steps ask what is pending.
 pub fn of_counts(presses: u32, steps: u32) -> Vec<u8> {
-    let length = 8u32.wrapping_add(presses.wrapping_mul(9)).wrapping_add(steps.wrapping_mul(16));
-    let mut bytes = vec![5; (length as usize).min(200_000)];
+    let at = presses.wrapping_mul(PRESS_BYTES as u32).wrapping_add(4);
+    let length = at.wrapping_add(4).wrapping_add(steps.wrapping_mul(STEP_BYTES as u32));
+    let mut bytes = vec![PENDING; (length as usize).min(200_000)];
     put(&mut bytes, 0, presses);
-    let at = presses.wrapping_mul(9).wrapping_add(4) as usize;
-    put(&mut bytes, at, steps);
+    put(&mut bytes, at as usize, steps);
     bytes
 }
 

@@ -10,17 +10,17 @@ use crate::bus::limit_cases::{next_events, wiping};
 use crate::bus::list::List;
 use crate::bus::status_cases::{masks, room};
 use crate::bus::time_cases::{full_store, timer_controls, tones};
-use crate::common::generator::{expect, Authorship};
-use crate::memories::Memories;
-use crate::common::random::Random;
 use crate::bytes::*;
 use crate::cases::look_a_little;
-use crate::desk::*;
-use crate::device_cases::devices;
-use crate::starts::fill;
-use crate::steps::OWN;
+use crate::common::generator::{expect, Authorship};
+use crate::common::random::Random;
 use crate::common::step::Answer;
 use crate::common::step_list::StepList;
+use crate::desk::*;
+use crate::device_cases::devices;
+use crate::memories::Memories;
+use crate::starts::fill;
+use crate::steps::OWN;
 
 /// Cases of the whole bus, and what fills the memories before them.
 const CASES: [(fn(&mut List), u64); 15] = [
@@ -122,7 +122,7 @@ impl Sheet {
     }
 
     /// A script that is refused as a whole, and its first answer's bytes.
-    pub fn bad(&mut self, script: &[u8], out: usize, refusal: u32) {
+    pub fn bad(&mut self, script: &[u8], out: usize, refusal: u8) {
         self.lay(script, 6);
         let ran = self.run(out, 1);
         assert_eq!(ran.words[..2], [refusal.into(), 0xA5A5_A5A5]);

@@ -1,8 +1,9 @@
 //! Scripts made of the whole bus's steps, and their bytes.
 
 use crate::bus::kinds::*;
-use crate::common::random::Random;
 use crate::bytes::*;
+use crate::common::numbers::{MOST_PRESSES, MOST_STEPS, PIXELS};
+use crate::common::random::Random;
 use crate::common::step::Step;
 
 /// The sizes that are not refused.
@@ -27,8 +28,8 @@ impl Script {
         let press = |step: Step| (step.address as u8, step.value);
         let steps = steps.into_iter().filter(|step| step.kind < PRESS).map(scripted);
         Script {
-            presses: presses.into_iter().map(press).take(MOST).collect(),
-            steps: steps.take(MOST).collect(),
+            presses: presses.into_iter().map(press).take(MOST_PRESSES).collect(),
+            steps: steps.take(MOST_STEPS).collect(),
         }
     }
 

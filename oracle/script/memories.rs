@@ -1,10 +1,11 @@
 //! The four memories that a script runs over.
 
-use crate::sys::{System, GPIO_SIZE, LCD_H, LCD_W};
+use crate::common::numbers::{FRAMEBUFFER_BYTES, GPIO_BYTES};
+use crate::sys::System;
 use crate::{RAM_SIZE, SRAM_LENGTH};
 
 pub const NAMES: [&str; 4] = ["RAM", "SRAM", "GPIO", "framebuffer"];
-pub const LENGTHS: [usize; 4] = [RAM_SIZE, SRAM_LENGTH, GPIO_SIZE, 2 * LCD_W * LCD_H];
+pub const LENGTHS: [usize; 4] = [RAM_SIZE, SRAM_LENGTH, GPIO_BYTES, FRAMEBUFFER_BYTES];
 
 /// RAM, SRAM, GPIO and framebuffer.
 #[derive(Clone)]

@@ -12,11 +12,12 @@ use crate::bus::list::List;
 use crate::bus::status_cases::{masks, room};
 use crate::bus::steps::digest;
 use crate::bus::time_cases::{full_store, timer_controls, tones};
-use crate::memories::{Memories, LENGTHS};
 use crate::bytes::*;
 use crate::cases::{makings, Case, Making};
+use crate::common::numbers::{ANSWER_BYTES, FLASH_BASE, MOST_STEPS, WIPE, WRITE};
 use crate::device_cases::devices;
 use crate::faults::of_counts;
+use crate::memories::{Memories, LENGTHS};
 use crate::run::run_script;
 use crate::stage::Outcome;
 
@@ -39,7 +40,7 @@ const WHOLE: [(&str, RangeInclusive<usize>); 6] = [
     ("flash", 100..=200),
     ("panel", 100..=200),
     ("ends", 100..=200),
-    ("long", MOST..=MOST),
+    ("long", MOST_STEPS..=MOST_STEPS),
 ];
 
 /// Cases of the whole bus and of scripts, for what chance rarely meets: stores
@@ -108,7 +109,7 @@ fn leaves_nothing(case: &Case) -> bool {
 fn faulty() -> Vec<Case> {
     let step =
         |kind, size, address, value| ScriptStep { kind, size, unused: [0; 2], address, value };
-    let steps = vec![step(2, 4, 0x2000_0010, 0x1234_5678), step(12, 0, 0, 0)];
+    let steps = vec![step(WRITE, 4, FLASH_BASE + 0x10, 0x1234_5678), step(WIPE, 0, 0, 0)];
     let good = Script { presses: vec![(1, 0)], steps }.bytes();
     let none = Script { presses: Vec::new(), steps: Vec::new() }.bytes();
     let named = |family| move |script| Case { family, ..Case::of_script(script) };
@@ -117,7 +118,7 @@ fn faulty() -> Vec<Case> {
     let cuts = [0, 3, 4, 7, 12, 16, 17, 33, good.len() - 1].map(|length| good[..length].to_vec());
     cases.extend(cuts.into_iter().chain([[&good[..], &[0]].concat()]).map(named("cut")));
 
-    let most = MOST as u32 + 1;
+    let most = MOST_STEPS as u32 + 1;
     let rounds = [(0, 0x1000_0000), (0, 0x1000_0002), (0x1C71_C71D, 0)];
     let counts = [(most, 0), (0, most), (u32::MAX, u32::MAX)].into_iter().chain(rounds);
     let counts = counts.map(|(presses, steps)| {

@@ -1,20 +1,21 @@
 //! Runs a script by the Rust device itself. What the paper adds to document
-//! 000 for a whole script is decided here, and for a step in `bus_steps.rs`.
+//! 000 for a whole script is decided here, and for a step in `bus/steps.rs`.
 
 use crate::bus::kinds::PRESS;
 use crate::bus::steps::Board;
-use crate::memories::Memories;
 use crate::bytes::*;
+use crate::common::numbers::{ANSWER_BYTES, BAD_MEMORY, BAD_SCRIPT, OUT_TOO_SHORT};
 use crate::common::step::{Device, Step};
+use crate::memories::Memories;
 
 /// The number of the whole script's refusal, 0 for done.
 pub fn run_script(memories: &mut Memories, script: &[u8], out: &mut [u8]) -> u32 {
     if !memories.have_right_lengths() {
-        return BAD_MEMORY;
+        return BAD_MEMORY.into();
     }
-    let Some(script) = Script::read(script) else { return BAD_SCRIPT };
+    let Some(script) = Script::read(script) else { return BAD_SCRIPT.into() };
     if out.len() < out_length(script.answers()) {
-        return OUT_TOO_SHORT;
+        return OUT_TOO_SHORT.into();
     }
     let mut board = Board::start();
     memories.swap(&mut board.system);

@@ -4,9 +4,10 @@
 use std::fmt;
 
 use crate::bus::steps::digest;
-use crate::memories::{Memories, NAMES};
-use crate::bytes::{read_answer, ANSWER_BYTES};
+use crate::bytes::read_answer;
 use crate::cases::Case;
+use crate::common::numbers::ANSWER_BYTES;
+use crate::memories::{Memories, NAMES};
 use crate::starts::{picture, put};
 use crate::{port, run};
 

@@ -1,11 +1,12 @@
 //! The memories that scripts start with: one of a few pictures of them all,
 //! and bytes put into it for each script.
 
-use crate::memories::{Memories, LENGTHS};
-use crate::common::random::Random;
-use crate::sys::{System, SYSCLK_VAR};
 use crate::common::edges::CLOCKS;
-use crate::{FLASH_SIZE, SRAM_BASE};
+use crate::common::numbers::{SRAM_BASE, SYSCLK_VAR};
+use crate::common::random::Random;
+use crate::memories::{Memories, LENGTHS};
+use crate::sys::System;
+use crate::FLASH_SIZE;
 
 pub const PICTURES: usize = 4;
 

@@ -1,17 +1,15 @@
 //! The families of steps that only scripts have.
 
 use crate::bus::families::Author;
-use crate::bus::flash::{frame, with_address, ANSWER, SELECT, SELECTED, TRANSFER};
-use crate::bus::keys::LINES;
-use crate::bus::kinds::*;
+use crate::bus::flash::{frame, with_address};
+use crate::bus::kinds::{HOLD, LIVE, PRESS, READ, TURBO, WIPE, WRITE};
 use crate::bus::list::List;
 use crate::bus::memory::STRAY;
-use crate::bus::panel::{command, dma, CONTROL, PICTURE, START_DMA};
-use crate::common::generator::{family, Family};
-use crate::bytes::MOST;
-use crate::sys::{GPIO_BASE, KEY_HOLD};
+use crate::bus::panel::{command, dma};
 use crate::common::edges::{fraction, TIME_EDGES, TURBO_EDGES};
-use crate::{FLASH_BASE, FLASH_SIZE, RAM_SIZE, SRAM_BASE, SRAM_LENGTH};
+use crate::common::generator::{family, Family};
+use crate::common::numbers::*;
+use crate::{FLASH_SIZE, RAM_SIZE, SRAM_LENGTH};
 
 pub const OWN: [Family<Author>; 6] = [
     family("presses", presses),
@@ -26,22 +24,22 @@ pub const OWN: [Family<Author>; 6] = [
 #[rustfmt::skip]
 const SEAMS: [u32; 14] = [
     FLASH_BASE, FLASH_BASE + FLASH_SIZE as u32, FLASH_BASE + RAM_SIZE as u32, GPIO_BASE,
-    0xC000_1000, 0xC100_0000, 0xD000_0000, 0xD100_0000, SRAM_BASE, SRAM_BASE + SRAM_LENGTH as u32,
-    0xF900_0000, 0xFF00_0000, 0xFFFF_F000, 0,
+    REGISTERS_C, REGISTERS_C_END, REGISTERS_D, REGISTERS_D_END, SRAM_BASE,
+    SRAM_BASE + SRAM_LENGTH as u32, 0xF900_0000, REGISTERS_F, REGISTERS_F_END, 0,
 ];
 
 /// As many as fit and more, and time about their beginnings and ends.
 fn presses(author: &mut Author) {
-    let most = author.random.pick(&[0.3, 0.3, 10.0, 2_097_152.0]);
+    let most = author.random.pick(&[0.3, 0.3, 10.0, LAST_TIME]);
     let some = author.random.pick(&[0, 1, 4, 30, 62, 63, 64, 66]);
-    let count = if author.random.one_in(50) { MOST } else { some };
+    let count = if author.random.one_in(50) { MOST_PRESSES } else { some };
     for _ in 0..count {
         let (key, time) = author.any_press(most);
         author.list.step(PRESS, key, time);
     }
     for _ in 0..author.random.between(1, 12) {
         author.press_passes();
-        author.list.read(LINES);
+        author.list.read(KEY_LINES);
         if author.random.one_in(4) {
             author.tap();
         }
@@ -84,7 +82,7 @@ fn starts(author: &mut Author) {
     match author.random.below(6) {
         0..=2 => {
             author.get_part(address & !3);
-            author.get(LINES);
+            author.get(KEY_LINES);
         }
         3 => {
             dma(&mut author.list, address);
@@ -95,7 +93,7 @@ fn starts(author: &mut Author) {
             author.frame(&with_address(0x0B, at, &[0; 4]));
         }
         _ => {
-            command(&mut author.list, 0x2C, &[]);
+            command(&mut author.list, PAINT, &[]);
             let at = author.bits();
             author.list.pixel(at);
             author.list.pass(0.1);
@@ -106,13 +104,13 @@ fn starts(author: &mut Author) {
 /// Selects, deselects and bytes in any order, and what they came to.
 fn selects(author: &mut Author) {
     for _ in 0..author.random.between(3, 12) {
-        let select = author.random.pick(&[0, SELECTED]);
+        let select = author.random.pick(&[0, FLASH_SELECTED]);
         let byte = author.random.pick(&[0x06, 0x06, 0x05, 0x9F, 0x04, 0x20, 0x02, 0x00, 0x00]);
         if author.random.one_in(2) {
-            author.list.write(SELECT, select);
+            author.list.write(FLASH_SELECT, select);
         } else {
-            author.list.write(TRANSFER, byte);
-            author.list.read(ANSWER);
+            author.list.write(FLASH_TRANSFER, byte);
+            author.list.read(FLASH_ANSWER);
         }
     }
     author.list.counters();
@@ -125,10 +123,10 @@ fn selects(author: &mut Author) {
 fn counters(author: &mut Author) {
     let (picture, address) = (author.address(), author.flash_address());
     let frames = author.random.one_in(2);
-    author.list.write(PICTURE, picture);
+    author.list.write(LCD_PICTURE, picture);
     for _ in 0..author.random.between(250, 300) {
         if frames {
-            author.list.write(CONTROL, START_DMA);
+            author.list.write(LCD_CONTROL, START_DMA);
         } else {
             for byte in [&[0x06][..], &with_address(0x20, address, &[])] {
                 send(&mut author.list, byte);
@@ -140,11 +138,11 @@ fn counters(author: &mut Author) {
 
 /// A transaction without its answers.
 fn send(list: &mut List, bytes: &[u8]) {
-    list.write(SELECT, SELECTED);
+    list.write(FLASH_SELECT, FLASH_SELECTED);
     for &byte in bytes {
-        list.write(TRANSFER, byte.into());
+        list.write(FLASH_TRANSFER, byte.into());
     }
-    list.write(SELECT, 0);
+    list.write(FLASH_SELECT, 0);
 }
 
 /// Any kind with any numbers.

@@ -1,12 +1,12 @@
 //! Cases of the fixed list of scripts that only scripts have.
 
-use crate::common::limits::{FASTEST, LAST_TIME};
-use crate::common::random::Random;
 use crate::bytes::*;
+use crate::common::edges::{TIME_EDGES, TURBO_EDGES};
+use crate::common::numbers::*;
+use crate::common::random::Random;
 use crate::desk::{BYTES, LAY, LONGEST, OUT};
 use crate::faults::of_counts;
 use crate::fixed::Sheet;
-use crate::common::edges::{TIME_EDGES, TURBO_EDGES};
 
 fn step(kind: u8, size: u8, address: u32, value: u64) -> ScriptStep {
     ScriptStep { kind, size, unused: [0; 2], address, value }
@@ -17,28 +17,28 @@ fn short() -> Script {
     let presses = vec![(0, 0.25f64.to_bits()), (3, 0), (2, 0.5f64.to_bits())];
     let half = 0.5f64.to_bits();
     let before = [
-        step(2, 4, 0x2000_0010, 0x1_2345_6789),
-        step(2, 4, 0xD000_0078, 0),
-        step(3, 0, 0, half),
-        step(1, 4, 0xC000_0020, 0),
-        step(10, 0, 0, 0),
+        step(WRITE, 4, FLASH_BASE + 0x10, 0x1_2345_6789),
+        step(WRITE, 4, POWER_REG, 0),
+        step(ADVANCE, 0, 0, half),
+        step(READ, 4, KEY_LINES, 0),
+        step(COUNTERS, 0, 0, 0),
     ];
     let after = [
-        step(1, 4, 0x2000_0010, 0),
-        step(1, 4, 0xC000_0020, 0),
-        step(10, 0, 0, 0),
-        step(3, 0, 0, half),
-        step(1, 4, 0xC000_0020, 0),
-        step(4, 0, 0, 0),
-        step(9, 0, 0, 0),
+        step(READ, 4, FLASH_BASE + 0x10, 0),
+        step(READ, 4, KEY_LINES, 0),
+        step(COUNTERS, 0, 0, 0),
+        step(ADVANCE, 0, 0, half),
+        step(READ, 4, KEY_LINES, 0),
+        step(NEXT, 0, 0, 0),
+        step(SOUND, 0, 0, 0),
     ];
-    let wipe = [step(12, 0, 0, 0)];
+    let wipe = [step(WIPE, 0, 0, 0)];
     Script { presses, steps: [&before[..], &wipe, &after].concat() }
 }
 
 /// Enough to see that nothing of it was done.
 fn tiny() -> Script {
-    let steps = vec![step(2, 4, 0x2000_0010, 0x1234_5678), step(12, 0, 0, 0)];
+    let steps = vec![step(WRITE, 4, FLASH_BASE + 0x10, 0x1234_5678), step(WIPE, 0, 0, 0)];
     Script { presses: vec![(1, 0)], steps }
 }
 
@@ -47,7 +47,7 @@ fn presses() -> Script {
     let times = (0..66u32).map(|at| f64::from(at) * 0.01);
     let presses = times.enumerate().map(|(at, time)| (at as u8 % 3, time.to_bits())).collect();
     let steps = [0.3, 0.45, 0.639, 0.7, 0.9].into_iter().flat_map(|time: f64| {
-        [step(3, 0, 0, time.to_bits()), step(1, 1, 0xC000_0020, 0), step(4, 0, 0, 0)]
+        [step(ADVANCE, 0, 0, time.to_bits()), step(READ, 1, KEY_LINES, 0), step(NEXT, 0, 0, 0)]
     });
     Script { presses, steps: steps.collect() }
 }
@@ -57,16 +57,17 @@ fn limits() -> Script {
     // A bad key comes before a bad time.
     let both = f64::NAN.to_bits();
     let presses = TIME_EDGES.iter().step_by(2).map(|&time| (2, time)).chain([(3, both)]).collect();
-    let turbos = TURBO_EDGES.iter().map(|turbo| step(6, 0, 0, turbo.to_bits()));
-    let holds = TIME_EDGES.iter().skip(1).step_by(2).map(|&time| step(8, 0, 1, time));
-    let keys =
-        [3, 256, u32::MAX].into_iter().flat_map(|key| [step(7, 0, key, 1), step(8, 0, key, both)]);
-    let sizes = [0, 3, 5, 16, 20, 255].map(|size| step(1 + size % 2, size, 0, 1));
-    let fastest = [step(6, 0, 0, FASTEST.to_bits())];
+    let turbos = TURBO_EDGES.iter().map(|turbo| step(TURBO, 0, 0, turbo.to_bits()));
+    let holds = TIME_EDGES.iter().skip(1).step_by(2).map(|&time| step(HOLD, 0, 1, time));
+    let keys = [3, 256, u32::MAX]
+        .into_iter()
+        .flat_map(|key| [step(KEY, 0, key, 1), step(HOLD, 0, key, both)]);
+    let sizes = [0, 3, 5, 16, 20, 255].map(|size| step(READ + size % 2, size, 0, 1));
+    let fastest = [step(TURBO, 0, 0, FASTEST.to_bits())];
     let last = [LAST_TIME.next_up(), LAST_TIME, LAST_TIME.next_down()];
-    let times = last.map(|time| step(3, 0, 0, time.to_bits()));
-    let edges = TIME_EDGES.iter().map(|&time| step(3, 0, 0, time));
-    let game = [0xC004_0000, 0xC004_0004, 0xC004_0008].map(|word| step(1, 4, word, 0));
+    let times = last.map(|time| step(ADVANCE, 0, 0, time.to_bits()));
+    let edges = TIME_EDGES.iter().map(|&time| step(ADVANCE, 0, 0, time));
+    let game = [DAY_SECONDS, DAY_MINUTES, DAY_HOURS].map(|word| step(READ, 4, word, 0));
     let steps = turbos.chain(holds).chain(keys).chain(sizes).chain(fastest).chain(times);
     Script { presses, steps: steps.chain(game).chain(edges).collect() }
 }
@@ -121,7 +122,7 @@ impl Sheet {
     fn lay_sparsely(&mut self, script: &[u8]) {
         self.list.step(LAY, 0, script.len() as u64);
         let presses = u32::from_le_bytes(script[..4].try_into().unwrap());
-        let at = 4 + presses.wrapping_mul(9);
+        let at = 4 + presses.wrapping_mul(PRESS_BYTES as u32);
         let steps = script.get(at as usize..at as usize + 4);
         let steps = steps.map_or(0, |bytes| u32::from_le_bytes(bytes.try_into().unwrap()));
         self.list.step(BYTES, 0, presses.into());
@@ -148,7 +149,7 @@ impl Sheet {
     fn short_outs(&mut self) {
         let good = tiny();
         let exact = out_length(good.answers());
-        for out in [0, 3, 4, exact - 25, exact - 1] {
+        for out in [0, 3, 4, exact - ANSWER_BYTES, exact - 1] {
             self.bad(&good.bytes(), out, OUT_TOO_SHORT);
         }
         let none = Script { presses: Vec::new(), steps: Vec::new() };

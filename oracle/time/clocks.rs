@@ -1,18 +1,8 @@
 //! Lists for the RTC chip, the time of day with its 1 Hz tick, and the ADC.
 
-use crate::sys::{ADC_BASE, RTC_BUS, RTC_IRQ_BASE};
-use crate::families::Author;
 use crate::common::edges::{BYTES, FIELDS};
-
-pub const STATUS: u32 = RTC_IRQ_BASE + 0x54;
-pub const ENABLE: u32 = RTC_IRQ_BASE + 0x58;
-pub const RTC_ADDRESS: u32 = RTC_BUS + 0x04;
-pub const RTC_DATA: u32 = RTC_BUS + 0x08;
-pub const RTC_COMMAND: u32 = RTC_BUS + 0x0C;
-pub const RTC_READY: u32 = RTC_BUS + 0x10;
-pub const RTC_OUT: u32 = RTC_BUS + 0x14;
-pub const ADC_CONTROL: u32 = ADC_BASE + 0x04;
-pub const ADC_VALUE: u32 = ADC_BASE + 0x08;
+use crate::common::numbers::*;
+use crate::families::Author;
 
 const RTC_WRITE: u32 = 1;
 const RTC_READ: u32 = 2;
@@ -49,13 +39,13 @@ pub fn day(author: &mut Author) {
         0..=2 => author.set_field(),
         3 => {
             let ones = author.value(&[0, 1, 2, 3, 0xFFFF_FFFD, u32::MAX]);
-            author.list.write(STATUS, ones);
-            author.list.read(STATUS);
+            author.list.write(RTC_STATUS, ones);
+            author.list.read(RTC_STATUS);
         }
         4 => {
             let enable = author.value(&[0, 1, 2, 3, u32::MAX]);
-            author.list.write(ENABLE, enable);
-            author.list.read(ENABLE);
+            author.list.write(RTC_ENABLE, enable);
+            author.list.read(RTC_ENABLE);
         }
         5 => author.change_turbo(),
         6 => author.fields(),
@@ -212,7 +202,7 @@ impl Author {
             self.go_game((gone + 1.0) * unit - base);
         }
         self.fields();
-        self.list.read(STATUS);
+        self.list.read(RTC_STATUS);
         if self.random.one_in(2) {
             self.list.look(0x9);
         }

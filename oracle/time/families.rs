@@ -1,14 +1,14 @@
 //! The families of lists for the time devices, and what their authors share.
 
-use crate::common::generator::{family, Authorship, Family};
-use crate::common::random::Random;
-use crate::sys::{System, ADC_BASE, RTC_BUS, RTC_IRQ_BASE, TIMER_BASE};
 use crate::clocks::{adc, day, rtc};
+use crate::common::edges::{fraction, off, TURBOS};
+use crate::common::generator::{family, Authorship, Family};
+use crate::common::numbers::*;
+use crate::common::random::Random;
 use crate::fixed::fixed_list;
 use crate::limits::{limits, wild};
 use crate::list::List;
-use crate::common::edges::{fraction, off, TURBOS};
-use crate::steps::{FASTEST, LAST_GAME_TIME, LAST_TIME, SLOWEST};
+use crate::sys::System;
 use crate::timers::{sound, timers};
 
 const FAMILIES: [Family<Author>; 8] = [
@@ -26,22 +26,20 @@ const FAMILIES: [Family<Author>; 8] = [
 /// one comes next.
 const TAME: usize = 6;
 
-const TIMER_WORDS: usize = 48;
-
 /// Every other register word that a list reads or writes.
 const OTHER_WORDS: [u32; 12] = [
-    RTC_IRQ_BASE,
-    RTC_IRQ_BASE + 0x04,
-    RTC_IRQ_BASE + 0x08,
-    RTC_IRQ_BASE + 0x54,
-    RTC_IRQ_BASE + 0x58,
-    RTC_BUS + 0x04,
-    RTC_BUS + 0x08,
-    RTC_BUS + 0x0C,
-    RTC_BUS + 0x10,
-    RTC_BUS + 0x14,
-    ADC_BASE + 0x04,
-    ADC_BASE + 0x08,
+    DAY_SECONDS,
+    DAY_MINUTES,
+    DAY_HOURS,
+    RTC_STATUS,
+    RTC_ENABLE,
+    RTC_ADDRESS,
+    RTC_DATA,
+    RTC_COMMAND,
+    RTC_READY,
+    RTC_OUT,
+    ADC_CONTROL,
+    ADC_VALUE,
 ];
 
 /// Each action belongs to another family. Wild ones are rarer, for they undo
@@ -111,9 +109,10 @@ impl Authorship for Author {
 
 impl Author {
     pub fn any_word(&mut self) -> u32 {
-        match self.random.below(TIMER_WORDS + OTHER_WORDS.len()) {
-            at if at < TIMER_WORDS => TIMER_BASE + 4 * at as u32,
-            at => OTHER_WORDS[at - TIMER_WORDS],
+        let timers = TIMER_WORDS as usize;
+        match self.random.below(timers + OTHER_WORDS.len()) {
+            at if at < timers => TIMER_BASE + 4 * at as u32,
+            at => OTHER_WORDS[at - timers],
         }
     }
 

@@ -1,14 +1,14 @@
 //! The fixed list for the time devices: the paper's examples, then each rule
 //! and each edge at least once, in little text, then random steps.
 
-use crate::common::generator::{expect, take_turns, Authorship};
-use crate::common::step::Answer;
-use crate::sys::{RTC_IRQ_BASE, SOUND_TIMER};
 use crate::clocks::*;
+use crate::common::edges::*;
+use crate::common::generator::{expect, take_turns, Authorship};
+use crate::common::numbers::*;
+use crate::common::step::Answer;
 use crate::families::Author;
 use crate::list::List;
-use crate::common::edges::*;
-use crate::steps::*;
+use crate::steps::ADVANCE;
 use crate::timers::*;
 
 /// With the ending there are at most 2,500.
@@ -80,15 +80,15 @@ fn rtc_read(list: &mut List, register: u32) -> Answer {
 /// What these answer was worked out by hand.
 fn examples(list: &mut List) {
     for (timer, reload) in [(0, 0x0000), (1, 0xFFFF), (2, 0xFC18)] {
-        list.write(timer_word(timer, RELOAD), reload);
-        list.write(timer_word(timer, CONTROL), 0x6000);
+        list.write(timer_word(timer, TIMER_RELOAD), reload);
+        list.write(timer_word(timer, TIMER_CONTROL), 0x6000);
     }
     expect(list.advance(0.5), 0, [0, 0, 0]);
     // 6,000,000 counts are 91 periods of 65,536 and 0x8D80 more.
     for (timer, periods, counter) in [(0, 91, 0x8D80), (1, 6_000_000, 0xFFFF), (2, 6_000, 0xFC18)] {
         expect(list.look(timer), 0, [0, periods, 1]);
-        expect(list.read(timer_word(timer as usize, COUNTER)), 0, [counter, 0, 0]);
-        expect(list.read(timer_word(timer as usize, CONTROL)), 0, [0xE000, 0, 0]);
+        expect(list.read(timer_word(timer as usize, TIMER_COUNTER)), 0, [counter, 0, 0]);
+        expect(list.read(timer_word(timer as usize, TIMER_CONTROL)), 0, [0xE000, 0, 0]);
     }
     list.write(RTC_IRQ_BASE + 8, 25);
     expect(list.read(RTC_IRQ_BASE + 8), 0, [1, 0, 0]);
@@ -115,20 +115,20 @@ fn timer_edges(list: &mut List) {
         let timer = at % 6;
         rewind(list);
         list.clock(clock);
-        list.write(timer_word(timer, RELOAD), reload);
-        list.write(timer_word(timer, CONTROL), 0);
+        list.write(timer_word(timer, TIMER_RELOAD), reload);
+        list.write(timer_word(timer, TIMER_CONTROL), 0);
         let slow = (at + 1) % 2;
-        list.write(timer_word(timer, CONTROL), 0x6000 | slow as u32);
+        list.write(timer_word(timer, TIMER_CONTROL), 0x6000 | slow as u32);
         let rate = list.device.sysclk() / [2.0, 256.0][slow];
         let period = list.device.timer_period(timer) as f64;
         for periods in [1.0, 3.0] {
             for places in -1..=1 {
                 list.advance(off(periods * period / rate, places));
-                list.read(timer_word(timer, COUNTER));
+                list.read(timer_word(timer, TIMER_COUNTER));
                 list.look(timer as u64);
             }
-            list.read(timer_word(timer, CONTROL));
-            list.write(timer_word(timer, CONTROL), 0xE000 | slow as u32);
+            list.read(timer_word(timer, TIMER_CONTROL));
+            list.write(timer_word(timer, TIMER_CONTROL), 0xE000 | slow as u32);
         }
     }
 }
@@ -137,21 +137,21 @@ fn timer_edges(list: &mut List) {
 /// shows what was stored while the timer stands.
 fn timer_controls(list: &mut List) {
     restart(list);
-    list.write(timer_word(3, RELOAD), 0xFFFE);
-    list.write(timer_word(3, COUNTER), 0x1234_5678);
+    list.write(timer_word(3, TIMER_RELOAD), 0xFFFE);
+    list.write(timer_word(3, TIMER_COUNTER), 0x1234_5678);
     for combination in 0..16 {
-        list.write(timer_word(3, CONTROL), control_bits(combination));
-        list.read(timer_word(3, CONTROL));
+        list.write(timer_word(3, TIMER_CONTROL), control_bits(combination));
+        list.read(timer_word(3, TIMER_CONTROL));
         let now = list.device.now;
         list.advance(now + 0.3);
-        list.read(timer_word(3, CONTROL));
-        list.read(timer_word(3, COUNTER));
+        list.read(timer_word(3, TIMER_CONTROL));
+        list.read(timer_word(3, TIMER_COUNTER));
         if combination % 4 == 3 {
             list.look(3);
         }
     }
-    list.write(timer_word(3, CONTROL), 0xFFFF_FFFF);
-    list.read(timer_word(3, CONTROL));
+    list.write(timer_word(3, TIMER_CONTROL), 0xFFFF_FFFF);
+    list.read(timer_word(3, TIMER_CONTROL));
 }
 
 /// About the ends of sixtieths of a second.
@@ -172,7 +172,8 @@ fn tones(list: &mut List) {
     // An event takes the time and not game time, so they are to differ.
     list.turbo(3.0);
     list.advance(0.75);
-    let [control, reload, compare] = [CONTROL, RELOAD, COMPARE].map(|w| timer_word(SOUND_TIMER, w));
+    let [control, reload, compare] =
+        [TIMER_CONTROL, TIMER_RELOAD, TIMER_COMPARE].map(|w| timer_word(SOUND_TIMER, w));
     list.write(control, 0x2000);
     for period in [1, 19, 20, 21, 1000, 65_536] {
         list.write(reload, 65_536 - period);
@@ -200,7 +201,8 @@ fn tones(list: &mut List) {
 fn full_store(author: &mut Author) {
     author.fill_store();
     let list = &mut author.list;
-    let [control, reload, compare] = [CONTROL, RELOAD, COMPARE].map(|w| timer_word(SOUND_TIMER, w));
+    let [control, reload, compare] =
+        [TIMER_CONTROL, TIMER_RELOAD, TIMER_COMPARE].map(|w| timer_word(SOUND_TIMER, w));
     let (first, period) = (list.device.reg(reload), list.device.timer_period(SOUND_TIMER) as u32);
     // An interrupt of timer 4 waits.
     let now = list.device.now;
@@ -215,7 +217,7 @@ fn full_store(author: &mut Author) {
     expect(list.write(reload, first), SOUND_FULL, [0, 0, 0]);
     list.clock(0);
     // The first two give the tone that there is, the third is no tone's.
-    let other = timer_word(0, CONTROL);
+    let other = timer_word(0, TIMER_CONTROL);
     for (word, value) in [(reload, first | 0x5555_0000), (control, 0xE000), (other, 0)] {
         expect(list.write(word, value), 0, [0, 0, 0]);
         list.read(word);
@@ -293,8 +295,8 @@ fn day_fields(list: &mut List) {
 
 /// Across a second, a minute, an hour and midnight; ticks, and their status.
 fn day_passes(list: &mut List) {
-    list.write(ENABLE, 0xFFFF_FFFF);
-    list.read(ENABLE);
+    list.write(RTC_ENABLE, 0xFFFF_FFFF);
+    list.read(RTC_ENABLE);
     for (turbo, to) in [(1.0, 0.999), (FASTEST, 1.0), (SLOWEST, 1.0), (1000.5, 60.0)] {
         list.turbo(turbo);
         for (word, value) in [(0x08, 23), (0x04, 59), (0x00, 59)] {
@@ -305,9 +307,9 @@ fn day_passes(list: &mut List) {
             list.advance(time);
             list.look(0xC);
             list.read(RTC_IRQ_BASE + 0x08);
-            list.read(STATUS);
-            list.write(STATUS, if turbo == 1.0 { 0xFFFF_FFFD } else { 2 });
-            list.read(STATUS);
+            list.read(RTC_STATUS);
+            list.write(RTC_STATUS, if turbo == 1.0 { 0xFFFF_FFFD } else { 2 });
+            list.read(RTC_STATUS);
         }
         list.look(0x9);
     }
@@ -402,13 +404,13 @@ fn turbos(list: &mut List) {
 fn wild_numbers(list: &mut List) {
     restart(list);
     list.put(0xB, 0x7FFF_FFFF_FFFF_FFFF);
-    list.write(timer_word(0, RELOAD), 0xFC18);
-    list.write(timer_word(0, CONTROL), 0x6000);
+    list.write(timer_word(0, TIMER_RELOAD), 0xFC18);
+    list.write(timer_word(0, TIMER_CONTROL), 0x6000);
     for number in WILD_NUMBERS {
         list.put_number(0x7, number);
         list.look(0xC);
         list.put_number(0x0, number);
-        list.read(timer_word(0, COUNTER));
+        list.read(timer_word(0, TIMER_COUNTER));
     }
     // No place takes a NaN.
     for at in 0x0..=0xF {
@@ -430,7 +432,7 @@ fn wild_numbers(list: &mut List) {
 fn equal_tone(list: &mut List) {
     list.put_number(0x9, -0.0);
     list.put_number(0xA, 0.5);
-    list.write(timer_word(SOUND_TIMER, CONTROL), 0);
+    list.write(timer_word(SOUND_TIMER, TIMER_CONTROL), 0);
     list.look(0x7);
 }
 
@@ -449,7 +451,7 @@ fn wild_counts(list: &mut List) {
         }
     }
     for kind in [0x0, 0x4, 0x5, 0x7, 0x8, 0xD, 0xFF] {
-        list.step(kind, 0xC002_0000, 0x6000);
+        list.step(kind, TIMER_BASE.into(), 0x6000);
     }
     list.look(0xD);
     list.put(0x17, 1);

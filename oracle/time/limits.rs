@@ -1,11 +1,11 @@
 //! Lists at the limits of time and turbo, and lists over state that no other
 //! list would reach.
 
-use crate::sys::{SOUND_TIMER, TIMER_COUNT};
-use crate::families::Author;
 use crate::common::edges::*;
-use crate::steps::{ADVANCE, FASTEST, LAST_GAME_TIME, LAST_TIME, SLOWEST};
-use crate::timers::{timer_word, COMPARE, CONTROL, COUNTER, RELOAD};
+use crate::common::numbers::*;
+use crate::families::Author;
+use crate::steps::ADVANCE;
+use crate::timers::timer_word;
 
 /// Everything that can be put, some places twice or more, and four that are
 /// no place.
@@ -150,11 +150,11 @@ impl Author {
         let n = self.random.below(TIMER_COUNT);
         if self.random.one_in(3) {
             let start = self.list.device.timers[n].start;
-            self.list.write(timer_word(n, CONTROL), 0x6000);
+            self.list.write(timer_word(n, TIMER_CONTROL), 0x6000);
             // Beginning to run has set the start; here it is to be wild.
             self.list.put_number(n as u64, start);
         }
-        self.list.read(timer_word(n, COUNTER));
+        self.list.read(timer_word(n, TIMER_COUNTER));
         self.list.look(n as u64);
     }
 
@@ -164,9 +164,12 @@ impl Author {
         if self.random.one_in(4) {
             self.list.put_number(0x9, -0.0);
             self.list.put_number(0xA, 0.5);
-            self.list.write(timer_word(SOUND_TIMER, CONTROL), 0);
+            self.list.write(timer_word(SOUND_TIMER, TIMER_CONTROL), 0);
         } else {
-            let word = timer_word(SOUND_TIMER, self.random.pick(&[CONTROL, RELOAD, COMPARE]));
+            let word = timer_word(
+                SOUND_TIMER,
+                self.random.pick(&[TIMER_CONTROL, TIMER_RELOAD, TIMER_COMPARE]),
+            );
             let value = self.list.device.reg(word);
             self.list.write(word, value);
         }

@@ -2,8 +2,8 @@
 
 use crate::common::step::Answer;
 use crate::common::step_list::StepList;
-use crate::sys::System;
 use crate::steps::*;
+use crate::sys::System;
 
 pub type List = StepList<System>;
 

@@ -2,18 +2,20 @@
 //! how document 000 answers them. What the paper adds to document 000, the
 //! refusals, is decided here, by the limits in `limits.rs`.
 
-use crate::cpu::Bus;
 use crate::common::device::fresh;
+use crate::common::numbers::{self, *};
 use crate::common::step::*;
-use crate::sys::{System, LCD_BASE, SYSCLK_VAR};
+use crate::cpu::Bus;
+use crate::sys::System;
 
 pub use crate::common::limits::*;
 
-pub const READ: u64 = 0x1;
-pub const WRITE: u64 = 0x2;
-pub const ADVANCE: u64 = 0x3;
-pub const TURBO: u64 = 0x6;
-pub const TAKE: u64 = 0x9;
+/// The kinds that a script has, too.
+pub const READ: u64 = numbers::READ as u64;
+pub const WRITE: u64 = numbers::WRITE as u64;
+pub const ADVANCE: u64 = numbers::ADVANCE as u64;
+pub const TURBO: u64 = numbers::TURBO as u64;
+pub const TAKE: u64 = numbers::SOUND as u64;
 /// For tests only, as are looks and puts.
 pub const CLOCK: u64 = 0xA;
 
@@ -58,14 +60,14 @@ fn bits(number: f64) -> u64 {
 /// The device itself has no limit of events. So with all places taken the
 /// write is tried, and undone if it added one.
 fn write(system: &mut System, address: u32, value: u32) -> Answer {
-    if system.sound.events.len() < EVENTS {
+    if system.sound.events.len() < SOUND_PLACES {
         system.write32(address, value);
         return DONE;
     }
     // A write that adds an event changes nothing else than these.
     let before = (system.regs.clone(), system.timers.clone(), system.sound.clone());
     system.write32(address, value);
-    if system.sound.events.len() == EVENTS {
+    if system.sound.events.len() == SOUND_PLACES {
         return DONE;
     }
     (system.regs, system.timers, system.sound) = before;
@@ -108,7 +110,7 @@ fn look(system: &System, at: u64) -> Answer {
         0x8 => words(rtc.base_ticks as u64, bits(rtc.base_time), rtc.data_out.into()),
         0x9 => words(day.tod_base as u64, bits(day.tod_set_at), day.fired),
         0xA => {
-            let status = system.reg(LCD_BASE + 0x18C);
+            let status = system.reg(LCD_STATUS);
             words(system.lcd.last_vsync, status.into(), system.adc_converting.into())
         }
         0xB => match rtc.alarm_ticks() {

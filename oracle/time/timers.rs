@@ -1,20 +1,14 @@
 //! Lists for the timers, and for the sound that follows one of them.
 
-use crate::sys::{SOUND_TIMER, TIMER_BASE, TIMER_COUNT, VSYNC_HZ};
-use crate::families::Author;
 use crate::common::edges::{fraction, off, CLOCKS, RELOADS, SOUND_RELOADS};
-use crate::steps::{EVENTS, LAST_TIME};
-
-pub const CONTROL: u32 = 0x00;
-pub const RELOAD: u32 = 0x08;
-pub const COMPARE: u32 = 0x0C;
-pub const COUNTER: u32 = 0x10;
+use crate::common::numbers::*;
+use crate::families::Author;
 
 /// The control bits that do something: rate, run, interrupt, pending.
 const CONTROL_BITS: [u32; 4] = [0x0001, 0x2000, 0x4000, 0x8000];
 
 pub fn timer_word(timer: usize, word: u32) -> u32 {
-    TIMER_BASE + 0x20 * timer as u32 + word
+    TIMER_BASE + TIMER_STRIDE * timer as u32 + word
 }
 
 /// One of the 16 combinations of the control bits.
@@ -31,8 +25,8 @@ pub fn timers(author: &mut Author) {
     match author.random.below(14) {
         0 | 1 => {
             let control = author.control();
-            author.list.write(timer_word(n, CONTROL), control);
-            author.list.read(timer_word(n, CONTROL));
+            author.list.write(timer_word(n, TIMER_CONTROL), control);
+            author.list.read(timer_word(n, TIMER_CONTROL));
         }
         2 | 3 => author.set_up(n),
         4 => author.reload(n, &RELOADS),
@@ -77,7 +71,8 @@ impl Author {
     /// Whether timer `n` runs and began before now.
     fn goes(&self, n: usize) -> bool {
         let device = &self.list.device;
-        device.reg(timer_word(n, CONTROL)) & 0x2000 != 0 && device.timers[n].start <= device.now
+        device.reg(timer_word(n, TIMER_CONTROL)) & 0x2000 != 0
+            && device.timers[n].start <= device.now
     }
 
     fn control(&mut self) -> u32 {
@@ -95,14 +90,14 @@ impl Author {
     fn reload(&mut self, n: usize, edges: &[u32]) {
         let high = if self.random.one_in(3) { (self.random.next() as u32) << 16 } else { 0 };
         let reload = self.value(edges) & 0xFFFF | high;
-        self.list.write(timer_word(n, RELOAD), reload);
+        self.list.write(timer_word(n, TIMER_RELOAD), reload);
     }
 
     fn set_up(&mut self, n: usize) {
         self.reload(n, &RELOADS);
-        self.list.write(timer_word(n, CONTROL), 0);
+        self.list.write(timer_word(n, TIMER_CONTROL), 0);
         let control = self.control() | 0x2000;
-        self.list.write(timer_word(n, CONTROL), control);
+        self.list.write(timer_word(n, TIMER_CONTROL), control);
     }
 
     fn change_clock(&mut self) {
@@ -112,7 +107,10 @@ impl Author {
 
     /// A word that is only stored; the counter's shows while the timer stands.
     fn other_word(&mut self, n: usize) {
-        let word = timer_word(n, self.random.pick(&[0x04, COMPARE, COUNTER, 0x14, 0x18, 0x1C]));
+        let word = timer_word(
+            n,
+            self.random.pick(&[0x04, TIMER_COMPARE, TIMER_COUNTER, 0x14, 0x18, 0x1C]),
+        );
         let value = self.random.next() as u32;
         self.list.write(word, value);
         self.list.read(word);
@@ -136,13 +134,13 @@ impl Author {
             }
             _ => self.pass(),
         }
-        self.list.read(timer_word(n, COUNTER));
-        self.list.read(timer_word(n, CONTROL));
+        self.list.read(timer_word(n, TIMER_COUNTER));
+        self.list.read(timer_word(n, TIMER_CONTROL));
         self.list.look(n as u64);
         let other = self.random.below(2 * TIMER_COUNT);
         if other < TIMER_COUNT {
             self.list.look(other as u64);
-            self.list.read(timer_word(other, COUNTER));
+            self.list.read(timer_word(other, TIMER_COUNTER));
         }
     }
 
@@ -158,7 +156,7 @@ impl Author {
 
     fn rate(&self, n: usize) -> f64 {
         let clock = self.list.device.sysclk();
-        let slow = self.list.device.reg(timer_word(n, CONTROL)) & 1 != 0;
+        let slow = self.list.device.reg(timer_word(n, TIMER_CONTROL)) & 1 != 0;
         clock / if slow { 256.0 } else { 2.0 }
     }
 
@@ -187,17 +185,17 @@ impl Author {
         let high = (period * part) as u32 + self.random.below(4) as u32;
         let compare = 0x1_0001u32.wrapping_sub(high);
         let compare = self.value(&[compare, compare & 0xFFFF, 0, 0xFFFF]);
-        self.list.write(timer_word(SOUND_TIMER, COMPARE), compare);
+        self.list.write(timer_word(SOUND_TIMER, TIMER_COMPARE), compare);
     }
 
     fn sound_control(&mut self) {
         let control = self.control();
         let run = if self.random.one_in(4) { 0 } else { 0x2000 };
-        self.list.write(timer_word(SOUND_TIMER, CONTROL), control | run);
+        self.list.write(timer_word(SOUND_TIMER, TIMER_CONTROL), control | run);
     }
 
     fn sound_word(&mut self) -> u32 {
-        timer_word(SOUND_TIMER, self.random.pick(&[CONTROL, RELOAD, COMPARE]))
+        timer_word(SOUND_TIMER, self.random.pick(&[TIMER_CONTROL, TIMER_RELOAD, TIMER_COMPARE]))
     }
 
     /// The same tone, unless the clock has changed meanwhile.
@@ -215,10 +213,10 @@ impl Author {
 
     /// Writes tones until all places are taken.
     pub fn fill_store(&mut self) {
-        self.list.write(timer_word(SOUND_TIMER, CONTROL), 0x6000);
-        while self.list.waiting() < EVENTS {
+        self.list.write(timer_word(SOUND_TIMER, TIMER_CONTROL), 0x6000);
+        while self.list.waiting() < SOUND_PLACES {
             let reload = self.random.next() as u32 & 0xFFFF;
-            self.list.write(timer_word(SOUND_TIMER, RELOAD), reload);
+            self.list.write(timer_word(SOUND_TIMER, TIMER_RELOAD), reload);
             if self.random.one_in(64) {
                 self.pass();
             }
@@ -244,8 +242,8 @@ impl Author {
             3 | 4 => self.compare(),
             5 => self.same_again(),
             6 => {
-                self.list.write(timer_word(SOUND_TIMER, COUNTER), 7);
-                self.list.write(timer_word(0, CONTROL), 0x6000);
+                self.list.write(timer_word(SOUND_TIMER, TIMER_COUNTER), 7);
+                self.list.write(timer_word(0, TIMER_CONTROL), 0x6000);
             }
             7 => self.change_clock(),
             8 => self.timer_passes(SOUND_TIMER),
