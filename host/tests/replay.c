@@ -1,5 +1,5 @@
 // Runs the scripts of a list on standard input by both entries, from memories that are zero, and compares what is returned and what
-// is left with the Rust device's. `oracle/compare_scripts -l` writes the list, replay.list; a line of it is
+// is left with the Rust device's. `oracle/script/compare -l` writes the list, replay.list; a line of it is
 //     FAMILY OUT RETURNED ANSWERS RAM SRAM GPIO FRAMEBUFFER SCRIPT
 // OUT is the length of the slice for the answers, whose byte i is 37 * i before; ANSWERS and the next four are digests of all of it
 // and of the memories afterwards, in hex, as is the script; one of no bytes is -.

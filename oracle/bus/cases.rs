@@ -83,6 +83,17 @@ pub fn peeks_and_blocks(list: &mut List) {
     list.write(REGISTERS_D, 0xA1A2_A3A4);
     list.write(REGISTERS_F_END - 4, 0xB1B2_B3B4);
     list.write(REGISTERS_F, 0xC1C2_C3C4);
+    blocks(list);
+    // Peeks and blocks of registers show what is stored.
+    list.write(INTC_PENDING, 0x1234_5678);
+    list.peek32(INTC_PENDING);
+    list.peek8(INTC_PENDING + 1);
+    list.block(INTC_PENDING, 4);
+    list.read(INTC_PENDING);
+}
+
+/// In each place, over every seam, and longer than they can be.
+fn blocks(list: &mut List) {
     for (address, length) in [
         (FLASH_BASE, 65_536),
         (FLASH_BASE + 3, 4),
@@ -104,12 +115,6 @@ pub fn peeks_and_blocks(list: &mut List) {
     ] {
         list.block(address, length);
     }
-    // Peeks and blocks of registers show what is stored.
-    list.write(INTC_PENDING, 0x1234_5678);
-    list.peek32(INTC_PENDING);
-    list.peek8(INTC_PENDING + 1);
-    list.block(INTC_PENDING, 4);
-    list.read(INTC_PENDING);
 }
 
 /// Each size at each alignment over a word that is full, and read likewise.

@@ -28,7 +28,11 @@ pub fn rtc_registers(list: &mut List) {
     for register in 0x30..=0x35 {
         rtc_read(list, register);
     }
-    // Both bits write; none does nothing; what stands above is ignored.
+    rtc_commands(list);
+}
+
+/// Both bits write; none does nothing; what stands above is ignored.
+fn rtc_commands(list: &mut List) {
     for (data, command) in [(0x61, 3), (0x63, 0xFFFF_FFFC), (0x64, 0xFFFF_FFFD)] {
         list.write(RTC_ADDRESS, 0xABCD_EF80);
         list.write(RTC_DATA, 0x1234_5600 | data);

@@ -11,7 +11,7 @@ use super::map::OTHER_WORD;
 use super::panel::{command, dma};
 use super::status_cases::*;
 use super::time_cases::*;
-use super::timers::timer_word;
+use crate::common::device::timer_word;
 use crate::common::generator::expect;
 use crate::common::numbers::*;
 

@@ -1,7 +1,7 @@
 //! The families for interrupts, and for the next event.
 
 use super::families::Author;
-use super::timers::timer_word;
+use crate::common::device::timer_word;
 use crate::common::numbers::*;
 
 /// The bits that mask interrupts 1, 8, 27 and 29, those beside them, and some

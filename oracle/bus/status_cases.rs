@@ -4,7 +4,7 @@ use super::list::List;
 use super::map::{NEVER_STORED, OTHER_WORD, OWN};
 use super::panel::dma;
 use super::status::*;
-use super::timers::timer_word;
+use crate::common::device::timer_word;
 use crate::common::generator::expect;
 use crate::common::numbers::*;
 
@@ -84,9 +84,9 @@ pub fn masks(list: &mut List) {
         let bits = [31, 24, 5, 3].into_iter().enumerate();
         let mask = bits.map(|(at, bit)| (combination >> at & 1) << bit).sum();
         list.write(INTC_MASK, mask);
-        let first = [1, 8, 27, 29].into_iter().enumerate();
-        let wanted = first.filter(|(at, _)| combination >> at & 1 == 0).map(|(_, n)| n).next();
-        expect(list.pending(), 0, [wanted.unwrap_or(0), 0, 0]);
+        let lines = [RTC_IRQ, TIMER_IRQ, LCD_IRQ, ADC_IRQ].into_iter().enumerate();
+        let wanted = lines.filter(|(at, _)| combination >> at & 1 == 0).map(|(_, n)| n).next();
+        expect(list.pending(), 0, [wanted.unwrap_or(0).into(), 0, 0]);
         if combination % 5 == 0 {
             list.read(INTC_PENDING);
         }

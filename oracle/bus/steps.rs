@@ -1,6 +1,6 @@
 //! The steps of a list for the whole bus, and how document 000 answers them.
 //! What the paper adds to document 000, the refusals, is decided here and in
-//! `limits.rs` before the device is called.
+//! `common/limits.rs` before the device is called.
 
 use super::kinds::*;
 use super::map::*;

@@ -4,6 +4,7 @@ use super::keys::fill_presses;
 use super::list::List;
 use super::map::TONE_WORDS;
 use super::timers::*;
+use crate::common::device::timer_word;
 use crate::common::edges::off;
 use crate::common::generator::expect;
 use crate::common::numbers::*;

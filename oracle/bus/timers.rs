@@ -3,12 +3,9 @@
 use super::families::Author;
 use super::list::List;
 use super::map::TONE_WORDS;
+use crate::common::device::timer_word;
 use crate::common::edges::{fraction, CLOCKS, RELOADS, SOUND_RELOADS};
 use crate::common::numbers::*;
-
-pub fn timer_word(timer: usize, word: u32) -> u32 {
-    TIMER_BASE + TIMER_STRIDE * timer as u32 + word
-}
 
 /// Rate, run, interrupt, pending: the control bits that do something.
 const CONTROLS: [u32; 10] =

@@ -7,7 +7,7 @@ use super::flash::frame;
 use super::limits::TAME;
 use super::list::List;
 use super::panel::command;
-use super::timers::timer_word;
+use crate::common::device::timer_word;
 use crate::common::numbers::*;
 
 pub fn wipes(author: &mut Author) {

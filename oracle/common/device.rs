@@ -24,6 +24,11 @@ same! {
 }
 const _: () = assert!(numbers::GPIO_BYTES == sys::GPIO_SIZE);
 
+/// The address of a timer's word.
+pub fn timer_word(timer: usize, word: u32) -> u32 {
+    numbers::TIMER_BASE + numbers::TIMER_STRIDE * timer as u32 + word
+}
+
 /// The fresh state; RAM begins with `image`, and the rest is zero.
 pub fn fresh(image: &[u8]) -> sys::System {
     let mut system = sys::System::new(image);

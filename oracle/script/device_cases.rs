@@ -5,7 +5,7 @@ use crate::bus::clocks::*;
 use crate::bus::flash::*;
 use crate::bus::list::List;
 use crate::bus::panel::{command, dma};
-use crate::bus::timers::timer_word;
+use crate::common::device::timer_word;
 use crate::common::numbers::*;
 
 pub fn devices(list: &mut List) {

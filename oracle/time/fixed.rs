@@ -2,6 +2,7 @@
 //! and each edge at least once, in little text, then random steps.
 
 use crate::clocks::*;
+use crate::common::device::timer_word;
 use crate::common::edges::*;
 use crate::common::generator::{expect, take_turns, Authorship};
 use crate::common::numbers::*;

@@ -1,11 +1,11 @@
 //! Lists at the limits of time and turbo, and lists over state that no other
 //! list would reach.
 
+use crate::common::device::timer_word;
 use crate::common::edges::*;
 use crate::common::numbers::*;
 use crate::families::Author;
 use crate::steps::ADVANCE;
-use crate::timers::timer_word;
 
 /// Everything that can be put, some places twice or more, and four that are
 /// no place.

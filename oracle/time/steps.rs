@@ -1,6 +1,6 @@
 //! The steps of a list for the time devices (timers, sound, clocks, ADC), and
 //! how document 000 answers them. What the paper adds to document 000, the
-//! refusals, is decided here, by the limits in `limits.rs`.
+//! refusals, is decided here, by the limits in `common/limits.rs`.
 
 use crate::common::device::fresh;
 use crate::common::numbers::{self, *};

@@ -1,15 +1,12 @@
 //! Lists for the timers, and for the sound that follows one of them.
 
+use crate::common::device::timer_word;
 use crate::common::edges::{fraction, off, CLOCKS, RELOADS, SOUND_RELOADS};
 use crate::common::numbers::*;
 use crate::families::Author;
 
 /// The control bits that do something: rate, run, interrupt, pending.
 const CONTROL_BITS: [u32; 4] = [0x0001, 0x2000, 0x4000, 0x8000];
-
-pub fn timer_word(timer: usize, word: u32) -> u32 {
-    TIMER_BASE + TIMER_STRIDE * timer as u32 + word
-}
 
 /// One of the 16 combinations of the control bits.
 pub fn control_bits(combination: usize) -> u32 {
