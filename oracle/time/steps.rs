@@ -3,12 +3,11 @@
 //! refusals, is decided here, by the limits in `common/limits.rs`.
 
 use crate::common::device::fresh;
+use crate::common::limits::*;
 use crate::common::numbers::{self, *};
 use crate::common::step::*;
 use crate::cpu::Bus;
 use crate::sys::System;
-
-pub use crate::common::limits::*;
 
 /// The kinds that a script has, too.
 pub const READ: u64 = numbers::READ as u64;
