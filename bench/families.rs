@@ -1,8 +1,9 @@
 //! What is timed: a script for each thing that a unit's program does, as many
 //! steps of it as a script holds. No step is refused.
 
-use crate::bus::map::takes_room;
+use crate::bus::map::{takes_room, OTHER_WORD, TONE_WORDS};
 use crate::bytes::{Press, ScriptStep};
+use crate::common::device::timer_word;
 use crate::common::numbers::*;
 use crate::common::random::Random;
 
@@ -81,12 +82,12 @@ impl Family {
 /// The words of its own storage that a read shows as written.
 #[rustfmt::skip]
 const PLAIN: [u32; 7] = [
-    0xC009_0004, 0xC009_0008, 0xD000_001C, 0xD010_0030, 0xD010_0038, 0xD050_016C, 0xD050_0188,
+    RTC_ADDRESS, RTC_DATA, CLOCK_SWITCH, INTC_MASK, INTC_DISABLE, LCD_DATA, LCD_ENABLE,
 ];
 
 /// The ranges of register words: where each begins, and how many words it has.
 const REGISTERS: [(u32, usize); 3] =
-    [(0xC000_1000, 0x3F_FC00), (0xD000_0000, 0x40_0000), (0xFF00_0000, 0x3F_FC00)];
+    [(REGISTERS_C, 0x3F_FC00), (REGISTERS_D, 0x40_0000), (REGISTERS_F, 0x3F_FC00)];
 
 /// Words that come and go: so many are there, and as many are away.
 const SOME: usize = 64;
@@ -97,16 +98,16 @@ impl Author {
     }
 
     fn read(&mut self, address: u32) {
-        self.step(1, 4, address, 0);
+        self.step(READ, 4, address, 0);
     }
 
     fn write(&mut self, address: u32, value: u32) {
-        self.step(2, 4, address, value.into());
+        self.step(WRITE, 4, address, value.into());
     }
 
     fn go(&mut self, seconds: f64) {
         self.now += seconds;
-        self.step(3, 0, 0, self.now.to_bits());
+        self.step(ADVANCE, 0, 0, self.now.to_bits());
     }
 
     fn below(&mut self, limit: usize) -> u32 {
@@ -115,16 +116,16 @@ impl Author {
 
     fn memory(&mut self, sizes: &[u8]) {
         let size = self.random.pick(sizes);
-        let memories = [(0x2000_0000, 0x100_0000), (0xF800_0000, 0x10_0000)];
+        let memories = [(FLASH_BASE, RAM_BYTES), (SRAM_BASE, SRAM_BYTES)];
         let (base, length) = self.random.pick(&memories);
         let address = base + self.below(length / 4) * 4;
         let value = self.random.next() & 0xFFFF_FFFF;
-        self.step(2, size, address, value);
-        self.step(1, size, address, 0);
+        self.step(WRITE, size, address, value);
+        self.step(READ, size, address, 0);
     }
 
     fn gpio(&mut self) {
-        let address = 0xC000_0000 + 4 * self.below(1024);
+        let address = GPIO_BASE + 4 * self.below(GPIO_BYTES / 4);
         self.write(address, address);
         self.read(address);
     }
@@ -143,14 +144,14 @@ impl Author {
     }
 
     fn others(&mut self, count: usize) {
-        let word = 0xC010_0000 + 4 * self.below(count);
+        let word = OTHER_WORD + 4 * self.below(count);
         self.fill(word);
     }
 
     fn zeros(&mut self) {
         if self.steps.is_empty() {
             for n in 0..256 {
-                self.write(0xC010_0000 + 4 * n, 1);
+                self.write(OTHER_WORD + 4 * n, 1);
             }
         }
         let word = 0xC020_0000 + 4 * self.below(4096);
@@ -212,58 +213,59 @@ impl Author {
     }
 
     fn timer_words(&mut self) {
-        let base = 0xC002_0000 + 0x20 * self.random.pick(&[0, 1, 2, 3, 5]);
+        let timer = self.random.pick(&[0, 1, 2, 3, 5]);
+        let control = timer_word(timer, TIMER_CONTROL);
         let reload = self.below(65_536);
-        self.write(base + 8, reload);
-        self.write(base, 0x6000);
+        self.write(timer_word(timer, TIMER_RELOAD), reload);
+        self.write(control, 0x6000);
         self.go(0.000_1);
-        self.read(base);
-        self.read(base + 0x10);
-        self.write(base, 0x8000);
+        self.read(control);
+        self.read(timer_word(timer, TIMER_COUNTER));
+        self.write(control, 0x8000);
     }
 
     fn time_of_day(&mut self) {
-        let word = 0xC004_0000 + 4 * self.below(3);
+        let word = DAY_SECONDS + 4 * self.below(3);
         let value = self.below(60);
         self.write(word, value);
         self.read(word);
         self.go(0.3);
-        self.write(0xC004_0054, 2);
+        self.write(RTC_STATUS, 2);
     }
 
     fn rtc(&mut self) {
         let (register, data) = (self.below(0x36), self.below(256));
-        self.write(0xC009_0004, register);
-        self.write(0xC009_0008, data);
-        self.write(0xC009_000C, 1);
-        self.write(0xC009_000C, 2);
-        self.read(0xC009_0014);
+        self.write(RTC_ADDRESS, register);
+        self.write(RTC_DATA, data);
+        self.write(RTC_COMMAND, 1);
+        self.write(RTC_COMMAND, 2);
+        self.read(RTC_OUT);
     }
 
     fn interrupts(&mut self) {
         let mask = self.random.next() as u32;
-        self.write(0xD010_0030, mask);
-        self.read(0xD010_0028);
-        self.write(0xC00C_0004, 0x4040);
+        self.write(INTC_MASK, mask);
+        self.read(INTC_PENDING);
+        self.write(ADC_CONTROL, 0x4040);
         self.go(0.001);
-        self.read(0xC00C_0008);
-        self.write(0xD050_018C, 0x2000);
+        self.read(ADC_VALUE);
+        self.write(LCD_STATUS, 0x2000);
     }
 
     fn spi(&mut self) {
         let byte = self.below(256);
-        self.write(0xC008_0008, byte);
-        self.read(0xC008_000C);
-        self.read(0xC008_0010);
+        self.write(SPI2_START, byte);
+        self.read(SPI2_STATE);
+        self.read(SPI2_VALUE);
     }
 
     /// One transaction, without its answers.
     fn send(&mut self, bytes: &[u8]) {
-        self.write(0xC015_0000, 0x40);
+        self.write(FLASH_SELECT, FLASH_SELECTED);
         for &byte in bytes {
-            self.write(0xC015_0008, byte.into());
+            self.write(FLASH_TRANSFER, byte.into());
         }
-        self.write(0xC015_0000, 0);
+        self.write(FLASH_SELECT, 0);
     }
 
     fn with_address(&mut self, command: u8) -> [u8; 4] {
@@ -274,12 +276,12 @@ impl Author {
     fn flash_read(&mut self, count: usize) {
         let mut bytes = self.with_address(0x03).to_vec();
         bytes.resize(bytes.len() + count, 0);
-        self.write(0xC015_0000, 0x40);
+        self.write(FLASH_SELECT, FLASH_SELECTED);
         for byte in bytes {
-            self.write(0xC015_0008, byte.into());
-            self.read(0xC015_000C);
+            self.write(FLASH_TRANSFER, byte.into());
+            self.read(FLASH_ANSWER);
         }
-        self.write(0xC015_0000, 0);
+        self.write(FLASH_SELECT, 0);
     }
 
     fn flash_program(&mut self) {
@@ -301,11 +303,11 @@ impl Author {
     }
 
     fn command(&mut self, command: u8, words: &[u32]) {
-        self.write(0xD050_016C, command.into());
-        self.write(0xD050_0140, 0x81);
+        self.write(LCD_DATA, command.into());
+        self.write(LCD_CONTROL, SEND_COMMAND);
         for &word in words {
-            self.write(0xD050_016C, word);
-            self.write(0xD050_0140, 0xA1);
+            self.write(LCD_DATA, word);
+            self.write(LCD_CONTROL, SEND_TWO);
         }
     }
 
@@ -318,8 +320,8 @@ impl Author {
 
     fn pixel(&mut self) {
         let pixel = self.below(65_536);
-        self.write(0xD050_016C, pixel);
-        self.write(0xD050_0140, 0xA1);
+        self.write(LCD_DATA, pixel);
+        self.write(LCD_CONTROL, SEND_TWO);
     }
 
     fn windows(&mut self) {
@@ -330,30 +332,31 @@ impl Author {
     }
 
     fn dma(&mut self) {
-        let address = 0x2000_0000 + 4 * self.below(0x3F_0000);
-        self.write(0xD050_033C, address);
-        self.write(0xD050_0140, 0xD1);
+        let address = FLASH_BASE + 4 * self.below(0x3F_0000);
+        self.write(LCD_PICTURE, address);
+        self.write(LCD_CONTROL, START_DMA);
     }
 
     fn sound(&mut self) {
         let reload = self.below(65_536);
-        self.write(0xC002_0088, reload);
-        self.write(0xC002_008C, (reload + 65_536) / 2);
-        self.write(0xC002_0080, 0x2000);
-        self.write(0xC002_0080, 0);
-        self.step(9, 0, 0, 0);
-        self.step(9, 0, 0, 0);
+        let [control, reload_word, compare] = TONE_WORDS;
+        self.write(reload_word, reload);
+        self.write(compare, (reload + 65_536) / 2);
+        self.write(control, 0x2000);
+        self.write(control, 0);
+        self.step(SOUND, 0, 0, 0);
+        self.step(SOUND, 0, 0, 0);
     }
 
     fn six_timers(&mut self) {
         if self.steps.is_empty() {
-            for n in 0..6 {
-                self.write(0xC002_0008 + 0x20 * n, 0xFC18 + 7 * n);
-                self.write(0xC002_0000 + 0x20 * n, 0x6000);
+            for n in 0..TIMER_COUNT {
+                self.write(timer_word(n, TIMER_RELOAD), 0xFC18 + 7 * n as u32);
+                self.write(timer_word(n, TIMER_CONTROL), 0x6000);
             }
         }
         self.go(0.000_1);
-        self.step(4, 0, 0, 0);
+        self.step(NEXT, 0, 0, 0);
     }
 
     fn advance(&mut self) {
@@ -369,18 +372,18 @@ impl Author {
     }
 
     fn next(&mut self) {
-        self.step(4, 0, 0, 0);
-        self.step(5, 0, 0, 0);
+        self.step(NEXT, 0, 0, 0);
+        self.step(PENDING, 0, 0, 0);
     }
 
     fn rest(&mut self) {
         let key = self.below(3);
-        self.step(7, 0, key, 1);
-        self.step(8, 0, key, 1.5f64.to_bits());
+        self.step(KEY, 0, key, 1);
+        self.step(HOLD, 0, key, 1.5f64.to_bits());
         let pixel = self.below(16_384);
-        self.step(11, 0, pixel, 0);
-        self.step(10, 0, 0, 0);
-        self.step(6, 0, 0, 2.0f64.to_bits());
+        self.step(COLOUR, 0, pixel, 0);
+        self.step(COUNTERS, 0, 0, 0);
+        self.step(TURBO, 0, 0, 2.0f64.to_bits());
     }
 
     /// What a program does, in turns of some steps. Of 100 steps 72 read or write memory, 7 are
@@ -408,10 +411,10 @@ impl Author {
 
     fn key(&mut self) {
         let (key, down) = (self.below(3), self.below(2));
-        self.step(7, 0, key, down.into());
+        self.step(KEY, 0, key, down.into());
     }
 
     fn wipes(&mut self) {
-        self.step(12, 0, 0, 0);
+        self.step(WIPE, 0, 0, 0);
     }
 }

@@ -4,6 +4,7 @@ use super::kinds::{READ, WRITE};
 use super::list::List;
 use super::map::{own_words, NEVER_STORED, OTHER_WORD};
 use super::memory::STRAY;
+use crate::common::device::timer_word;
 use crate::common::generator::expect;
 use crate::common::numbers::*;
 
@@ -165,7 +166,7 @@ pub fn every_own_word(list: &mut List) {
         }
     }
     look_stored(list);
-    for word in [TIMER_BASE, TIMER_BASE + 0x10, RTC_OUT, FLASH_ANSWER] {
+    for word in [TIMER_BASE, timer_word(0, TIMER_COUNTER), RTC_OUT, FLASH_ANSWER] {
         for (size, part) in [(1, 1), (2, 1), (4, 3), (4, 0)] {
             list.read_sized(size, word + part);
         }

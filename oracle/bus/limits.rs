@@ -2,7 +2,7 @@
 
 use super::families::{Author, FAMILIES};
 use super::kinds::{ADVANCE, HOLD, LIVE, PRESS, READ, WRITE};
-use super::map::OTHER_WORD;
+use super::map::{OTHER_WORD, TONE_WORDS};
 use crate::common::edges::{fraction, TIME_EDGES, TURBO_EDGES};
 use crate::common::numbers::*;
 
@@ -55,7 +55,7 @@ impl Author {
     /// Sizes come before all else, and before the address.
     fn any_size(&mut self) {
         let address = self.address();
-        let address = self.random.pick(&[address, OTHER_WORD, 0x1000_0000, TIMER_BASE + 0x80]);
+        let address = self.random.pick(&[address, OTHER_WORD, 0x1000_0000, TONE_WORDS[0]]);
         let kind = self.random.pick(&[READ, WRITE]);
         for _ in 0..4 {
             let size = self.random.pick(&[0, 3, 5, 6, 7, 8, 9, 10, 11, 12, 13, 14, 15]);

@@ -1,6 +1,7 @@
 //! Where an address lies, and which register words have storage of their own:
 //! the paper's map.
 
+use crate::common::device::timer_word;
 use crate::common::numbers::*;
 use crate::sys::System;
 use crate::{RAM_SIZE, SRAM_LENGTH};
@@ -46,7 +47,11 @@ pub const NEVER_STORED: [u32; 3] = [DAY_SECONDS, DAY_MINUTES, DAY_HOURS];
 pub const OTHER_WORD: u32 = 0xC010_0000;
 
 /// The words that a tone follows.
-pub const TONE_WORDS: [u32; 3] = [TIMER_BASE + 0x80, TIMER_BASE + 0x88, TIMER_BASE + 0x8C];
+pub const TONE_WORDS: [u32; 3] = [
+    timer_word(SOUND_TIMER, TIMER_CONTROL),
+    timer_word(SOUND_TIMER, TIMER_RELOAD),
+    timer_word(SOUND_TIMER, TIMER_COMPARE),
+];
 
 pub fn own_words() -> impl Iterator<Item = u32> {
     (0..TIMER_WORDS).map(|at| TIMER_BASE + 4 * at).chain(OWN)

@@ -25,7 +25,7 @@ same! {
 const _: () = assert!(numbers::GPIO_BYTES == sys::GPIO_SIZE);
 
 /// The address of a timer's word.
-pub fn timer_word(timer: usize, word: u32) -> u32 {
+pub const fn timer_word(timer: usize, word: u32) -> u32 {
     numbers::TIMER_BASE + numbers::TIMER_STRIDE * timer as u32 + word
 }
 

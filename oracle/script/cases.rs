@@ -4,6 +4,7 @@ use crate::bus::families::{Author, FAMILIES};
 use crate::bus::limits::LARGE;
 use crate::bus::list::List;
 use crate::bytes::{out_length, Script};
+use crate::common::device::timer_word;
 use crate::common::generator::{Authorship, Family};
 use crate::common::numbers::*;
 use crate::common::random::Random;
@@ -127,7 +128,8 @@ fn end(author: &mut Author, random: &mut Random) {
 
 pub fn look_a_little(list: &mut List) {
     list.look_state();
-    for word in [KEY_LINES, TIMER_BASE + 0x90, DAY_SECONDS, FLASH_ANSWER, LCD_STATUS, SYSCLK_VAR] {
+    let counter = timer_word(SOUND_TIMER, TIMER_COUNTER);
+    for word in [KEY_LINES, counter, DAY_SECONDS, FLASH_ANSWER, LCD_STATUS, SYSCLK_VAR] {
         list.read(word);
     }
     list.take();
