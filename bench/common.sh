@@ -20,11 +20,14 @@ instructions() {
 }
 
 # Of each family with this in its name a line: its steps, the Rust's
-# instructions, the port's (0 if there are none to read), and its name.
+# instructions, the port's (0 if there are none to read), and its name. Both
+# sides are counted at once: a count does not depend on what else runs.
 counts() {
     "$out/bench" families | grep -F -- "$1" | while read -r number steps name; do
-        rust=$(instructions "$number" rust)
+        instructions "$number" rust >"$out/rust_count" &
         port=$(instructions "$number" port)
+        wait
+        rust=$(cat "$out/rust_count")
         printf '%s %s %s %s\n' "$steps" "${rust:-0}" "${port:-0}" "$name"
     done
 }

@@ -214,23 +214,23 @@ impl Author {
 
     fn timer_words(&mut self) {
         let timer = self.random.pick(&[0, 1, 2, 3, 5]);
-        let control = timer_word(timer, TIMER_CONTROL);
+        let control = timer_word(timer, CONTROL_AT);
         let reload = self.below(65_536);
-        self.write(timer_word(timer, TIMER_RELOAD), reload);
+        self.write(timer_word(timer, RELOAD_AT), reload);
         self.write(control, 0x6000);
         self.go(0.000_1);
         self.read(control);
-        self.read(timer_word(timer, TIMER_COUNTER));
+        self.read(timer_word(timer, COUNTER_AT));
         self.write(control, 0x8000);
     }
 
     fn time_of_day(&mut self) {
-        let word = DAY_SECONDS + 4 * self.below(3);
+        let word = RTC_SECONDS + 4 * self.below(3);
         let value = self.below(60);
         self.write(word, value);
         self.read(word);
         self.go(0.3);
-        self.write(RTC_STATUS, 2);
+        self.write(RTC_IRQ_STATUS, 2);
     }
 
     fn rtc(&mut self) {
@@ -248,24 +248,24 @@ impl Author {
         self.read(INTC_PENDING);
         self.write(ADC_CONTROL, 0x4040);
         self.go(0.001);
-        self.read(ADC_VALUE);
+        self.read(ADC_RESULT);
         self.write(LCD_STATUS, 0x2000);
     }
 
     fn spi(&mut self) {
         let byte = self.below(256);
-        self.write(SPI2_START, byte);
-        self.read(SPI2_STATE);
-        self.read(SPI2_VALUE);
+        self.write(SPI2_SEND, byte);
+        self.read(SPI2_STATUS);
+        self.read(SPI2_ANSWER);
     }
 
     /// One transaction, without its answers.
     fn send(&mut self, bytes: &[u8]) {
-        self.write(FLASH_SELECT, FLASH_SELECTED);
+        self.write(SPIFC_SELECT, FLASH_SELECTED);
         for &byte in bytes {
-            self.write(FLASH_TRANSFER, byte.into());
+            self.write(SPIFC_SEND, byte.into());
         }
-        self.write(FLASH_SELECT, 0);
+        self.write(SPIFC_SELECT, 0);
     }
 
     fn with_address(&mut self, command: u8) -> [u8; 4] {
@@ -276,12 +276,12 @@ impl Author {
     fn flash_read(&mut self, count: usize) {
         let mut bytes = self.with_address(0x03).to_vec();
         bytes.resize(bytes.len() + count, 0);
-        self.write(FLASH_SELECT, FLASH_SELECTED);
+        self.write(SPIFC_SELECT, FLASH_SELECTED);
         for byte in bytes {
-            self.write(FLASH_TRANSFER, byte.into());
-            self.read(FLASH_ANSWER);
+            self.write(SPIFC_SEND, byte.into());
+            self.read(SPIFC_ANSWER);
         }
-        self.write(FLASH_SELECT, 0);
+        self.write(SPIFC_SELECT, 0);
     }
 
     fn flash_program(&mut self) {
@@ -333,7 +333,7 @@ impl Author {
 
     fn dma(&mut self) {
         let address = FLASH_BASE + 4 * self.below(0x3F_0000);
-        self.write(LCD_PICTURE, address);
+        self.write(LCD_DMA, address);
         self.write(LCD_CONTROL, START_DMA);
     }
 
@@ -351,8 +351,8 @@ impl Author {
     fn six_timers(&mut self) {
         if self.steps.is_empty() {
             for n in 0..TIMER_COUNT {
-                self.write(timer_word(n, TIMER_RELOAD), 0xFC18 + 7 * n as u32);
-                self.write(timer_word(n, TIMER_CONTROL), 0x6000);
+                self.write(timer_word(n, RELOAD_AT), 0xFC18 + 7 * n as u32);
+                self.write(timer_word(n, CONTROL_AT), 0x6000);
             }
         }
         self.go(0.000_1);

@@ -11,7 +11,7 @@ import traceback
 from pathlib import Path
 from typing import List, Optional, Tuple
 
-from . import build, names
+from . import build, names, numbers
 from .layout import Entry, answers_in, packed, unpacked
 from .lines import answer_lines
 from .png import png_of
@@ -83,7 +83,7 @@ def ran(words: List[str], script: bytes) -> bytes:
 
 
 def write_screen(path: str, colours: Path) -> None:
-    picture = png_of(names.SCREEN_WIDTH, names.SCREEN_HEIGHT, colours.read_bytes())
+    picture = png_of(numbers.LCD_W, numbers.LCD_H, colours.read_bytes())
     try:
         Path(path).write_bytes(picture)
     except OSError as error:
@@ -99,7 +99,7 @@ def check_once(files: List[Tuple[str, str]]) -> None:
 
 def run(options: argparse.Namespace) -> None:
     check_once(options.memory)
-    script, entries, numbers = script_in(options.file, script_bytes(options.file))
+    script, entries, line_numbers = script_in(options.file, script_bytes(options.file))
     kit = build.Kit()
     words = kit.starts(build.program(kit, "runner"))
     for verb, files in (("load", options.memory), ("dump", options.dump)):
@@ -112,7 +112,7 @@ def run(options: argparse.Namespace) -> None:
     if options.binary:
         sys.stdout.buffer.write(out)
     else:
-        for line in answer_lines(unpacked(script) if entries is None else entries, numbers, answers_in(out)):
+        for line in answer_lines(unpacked(script) if entries is None else entries, line_numbers, answers_in(out)):
             print(line)
     sys.stdout.flush()
 

@@ -5,7 +5,7 @@ from __future__ import annotations
 import struct
 from typing import List, NamedTuple
 
-from .names import PRESS
+from .numbers import ANSWER_BYTES, PRESS, PRESS_BYTES, STEP_BYTES
 
 
 class Entry(NamedTuple):
@@ -42,12 +42,12 @@ def packed(presses: List[Entry], steps: List[Entry]) -> bytes:
 def unpacked(script: bytes) -> List[Entry]:
     """Of a script that was not refused."""
     presses = struct.unpack_from("<I", script, 0)[0]
-    steps = struct.unpack_from("<I", script, 4 + 9 * presses)[0]
-    entries = [Entry(PRESS, 0, *struct.unpack_from("<BQ", script, 4 + 9 * i)) for i in range(presses)]
-    first = 8 + 9 * presses
-    return entries + [Entry(*struct.unpack_from("<BBxxIQ", script, first + 16 * i)) for i in range(steps)]
+    steps = struct.unpack_from("<I", script, 4 + PRESS_BYTES * presses)[0]
+    entries = [Entry(PRESS, 0, *struct.unpack_from("<BQ", script, 4 + PRESS_BYTES * i)) for i in range(presses)]
+    first = 8 + PRESS_BYTES * presses
+    return entries + [Entry(*struct.unpack_from("<BBxxIQ", script, first + STEP_BYTES * i)) for i in range(steps)]
 
 
 def answers_in(out: bytes) -> List[Answer]:
     count = struct.unpack_from("<I", out, 0)[0]
-    return [Answer(*struct.unpack_from("<BQQQ", out, 4 + 25 * i)) for i in range(count)]
+    return [Answer(*struct.unpack_from("<BQQQ", out, 4 + ANSWER_BYTES * i)) for i in range(count)]

@@ -4,22 +4,22 @@ from __future__ import annotations
 
 from typing import Callable, Dict, List, Optional
 
-from . import names
+from . import names, numbers
 from .layout import Answer, Entry, float_of
 from .text import written
 
 SAID: Dict[int, Callable[[Answer], str]] = {
-    names.READ: lambda x: f"0x{x.a:08x}",
-    names.NEXT: lambda x: f"{float_of(x.a)!r} bits 0x{x.a:016x}",
-    names.PENDING: lambda x: f"interrupt {x.a}" if x.a else "no interrupt",
-    names.SOUND: lambda x: f"time {float_of(x.a)!r} frequency {float_of(x.b)!r} duty {float_of(x.c)!r}",
-    names.COUNTERS: lambda x: f"frames {x.a} flash writes {x.b} {'off' if x.c else 'on'}",
-    names.COLOUR: lambda x: f"red {x.a >> 16} green {x.a >> 8 & 255} blue {x.a & 255}",
+    numbers.READ: lambda x: f"0x{x.a:08x}",
+    numbers.NEXT: lambda x: f"{float_of(x.a)!r} bits 0x{x.a:016x}",
+    numbers.PENDING: lambda x: f"interrupt {x.a}" if x.a else "no interrupt",
+    numbers.SOUND: lambda x: f"time {float_of(x.a)!r} frequency {float_of(x.b)!r} duty {float_of(x.c)!r}",
+    numbers.COUNTERS: lambda x: f"frames {x.a} flash writes {x.b} {'off' if x.c else 'on'}",
+    numbers.COLOUR: lambda x: f"red {x.a >> 16} green {x.a >> 8 & 255} blue {x.a & 255}",
 }
 
 
 def said(entry: Entry, answer: Answer) -> str:
-    return SAID[entry.kind](answer) if answer.refusal == 0 and entry.kind in SAID else ""
+    return SAID[entry.kind](answer) if answer.refusal == numbers.DONE and entry.kind in SAID else ""
 
 
 def table(rows: List[List[str]]) -> List[str]:
@@ -29,9 +29,9 @@ def table(rows: List[List[str]]) -> List[str]:
     return ["  ".join(row).rstrip() for row in cells]
 
 
-def answer_lines(entries: List[Entry], numbers: Optional[List[int]], answers: List[Answer]) -> List[str]:
+def answer_lines(entries: List[Entry], line_numbers: Optional[List[int]], answers: List[Answer]) -> List[str]:
     rows = []
     for i, (entry, answer) in enumerate(zip(entries, answers)):
-        line = [f"line {numbers[i]}"] if numbers else []
+        line = [f"line {line_numbers[i]}"] if line_numbers else []
         rows.append([str(i + 1), *line, written(entry), names.refusal_name(answer.refusal), said(entry, answer)])
     return table(rows)

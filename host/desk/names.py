@@ -1,15 +1,27 @@
-"""Numbers and their names: refusals, kinds, keys, memories."""
+"""What numbers are called in the command's lines: refusals, keys, memories."""
 
-REFUSALS = ["done", "BadTime", "BadTurbo", "KeysFull", "RegistersFull", "SoundFull", "StrayWrite", "BadMemory", "BadKey", "BadSize",
-            "BadScript", "OutTooShort", "NoEvent", "NoNextTime"]
+from . import numbers
 
-PRESS, READ, WRITE, ADVANCE, NEXT, PENDING, TURBO, KEY, HOLD, SOUND, COUNTERS, COLOUR, WIPE = range(13)
+REFUSALS = {
+    numbers.DONE: "done",
+    numbers.BAD_TIME: "BadTime",
+    numbers.BAD_TURBO: "BadTurbo",
+    numbers.KEYS_FULL: "KeysFull",
+    numbers.REGISTERS_FULL: "RegistersFull",
+    numbers.SOUND_FULL: "SoundFull",
+    numbers.STRAY_WRITE: "StrayWrite",
+    numbers.BAD_MEMORY: "BadMemory",
+    numbers.BAD_KEY: "BadKey",
+    numbers.BAD_SIZE: "BadSize",
+    numbers.BAD_SCRIPT: "BadScript",
+    numbers.OUT_TOO_SHORT: "OutTooShort",
+    numbers.NO_EVENT: "NoEvent",
+    numbers.NO_NEXT_TIME: "NoNextTime",
+}
 
 KEYS = ["A", "B", "C"]
 MEMORIES = ["ram", "sram", "gpio", "framebuffer"]
-SCREEN_WIDTH = 128
-SCREEN_HEIGHT = 128
 
 
 def refusal_name(number: int) -> str:
-    return REFUSALS[number] if number < len(REFUSALS) else f"refusal {number}"
+    return REFUSALS.get(number, f"refusal {number}")

@@ -6,7 +6,7 @@ import math
 import re
 from typing import Callable, Dict, List, NamedTuple, Tuple
 
-from . import names
+from . import names, numbers
 from .layout import Entry, bits_of, float_of
 
 WHOLE = re.compile(r"0x[0-9a-f]+(_[0-9a-f]+)*|[0-9]+(_[0-9]+)*", re.ASCII)
@@ -79,19 +79,20 @@ def read_step(w: Words) -> Entry:
 
 
 READERS: Dict[str, Callable[[Words], Entry]] = {
-    "press": lambda w: Entry(names.PRESS, 0, w.key(BYTE), w.float("the time")),
-    "read": lambda w: Entry(names.READ, w.whole("the size", BYTE), w.whole("the address", WORD)),
-    "write": lambda w: Entry(names.WRITE, w.whole("the size", BYTE), w.whole("the address", WORD), w.whole("the value", WORD)),
-    "advance": lambda w: Entry(names.ADVANCE, value=w.float("the time")),
-    "next": lambda w: Entry(names.NEXT),
-    "pending": lambda w: Entry(names.PENDING),
-    "turbo": lambda w: Entry(names.TURBO, value=w.float("the factor")),
-    "key": lambda w: Entry(names.KEY, 0, w.key(WORD), w.down()),
-    "hold": lambda w: Entry(names.HOLD, 0, w.key(WORD), w.float("the time")),
-    "sound": lambda w: Entry(names.SOUND),
-    "counters": lambda w: Entry(names.COUNTERS),
-    "colour": lambda w: Entry(names.COLOUR, 0, w.whole("the pixel", WORD)),
-    "wipe": lambda w: Entry(names.WIPE),
+    "press": lambda w: Entry(numbers.PRESS, 0, w.key(BYTE), w.float("the time")),
+    "read": lambda w: Entry(numbers.READ, w.whole("the size", BYTE), w.whole("the address", WORD)),
+    "write": lambda w: Entry(numbers.WRITE, w.whole("the size", BYTE), w.whole("the address", WORD),
+                             w.whole("the value", WORD)),
+    "advance": lambda w: Entry(numbers.ADVANCE, value=w.float("the time")),
+    "next": lambda w: Entry(numbers.NEXT),
+    "pending": lambda w: Entry(numbers.PENDING),
+    "turbo": lambda w: Entry(numbers.TURBO, value=w.float("the factor")),
+    "key": lambda w: Entry(numbers.KEY, 0, w.key(WORD), w.down()),
+    "hold": lambda w: Entry(numbers.HOLD, 0, w.key(WORD), w.float("the time")),
+    "sound": lambda w: Entry(numbers.SOUND),
+    "counters": lambda w: Entry(numbers.COUNTERS),
+    "colour": lambda w: Entry(numbers.COLOUR, 0, w.whole("the pixel", WORD)),
+    "wipe": lambda w: Entry(numbers.WIPE),
     "step": read_step,
 }
 
@@ -146,19 +147,19 @@ def step_text(e: Entry) -> str:
 
 
 WRITERS: Dict[int, Callable[[Entry], str]] = {
-    names.PRESS: lambda e: f"press {key_text(e.address)} {float_text(e.value)}",
-    names.READ: lambda e: f"read {e.size} 0x{e.address:08x}",
-    names.WRITE: lambda e: f"write {e.size} 0x{e.address:08x} 0x{e.value:x}",
-    names.ADVANCE: lambda e: f"advance {float_text(e.value)}",
-    names.NEXT: lambda e: "next",
-    names.PENDING: lambda e: "pending",
-    names.TURBO: lambda e: f"turbo {float_text(e.value)}",
-    names.KEY: lambda e: f"key {key_text(e.address)} {'down' if e.value else 'up'}",
-    names.HOLD: lambda e: f"hold {key_text(e.address)} {float_text(e.value)}",
-    names.SOUND: lambda e: "sound",
-    names.COUNTERS: lambda e: "counters",
-    names.COLOUR: lambda e: f"colour {e.address}",
-    names.WIPE: lambda e: "wipe",
+    numbers.PRESS: lambda e: f"press {key_text(e.address)} {float_text(e.value)}",
+    numbers.READ: lambda e: f"read {e.size} 0x{e.address:08x}",
+    numbers.WRITE: lambda e: f"write {e.size} 0x{e.address:08x} 0x{e.value:x}",
+    numbers.ADVANCE: lambda e: f"advance {float_text(e.value)}",
+    numbers.NEXT: lambda e: "next",
+    numbers.PENDING: lambda e: "pending",
+    numbers.TURBO: lambda e: f"turbo {float_text(e.value)}",
+    numbers.KEY: lambda e: f"key {key_text(e.address)} {'down' if e.value else 'up'}",
+    numbers.HOLD: lambda e: f"hold {key_text(e.address)} {float_text(e.value)}",
+    numbers.SOUND: lambda e: "sound",
+    numbers.COUNTERS: lambda e: "counters",
+    numbers.COLOUR: lambda e: f"colour {e.address}",
+    numbers.WIPE: lambda e: "wipe",
 }
 
 

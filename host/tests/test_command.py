@@ -9,6 +9,7 @@ import unittest
 import zlib
 from pathlib import Path
 
+from desk import numbers
 from desk.build import ROOT
 
 FOUR_BYTES = b"write 4 0x20000000 0x11223344\nread 4 0x20000000\n"
@@ -80,16 +81,16 @@ class Command(unittest.TestCase):
         self.expect(tg18("run", "-", stdin=b"\0" * 9), 1, "refused as a whole: BadScript (10)")
         self.expect(tg18("run", "-", stdin=b"step 13 0 0 0\n"), 1, "BadScript")
         self.expect(tg18("run", "-", stdin=b"step 0 0 0 0\n"), 1, "BadScript")
-        self.expect(tg18("run", "-", stdin=b"wipe\n" * 4097), 1, "BadScript")
+        self.expect(tg18("run", "-", stdin=b"wipe\n" * (numbers.MOST_STEPS + 1)), 1, "BadScript")
         self.expect(tg18("run", "-", stdin=bytes(3000000)), 1, "BadScript")
         dump = self.folder / "dump"
         tg18("run", "-", "--dump", f"ram={dump}", "--screen", dump, stdin=b"\0")
         self.assertFalse(dump.exists())
 
     def test_as_many_as_there_may_be(self):
-        done = tg18("run", "-", stdin=b"press A 0\n" * 4096 + b"next\n" * 4096)
+        done = tg18("run", "-", stdin=b"press A 0\n" * numbers.MOST_PRESSES + b"next\n" * numbers.MOST_STEPS)
         self.expect(done, 0)
-        self.assertEqual(len(done.stdout.splitlines()), 8192)
+        self.assertEqual(len(done.stdout.splitlines()), numbers.MOST_PRESSES + numbers.MOST_STEPS)
 
     def test_bad_lines(self):
         bad = self.file("bad.steps", b"wipe\nread 4\n\npress A 0\n")
@@ -112,14 +113,15 @@ class Command(unittest.TestCase):
         self.expect(tg18("run", "-", "--memory", f"ram={nowhere}"), 2, str(nowhere))
         self.expect(tg18("run", "-", "--dump", f"ram={nowhere}"), 2, str(nowhere))
         self.expect(tg18("run", "-", "--screen", nowhere), 2, str(nowhere))
-        long = self.file("long", bytes(4097))
+        long = self.file("long", bytes(numbers.GPIO_SIZE + 1))
         self.expect(tg18("run", "-", "--memory", f"gpio={long}"), 2, f"{long}: longer than the memory")
 
     def test_no_kit(self):
         self.expect(tg18("run", "-", env={**os.environ, "PATH": ""}), 2, "rt is not on PATH")
 
     def test_memories_in_and_out(self):
-        sizes = {"ram": 16777216, "sram": 1048576, "gpio": 4096, "framebuffer": 32768}
+        sizes = {"ram": numbers.RAM_SIZE, "sram": numbers.SRAM_SIZE, "gpio": numbers.GPIO_SIZE,
+                 "framebuffer": numbers.FRAMEBUFFER_SIZE}
         words = []
         for name, size in sizes.items():
             content = bytes([len(name)]) * (size if name == "gpio" else 1000)
@@ -131,11 +133,11 @@ class Command(unittest.TestCase):
             self.assertEqual((self.folder / f"{name}.out").read_bytes(), bytes(content), name)
 
     def test_screen(self):
-        pixels = [(i * 40503) & 0xFFFF for i in range(16384)]
-        memory = self.file("memory", struct.pack("<16384H", *pixels))
+        pixels = [(i * 40503) & 0xFFFF for i in range(numbers.LCD_W * numbers.LCD_H)]
+        memory = self.file("memory", struct.pack(f"<{len(pixels)}H", *pixels))
         screen = self.folder / "screen.png"
         self.expect(tg18("run", "-", "--memory", f"framebuffer={memory}", "--screen", screen), 0)
         width, height, colours = picture_in(screen.read_bytes())
-        self.assertEqual((width, height), (128, 128))
+        self.assertEqual((width, height), (numbers.LCD_W, numbers.LCD_H))
         expected = [((v >> 11) * 255 // 31, (v >> 5 & 63) * 255 // 63, (v & 31) * 255 // 31) for v in pixels]
         self.assertEqual(list(zip(*[iter(colours)] * 3)), expected)

@@ -130,7 +130,7 @@ pub fn merged_words(list: &mut List) {
     list.read(word + 4);
     // The same over words that do something when they are written.
     for (size, at) in [(1, 0), (2, 3), (4, 2)] {
-        for word in [RTC_STATUS, LCD_STATUS, ADC_CONTROL, TIMER_BASE, SPI2_START] {
+        for word in [RTC_IRQ_STATUS, LCD_STATUS, ADC_CONTROL, TIMER_BASE, SPI2_SEND] {
             list.write_sized(size, word + at, 0x0000_0203);
             list.read(word);
         }
@@ -166,7 +166,7 @@ pub fn every_own_word(list: &mut List) {
         }
     }
     look_stored(list);
-    for word in [TIMER_BASE, timer_word(0, TIMER_COUNTER), RTC_OUT, FLASH_ANSWER] {
+    for word in [TIMER_BASE, timer_word(0, COUNTER_AT), RTC_OUT, SPIFC_ANSWER] {
         for (size, part) in [(1, 1), (2, 1), (4, 3), (4, 0)] {
             list.read_sized(size, word + part);
         }

@@ -80,21 +80,21 @@ pub fn day(list: &mut List) {
         }
         list.read_sized(1, NEVER_STORED[0]);
         list.read_sized(2, NEVER_STORED[1] + 1);
-        list.read(RTC_STATUS);
-        list.write(RTC_STATUS, 2);
+        list.read(RTC_IRQ_STATUS);
+        list.write(RTC_IRQ_STATUS, 2);
     }
 }
 
 /// Each combination of what does something, over the one before it.
 pub fn adc_controls(list: &mut List) {
-    list.write(ADC_VALUE, 0x1234_5678);
+    list.write(ADC_RESULT, 0x1234_5678);
     for control in [0x4040, 0x0040, 0x4000, 0x4000, 0x8000, 0x40F0, 0x0000, 0xFFFF_FFFF, 0x7F7F] {
         list.write(ADC_CONTROL, control);
         list.read(ADC_CONTROL);
         list.next();
         list.pass(0.0);
         list.read(ADC_CONTROL);
-        list.read(ADC_VALUE);
+        list.read(ADC_RESULT);
         list.pending();
     }
     list.write_sized(1, ADC_CONTROL + 1, 0x00);
@@ -107,17 +107,17 @@ pub fn adc_controls(list: &mut List) {
 }
 
 pub fn ports_and_power(list: &mut List) {
-    list.write(SPI2_STATE, 0xFFFF_FFF0);
-    for (size, address) in [(4, SPI2_VALUE), (1, SPI2_VALUE + 3), (2, SPI2_VALUE + 1)] {
-        list.write(SPI2_VALUE, 0x1234_5678);
-        list.write_sized(1, SPI2_STATE, 0x0F);
-        list.peek32(SPI2_VALUE);
-        list.read(SPI2_STATE);
+    list.write(SPI2_STATUS, 0xFFFF_FFF0);
+    for (size, address) in [(4, SPI2_ANSWER), (1, SPI2_ANSWER + 3), (2, SPI2_ANSWER + 1)] {
+        list.write(SPI2_ANSWER, 0x1234_5678);
+        list.write_sized(1, SPI2_STATUS, 0x0F);
+        list.peek32(SPI2_ANSWER);
+        list.read(SPI2_STATUS);
         list.read_sized(size, address);
-        list.read(SPI2_STATE);
-        list.write_sized(size, SPI2_START, 0);
-        list.read(SPI2_STATE);
-        list.peek32(SPI2_VALUE);
+        list.read(SPI2_STATUS);
+        list.write_sized(size, SPI2_SEND, 0);
+        list.read(SPI2_STATUS);
+        list.peek32(SPI2_ANSWER);
     }
     for switch in [0x8000, 0xFFFF_7FFF, 0xFFFF_FFFF] {
         list.write(CLOCK_SWITCH, switch);

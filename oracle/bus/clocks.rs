@@ -43,7 +43,7 @@ pub fn clock(author: &mut Author) {
     for word in NEVER_STORED {
         author.get(word);
     }
-    author.list.read(RTC_STATUS);
+    author.list.read(RTC_IRQ_STATUS);
 }
 
 pub fn adc(author: &mut Author) {
@@ -60,19 +60,19 @@ pub fn adc(author: &mut Author) {
     }
     author.list.next();
     if author.random.one_in(6) {
-        author.put_part(ADC_VALUE, control);
+        author.put_part(ADC_RESULT, control);
     }
     if author.random.one_in(2) {
         author.pass();
     }
     author.get(ADC_CONTROL);
-    author.get(ADC_VALUE);
+    author.get(ADC_RESULT);
     author.list.lines();
 }
 
 /// A read of the value clears bits beside it; a peek does not.
 pub fn spi2(author: &mut Author) {
-    let word = author.random.pick(&[SPI2_START, SPI2_STATE, SPI2_VALUE]);
+    let word = author.random.pick(&[SPI2_SEND, SPI2_STATUS, SPI2_ANSWER]);
     match author.random.below(4) {
         0 | 1 => {
             let value = author.bits();
@@ -80,14 +80,14 @@ pub fn spi2(author: &mut Author) {
         }
         2 => {
             let at = author.random.below(4) as u32;
-            author.list.peek8(SPI2_VALUE + at);
+            author.list.peek8(SPI2_ANSWER + at);
         }
-        _ => author.get_part(SPI2_VALUE),
+        _ => author.get_part(SPI2_ANSWER),
     }
-    for word in [SPI2_STATE, SPI2_VALUE, SPI2_STATE] {
+    for word in [SPI2_STATUS, SPI2_ANSWER, SPI2_STATUS] {
         author.get(word);
     }
-    author.list.peek32(SPI2_START);
+    author.list.peek32(SPI2_SEND);
 }
 
 pub fn power(author: &mut Author) {

@@ -7,11 +7,11 @@ use crate::common::numbers::*;
 
 /// A transaction without its answers.
 fn send(list: &mut List, bytes: &[u8]) {
-    list.write(FLASH_SELECT, FLASH_SELECTED);
+    list.write(SPIFC_SELECT, FLASH_SELECTED);
     for &byte in bytes {
-        list.write(FLASH_TRANSFER, byte.into());
+        list.write(SPIFC_SEND, byte.into());
     }
-    list.write(FLASH_SELECT, 0);
+    list.write(SPIFC_SELECT, 0);
 }
 
 /// With write enable and without, with no data, round the page's end, twice.
@@ -37,12 +37,12 @@ pub fn programs(list: &mut List) {
     frame(list, &with_address(0x0B, 0x01_0100, &[0; 2]));
     // A write above the low byte sends that one again.
     send(list, &[0x06]);
-    list.write(FLASH_SELECT, FLASH_SELECTED);
+    list.write(SPIFC_SELECT, FLASH_SELECTED);
     for byte in [0x02, 0x00, 0x01, 0x05] {
-        list.write(FLASH_TRANSFER, byte);
+        list.write(SPIFC_SEND, byte);
     }
-    list.write_sized(1, FLASH_TRANSFER + 1, 0x36);
-    list.write(FLASH_SELECT, 0);
+    list.write_sized(1, SPIFC_SEND + 1, 0x36);
+    list.write(SPIFC_SELECT, 0);
     list.read(FLASH_BASE + 0x104);
     list.digest(0);
 }
@@ -76,9 +76,9 @@ pub fn erases(list: &mut List) {
 fn unselected_ends(list: &mut List) {
     send(list, &[0x06]);
     send(list, &[0x20, 0x00, 0x30]);
-    list.write(FLASH_TRANSFER, 0x00);
-    list.read(FLASH_ANSWER);
-    list.write(FLASH_SELECT, 0);
+    list.write(SPIFC_SEND, 0x00);
+    list.read(SPIFC_ANSWER);
+    list.write(SPIFC_SELECT, 0);
     list.counters();
     list.digest(0);
     frame(list, &[0x05, 0]);
@@ -87,41 +87,41 @@ fn unselected_ends(list: &mut List) {
 /// Identities and status, second selects, and transfers without a select.
 pub fn answers_of_flash(list: &mut List) {
     for (command, first) in [(0xAB, 3), (0x4B, 4), (0x35, 4), (0x77, 5)] {
-        list.write(FLASH_SELECT, FLASH_SELECTED);
+        list.write(SPIFC_SELECT, FLASH_SELECTED);
         for (at, byte) in [command, 0, 0, 0, 0, 0].into_iter().enumerate() {
-            list.write(FLASH_TRANSFER, byte);
+            list.write(SPIFC_SEND, byte);
             if at >= first {
-                list.read(FLASH_ANSWER);
+                list.read(SPIFC_ANSWER);
             }
         }
-        list.write(FLASH_SELECT, 0);
+        list.write(SPIFC_SELECT, 0);
     }
-    list.write(FLASH_SELECT, FLASH_SELECTED);
-    list.write(FLASH_TRANSFER, 0x9F);
-    list.write(FLASH_SELECT, 0xFFFF_FF40);
-    list.write_sized(2, FLASH_TRANSFER, 0x0100);
-    list.read(FLASH_ANSWER);
+    list.write(SPIFC_SELECT, FLASH_SELECTED);
+    list.write(SPIFC_SEND, 0x9F);
+    list.write(SPIFC_SELECT, 0xFFFF_FF40);
+    list.write_sized(2, SPIFC_SEND, 0x0100);
+    list.read(SPIFC_ANSWER);
     // Only these bytes are not the one with bit 6, or not the low one.
-    list.write_sized(1, FLASH_SELECT + 1, 0);
-    list.write_sized(1, FLASH_TRANSFER + 2, 0x55);
-    list.read(FLASH_ANSWER);
-    list.write_sized(1, FLASH_SELECT, 0xBF);
-    list.write(FLASH_TRANSFER, 0);
-    list.read(FLASH_ANSWER);
-    list.write(FLASH_SELECT, FLASH_SELECTED);
-    list.write(FLASH_TRANSFER, 0x06);
-    list.read(FLASH_ANSWER);
-    list.write(FLASH_SELECT, 0x80);
+    list.write_sized(1, SPIFC_SELECT + 1, 0);
+    list.write_sized(1, SPIFC_SEND + 2, 0x55);
+    list.read(SPIFC_ANSWER);
+    list.write_sized(1, SPIFC_SELECT, 0xBF);
+    list.write(SPIFC_SEND, 0);
+    list.read(SPIFC_ANSWER);
+    list.write(SPIFC_SELECT, FLASH_SELECTED);
+    list.write(SPIFC_SEND, 0x06);
+    list.read(SPIFC_ANSWER);
+    list.write(SPIFC_SELECT, 0x80);
     for (word, value) in
-        [(FLASH_STATE, u32::MAX), (FLASH_ANSWER, 0x1234_5678), (FLASH_TRANSFER, 0xABCD_EF05)]
+        [(SPIFC_STATUS, u32::MAX), (SPIFC_ANSWER, 0x1234_5678), (SPIFC_SEND, 0xABCD_EF05)]
     {
         list.write(word, value);
         list.read(word);
         list.peek32(word);
     }
-    list.read_sized(1, FLASH_ANSWER);
-    list.read_sized(2, FLASH_ANSWER + 1);
-    list.peek32(FLASH_SELECT);
+    list.read_sized(1, SPIFC_ANSWER);
+    list.read_sized(2, SPIFC_ANSWER + 1);
+    list.peek32(SPIFC_SELECT);
 }
 
 /// The ways to send, and the controls that do not.
@@ -194,7 +194,7 @@ pub fn pictures(list: &mut List) {
     }
     list.counters();
     for run in [0xD0, 0x20D1, 0x00D3] {
-        list.write(LCD_PICTURE, FLASH_BASE);
+        list.write(LCD_DMA, FLASH_BASE);
         list.write(LCD_STATUS, u32::MAX);
         list.write(LCD_CONTROL, run);
         list.read(LCD_STATUS);

@@ -64,13 +64,13 @@ pub fn fixed_list() -> List {
 /// What these answer was worked out by hand.
 pub fn examples(list: &mut List) {
     for (timer, reload) in [(0, 0x0000), (1, 0xFFFF), (2, 0xFC18)] {
-        list.write(timer_word(timer, TIMER_RELOAD), reload);
-        list.write(timer_word(timer, TIMER_CONTROL), 0x6000);
+        list.write(timer_word(timer, RELOAD_AT), reload);
+        list.write(timer_word(timer, CONTROL_AT), 0x6000);
     }
     expect(list.advance(0.5), 0, [0, 0, 0]);
     for (timer, counter) in [(0, 0x8D80), (1, 0xFFFF), (2, 0xFC18)] {
-        expect(list.read(timer_word(timer, TIMER_COUNTER)), 0, [counter, 0, 0]);
-        expect(list.read(timer_word(timer, TIMER_CONTROL)), 0, [0xE000, 0, 0]);
+        expect(list.read(timer_word(timer, COUNTER_AT)), 0, [counter, 0, 0]);
+        expect(list.read(timer_word(timer, CONTROL_AT)), 0, [0xE000, 0, 0]);
     }
     for (size, left) in [(1, 0), (4, 0x2000)] {
         dma(list, FLASH_BASE);
@@ -88,8 +88,8 @@ pub fn examples(list: &mut List) {
     identities(list);
     command(list, PAINT, &[0x84, 0x10]);
     expect(list.pixel(0), 0, [131 << 16 | 129 << 8 | 131, 0, 0]);
-    list.write(DAY_HOURS, 25);
-    expect(list.read(DAY_HOURS), 0, [1, 0, 0]);
+    list.write(RTC_HOURS, 25);
+    expect(list.read(RTC_HOURS), 0, [1, 0, 0]);
     staging(list);
     expect(list.advance(LAST_TIME.next_up()), BAD_TIME, [0, 0, 0]);
     expect(list.advance(-0.0), BAD_TIME, [0, 0, 0]);
@@ -102,12 +102,12 @@ fn identities(list: &mut List) {
         (&[0x90, 0, 0, 0, 0, 0, 0], &[0xFF, 0xFF, 0xFF, 0xFF, 0xEF, 0x16, 0xEF]),
     ];
     for (bytes, answers) in transactions {
-        list.write(FLASH_SELECT, FLASH_SELECTED);
+        list.write(SPIFC_SELECT, FLASH_SELECTED);
         for (&byte, &answer) in bytes.iter().zip(answers) {
-            list.write(FLASH_TRANSFER, byte.into());
-            expect(list.read(FLASH_ANSWER), 0, [answer, 0, 0]);
+            list.write(SPIFC_SEND, byte.into());
+            expect(list.read(SPIFC_ANSWER), 0, [answer, 0, 0]);
         }
-        list.write(FLASH_SELECT, 0);
+        list.write(SPIFC_SELECT, 0);
     }
 }
 

@@ -32,12 +32,12 @@ pub fn flash(author: &mut Author) {
 
 /// The whole of a transaction, with each answer.
 pub fn frame(list: &mut List, bytes: &[u8]) {
-    list.write(FLASH_SELECT, FLASH_SELECTED);
+    list.write(SPIFC_SELECT, FLASH_SELECTED);
     for &byte in bytes {
-        list.write(FLASH_TRANSFER, byte.into());
-        list.read(FLASH_ANSWER);
+        list.write(SPIFC_SEND, byte.into());
+        list.read(SPIFC_ANSWER);
     }
-    list.write(FLASH_SELECT, 0);
+    list.write(SPIFC_SELECT, 0);
 }
 
 pub fn with_address(command: u8, address: u32, data: &[u8]) -> Vec<u8> {
@@ -49,23 +49,23 @@ impl Author {
     /// Only bit 6 counts, whichever write has brought it there.
     fn select(&mut self, on: bool) {
         let others = if self.random.one_in(3) { self.bits() & !FLASH_SELECTED } else { 0 };
-        self.put_once(FLASH_SELECT, others | if on { FLASH_SELECTED } else { 0 });
+        self.put_once(SPIFC_SELECT, others | if on { FLASH_SELECTED } else { 0 });
     }
 
     /// Any write to the word transfers its low byte, as it then is. So a write
     /// above it sends the last byte again, and one that is shifted sends 0.
     fn transfer(&mut self, byte: u8) {
         let (at, value) = (self.random.between(1, 3) as u32, self.bits());
-        if byte == self.list.system().reg(FLASH_TRANSFER) as u8 && self.random.one_in(2) {
-            self.list.write_sized(1, FLASH_TRANSFER + at, value);
+        if byte == self.list.system().reg(SPIFC_SEND) as u8 && self.random.one_in(2) {
+            self.list.write_sized(1, SPIFC_SEND + at, value);
             return;
         }
         if byte == 0 && self.random.one_in(8) {
-            self.list.write(FLASH_TRANSFER + at, value);
+            self.list.write(SPIFC_SEND + at, value);
             return;
         }
         let above = if self.random.one_in(4) { self.bits() << 8 } else { 0 };
-        self.put_once(FLASH_TRANSFER, above | u32::from(byte));
+        self.put_once(SPIFC_SEND, above | u32::from(byte));
     }
 
     pub fn frame(&mut self, bytes: &[u8]) {
@@ -73,10 +73,10 @@ impl Author {
         for &byte in bytes {
             self.transfer(byte);
             if self.random.one_in(3) || byte == 0 {
-                self.get(FLASH_ANSWER);
+                self.get(SPIFC_ANSWER);
             }
         }
-        self.list.read(FLASH_ANSWER);
+        self.list.read(SPIFC_ANSWER);
         self.select(false);
     }
 
@@ -215,7 +215,7 @@ impl Author {
                 _ => {
                     let byte = self.random.pick(&[0x06, 0x05, 0x9F, 0x03, 0x00]);
                     self.transfer(byte);
-                    self.list.read(FLASH_ANSWER);
+                    self.list.read(SPIFC_ANSWER);
                 }
             }
         }
@@ -224,7 +224,7 @@ impl Author {
 
     /// What is stored in the four words, and the bytes beside those that count.
     fn flash_words(&mut self) {
-        for word in [FLASH_SELECT, FLASH_STATE, FLASH_TRANSFER, FLASH_ANSWER] {
+        for word in [SPIFC_SELECT, SPIFC_STATUS, SPIFC_SEND, SPIFC_ANSWER] {
             let value = self.bits();
             self.put_part(word, value);
             self.list.read(word);

@@ -34,19 +34,19 @@ pub fn next_events(list: &mut List) {
     let now = list.now();
     list.press(0, now + 0.002);
     list.hold(1, now + 0.003);
-    list.write(timer_word(5, TIMER_RELOAD), 0xE000);
-    list.write(timer_word(5, TIMER_CONTROL), 0x6000);
-    list.write(timer_word(2, TIMER_CONTROL), 0x2000);
+    list.write(timer_word(5, RELOAD_AT), 0xE000);
+    list.write(timer_word(5, CONTROL_AT), 0x6000);
+    list.write(timer_word(2, CONTROL_AT), 0x2000);
     for _ in 0..6 {
         go(list);
         list.keys();
-        list.write(timer_word(5, TIMER_CONTROL), 0xE000);
+        list.write(timer_word(5, CONTROL_AT), 0xE000);
     }
     // A pending timer comes now, masked or not, while it is enabled.
     list.write(INTC_MASK, u32::MAX);
     list.pass(0.01);
     for control in [0x6000, 0x2000, 0x4000, 0x6000, 0xE000] {
-        list.write(timer_word(5, TIMER_CONTROL), control);
+        list.write(timer_word(5, CONTROL_AT), control);
         list.next();
     }
     list.write(SYSCLK_VAR, 1);
@@ -109,15 +109,15 @@ fn game_times(list: &mut List) {
         list.turbo(FASTEST);
         for &time in times {
             list.advance(time);
-            list.read(DAY_SECONDS);
+            list.read(RTC_SECONDS);
             list.next();
         }
         expect(list.advance(LAST_TIME), 0, [0, 0, 0]);
         list.next();
         // 2^31 seconds are 24,855 days and 11,648 seconds.
-        expect(list.read(DAY_HOURS), 0, [3, 0, 0]);
-        expect(list.read(DAY_MINUTES), 0, [14, 0, 0]);
-        expect(list.read(DAY_SECONDS), 0, [8, 0, 0]);
+        expect(list.read(RTC_HOURS), 0, [3, 0, 0]);
+        expect(list.read(RTC_MINUTES), 0, [14, 0, 0]);
+        expect(list.read(RTC_SECONDS), 0, [8, 0, 0]);
         expect(list.advance(LAST_TIME), 0, [0, 0, 0]);
     }
 }
@@ -133,16 +133,16 @@ pub fn wiping(list: &mut List) {
     command(list, PAINT, &[1, 2, 3, 4, 5]);
     frame(list, &[0x06]);
     frame(list, &[0x9F, 0]);
-    list.write(FLASH_SELECT, FLASH_SELECTED);
+    list.write(SPIFC_SELECT, FLASH_SELECTED);
     rtc_write(list, 0x15, 0x99);
     rtc_read(list, 0x15);
-    list.write(DAY_HOURS, 7);
+    list.write(RTC_HOURS, 7);
     list.turbo(7.0);
     list.live(0, 1);
     list.hold(1, 1e6);
     list.press(2, 0.3);
-    list.write(timer_word(4, TIMER_CONTROL), 0x2000);
-    list.write(timer_word(0, TIMER_CONTROL), 0x6001);
+    list.write(timer_word(4, CONTROL_AT), 0x2000);
+    list.write(timer_word(0, CONTROL_AT), 0x6001);
     list.advance(100.1);
     list.write(ADC_CONTROL, 0x4040);
     list.wipe();

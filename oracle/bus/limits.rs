@@ -36,7 +36,7 @@ pub fn limits(author: &mut Author) {
         _ => author.pass(),
     }
     author.list.next();
-    author.list.read(DAY_SECONDS);
+    author.list.read(RTC_SECONDS);
 }
 
 /// Each action belongs to another family.

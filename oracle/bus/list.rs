@@ -3,9 +3,7 @@
 use super::kinds::*;
 use super::map::{merged, others, own_words, passes_end, NEVER_STORED};
 use super::steps::Board;
-use crate::common::numbers::{
-    FRAMEBUFFER_BYTES, INTC_PENDING, LCD_CONTROL, LCD_PICTURE, START_DMA,
-};
+use crate::common::numbers::{FRAMEBUFFER_BYTES, INTC_PENDING, LCD_CONTROL, LCD_DMA, START_DMA};
 use crate::common::step::{Answer, DONE};
 use crate::common::step_list::StepList;
 use crate::sys::System;
@@ -47,7 +45,7 @@ impl List {
         let control = merged(self.system(), address, size, value);
         address & !3 == LCD_CONTROL
             && control & 0xF1 == START_DMA
-            && passes_end(self.system().reg(LCD_PICTURE), FRAMEBUFFER_BYTES as u32)
+            && passes_end(self.system().reg(LCD_DMA), FRAMEBUFFER_BYTES as u32)
     }
 
     pub fn read(&mut self, address: u32) -> Answer {

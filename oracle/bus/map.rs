@@ -30,27 +30,27 @@ pub fn place(address: u32) -> Place {
 /// The words with storage of their own, but for the timers'.
 #[rustfmt::skip]
 pub const OWN: [u32; 28] = [
-    RTC_STATUS, RTC_ENABLE,
-    SPI2_START, SPI2_STATE, SPI2_VALUE,
+    RTC_IRQ_STATUS, RTC_IRQ_ENABLE,
+    SPI2_SEND, SPI2_STATUS, SPI2_ANSWER,
     RTC_ADDRESS, RTC_DATA, RTC_COMMAND, RTC_READY, RTC_OUT,
-    ADC_CONTROL, ADC_VALUE,
-    FLASH_SELECT, FLASH_STATE, FLASH_TRANSFER, FLASH_ANSWER,
+    ADC_CONTROL, ADC_RESULT,
+    SPIFC_SELECT, SPIFC_STATUS, SPIFC_SEND, SPIFC_ANSWER,
     CLOCK_SWITCH, CLOCK_STATUS, POWER_REG,
     INTC_PENDING, INTC_PENDING_FIQ, INTC_MASK, INTC_DISABLE,
-    LCD_CONTROL, LCD_DATA, LCD_ENABLE, LCD_STATUS, LCD_PICTURE,
+    LCD_CONTROL, LCD_DATA, LCD_ENABLE, LCD_STATUS, LCD_DMA,
 ];
 
 /// The words that are never stored: seconds, minutes, hours.
-pub const NEVER_STORED: [u32; 3] = [DAY_SECONDS, DAY_MINUTES, DAY_HOURS];
+pub const NEVER_STORED: [u32; 3] = [RTC_SECONDS, RTC_MINUTES, RTC_HOURS];
 
 /// A word without storage of its own, such as lists write.
 pub const OTHER_WORD: u32 = 0xC010_0000;
 
 /// The words that a tone follows.
 pub const TONE_WORDS: [u32; 3] = [
-    timer_word(SOUND_TIMER, TIMER_CONTROL),
-    timer_word(SOUND_TIMER, TIMER_RELOAD),
-    timer_word(SOUND_TIMER, TIMER_COMPARE),
+    timer_word(SOUND_TIMER, CONTROL_AT),
+    timer_word(SOUND_TIMER, RELOAD_AT),
+    timer_word(SOUND_TIMER, COMPARE_AT),
 ];
 
 pub fn own_words() -> impl Iterator<Item = u32> {

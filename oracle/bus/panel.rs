@@ -42,7 +42,7 @@ pub fn command(list: &mut List, command: u8, data: &[u8]) {
 }
 
 pub fn dma(list: &mut List, picture: u32) {
-    list.write(LCD_PICTURE, picture);
+    list.write(LCD_DMA, picture);
     list.write(LCD_CONTROL, START_DMA);
 }
 
@@ -151,7 +151,7 @@ impl Author {
             1 => FLASH_BASE + self.bits() % 0x8001,
             _ => self.random.pick(&PICTURES),
         };
-        self.put(LCD_PICTURE, picture);
+        self.put(LCD_DMA, picture);
         self.control(START_DMA);
         self.list.digest(3);
         self.get(LCD_STATUS);
@@ -203,7 +203,7 @@ impl Author {
     }
 
     fn panel_words(&mut self) {
-        let word = self.random.pick(&[LCD_DATA, LCD_PICTURE, LCD_ENABLE, LCD_STATUS]);
+        let word = self.random.pick(&[LCD_DATA, LCD_DMA, LCD_ENABLE, LCD_STATUS]);
         let value = self.bits();
         self.put_part(word, value);
         self.get(word);

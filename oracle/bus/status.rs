@@ -13,7 +13,7 @@ pub fn status(author: &mut Author) {
         0 | 1 => author.raise(),
         2 => {
             let ones = author.value(&[0, 1, 2, 3, 0x0200, 0xFFFF_FFFD, u32::MAX]);
-            author.put_part(RTC_STATUS, ones);
+            author.put_part(RTC_IRQ_STATUS, ones);
         }
         3 | 4 => {
             let ones = author.value(&[0, 0x40, 0x2000, 0x2040, 0x20, u32::MAX]);
@@ -21,7 +21,7 @@ pub fn status(author: &mut Author) {
         }
         5 => {
             let enable = author.value(&[0, 2, 0xFFFF_FFFD, u32::MAX]);
-            author.put_part(RTC_ENABLE, enable);
+            author.put_part(RTC_IRQ_ENABLE, enable);
         }
         6 => {
             let enable = author.value(&[0, 0x40, 0x2000, 0x2040, u32::MAX]);
@@ -38,7 +38,7 @@ pub fn status(author: &mut Author) {
         _ => author.pass(),
     }
     author.list.lines();
-    for word in [RTC_STATUS, LCD_STATUS] {
+    for word in [RTC_IRQ_STATUS, LCD_STATUS] {
         author.get(word);
     }
 }
@@ -70,15 +70,15 @@ impl Author {
     pub fn raise(&mut self) {
         match self.random.below(4) {
             0 => {
-                self.list.write(RTC_ENABLE, 2);
+                self.list.write(RTC_IRQ_ENABLE, 2);
                 let system = self.list.system();
                 self.go_game(system.game_time.floor() + 1.0);
             }
             1 => {
                 let n = self.random.below(TIMER_COUNT);
-                self.list.write(timer_word(n, TIMER_RELOAD), 0xFF00);
-                self.list.write(timer_word(n, TIMER_CONTROL), 0);
-                self.list.write(timer_word(n, TIMER_CONTROL), 0x6000);
+                self.list.write(timer_word(n, RELOAD_AT), 0xFF00);
+                self.list.write(timer_word(n, CONTROL_AT), 0);
+                self.list.write(timer_word(n, CONTROL_AT), 0x6000);
                 self.list.pass(0.001);
             }
             2 => {
@@ -120,7 +120,7 @@ impl Author {
                 self.set_up(n);
             }
         }
-        self.list.write(RTC_ENABLE, 2);
+        self.list.write(RTC_IRQ_ENABLE, 2);
         self.list.write(LCD_ENABLE, 0x2040);
     }
 
@@ -129,10 +129,10 @@ impl Author {
         let pending: Vec<usize> =
             (0..TIMER_COUNT).filter(|&n| self.list.system().timers[n].pending).collect();
         for n in pending {
-            let control = self.list.system().reg(timer_word(n, TIMER_CONTROL));
-            self.list.write(timer_word(n, TIMER_CONTROL), control | 0x8000);
+            let control = self.list.system().reg(timer_word(n, CONTROL_AT));
+            self.list.write(timer_word(n, CONTROL_AT), control | 0x8000);
         }
-        self.list.write(RTC_STATUS, u32::MAX);
+        self.list.write(RTC_IRQ_STATUS, u32::MAX);
         self.list.write(LCD_STATUS, u32::MAX);
         if self.list.system().pending_irq() != 0 {
             self.list.write(ADC_CONTROL, 0x8000);

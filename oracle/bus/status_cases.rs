@@ -68,10 +68,10 @@ fn gives_room_back(list: &mut List) {
 
 /// All four lines are raised.
 fn raise_all(list: &mut List) {
-    list.write(RTC_ENABLE, 2);
+    list.write(RTC_IRQ_ENABLE, 2);
     list.write(LCD_ENABLE, 0x2000);
-    list.write(timer_word(3, TIMER_RELOAD), 0xFF00);
-    list.write(timer_word(3, TIMER_CONTROL), 0x6000);
+    list.write(timer_word(3, RELOAD_AT), 0xFF00);
+    list.write(timer_word(3, CONTROL_AT), 0x6000);
     list.write(ADC_CONTROL, 0x4040);
     list.pass(1.0);
 }
@@ -118,14 +118,14 @@ pub fn masks(list: &mut List) {
 pub fn acknowledging(list: &mut List) {
     raise_all(list);
     for ones in [1, 0xFFFF_FFFD, 2] {
-        list.write(RTC_STATUS, ones);
+        list.write(RTC_IRQ_STATUS, ones);
         list.pending();
     }
     for control in [0x6000, 0xE000] {
-        list.write(timer_word(3, TIMER_CONTROL), control);
+        list.write(timer_word(3, CONTROL_AT), control);
         list.pending();
     }
-    list.peek32(timer_word(3, TIMER_CONTROL));
+    list.peek32(timer_word(3, CONTROL_AT));
     list.write(LCD_STATUS, 0x40);
     list.pending();
     list.write_sized(1, LCD_STATUS + 1, 0x20);
@@ -146,15 +146,15 @@ fn status_words(list: &mut List) {
         list.write(LCD_ENABLE, 0x40);
         list.pending();
         list.pass(1.0);
-        for status in [LCD_STATUS, RTC_STATUS] {
+        for status in [LCD_STATUS, RTC_IRQ_STATUS] {
             list.write_sized(size, status + at, ones);
             list.read(status);
         }
-        list.write_sized(size, RTC_STATUS + at, 2);
-        list.read(RTC_STATUS);
+        list.write_sized(size, RTC_IRQ_STATUS + at, 2);
+        list.read(RTC_IRQ_STATUS);
     }
     // Enabled bits that are not raised, and raised ones that are not enabled.
-    for (enable, word) in [(0xFFFF_FFFD, RTC_ENABLE), (0xFFFF_DFBF, LCD_ENABLE)] {
+    for (enable, word) in [(0xFFFF_FFFD, RTC_IRQ_ENABLE), (0xFFFF_DFBF, LCD_ENABLE)] {
         list.pass(1.0);
         list.write(word, enable);
         list.pending();
@@ -167,12 +167,12 @@ fn status_words(list: &mut List) {
 /// Any of the six raises the line, enabled or not by then.
 fn any_timer(list: &mut List) {
     for timer in 0..6 {
-        list.write(timer_word(timer, TIMER_RELOAD), 0xF000);
-        list.write(timer_word(timer, TIMER_CONTROL), 0x6000);
+        list.write(timer_word(timer, RELOAD_AT), 0xF000);
+        list.write(timer_word(timer, CONTROL_AT), 0x6000);
         list.pass(0.001);
-        list.write(timer_word(timer, TIMER_CONTROL), 0);
+        list.write(timer_word(timer, CONTROL_AT), 0);
         list.pending();
-        list.write_sized(1, timer_word(timer, TIMER_CONTROL) + 1, 0x80);
+        list.write_sized(1, timer_word(timer, CONTROL_AT) + 1, 0x80);
         list.pending();
     }
 }

@@ -14,57 +14,57 @@ use crate::common::numbers::*;
 pub fn six_timers(list: &mut List) {
     let reloads = [0x0000, 0xFFFF, 0xFC18, 0xABCD_8000, 0x0001, 0xFFFE];
     for (timer, reload) in reloads.into_iter().enumerate() {
-        list.write(timer_word(timer, TIMER_RELOAD), reload);
-        list.write(timer_word(timer, TIMER_CONTROL), 0x6000 + timer as u32 % 2);
+        list.write(timer_word(timer, RELOAD_AT), reload);
+        list.write(timer_word(timer, CONTROL_AT), 0x6000 + timer as u32 % 2);
     }
     for time in [1000.0 / 12e6, 65_536.0 / 12e6, 0.699_05, 2.0] {
         list.advance(off(time, -1));
         for timer in [0, 2, 4] {
-            list.read(timer_word(timer, TIMER_COUNTER));
+            list.read(timer_word(timer, COUNTER_AT));
         }
         list.advance(time);
         for timer in 0..6 {
-            list.read(timer_word(timer, TIMER_COUNTER));
+            list.read(timer_word(timer, COUNTER_AT));
         }
     }
     for timer in 0..6 {
-        list.read(timer_word(timer, TIMER_CONTROL));
+        list.read(timer_word(timer, CONTROL_AT));
     }
     for clock in [1, 24_000_001, u32::MAX] {
         list.write(SYSCLK_VAR, clock);
         list.pass(0.01);
         for timer in 0..6 {
-            list.read(timer_word(timer, TIMER_COUNTER));
+            list.read(timer_word(timer, COUNTER_AT));
         }
         list.next();
     }
     for (size, at) in [(1, 0), (1, 1), (1, 2), (2, 0), (2, 1), (4, 1), (4, 3)] {
-        list.read_sized(size, timer_word(2, TIMER_COUNTER) + at);
-        list.read_sized(size, timer_word(2, TIMER_CONTROL) + at);
+        list.read_sized(size, timer_word(2, COUNTER_AT) + at);
+        list.read_sized(size, timer_word(2, CONTROL_AT) + at);
     }
 }
 
 /// Starting, starting again, standing, and what pending takes.
 pub fn timer_controls(list: &mut List) {
-    list.write(timer_word(1, TIMER_COUNTER), 0x1234_5678);
-    list.write(timer_word(1, TIMER_RELOAD), 0xFFF0);
+    list.write(timer_word(1, COUNTER_AT), 0x1234_5678);
+    list.write(timer_word(1, RELOAD_AT), 0xFFF0);
     for control in [0x2000, 0x6000, 0x4000, 0x6000, 0xE001, 0xA000, 0x8000, 0x6000] {
-        list.write(timer_word(1, TIMER_CONTROL), control);
-        list.read(timer_word(1, TIMER_COUNTER));
+        list.write(timer_word(1, CONTROL_AT), control);
+        list.read(timer_word(1, COUNTER_AT));
         list.pass(0.0007);
-        list.read(timer_word(1, TIMER_CONTROL));
-        list.read(timer_word(1, TIMER_COUNTER));
+        list.read(timer_word(1, CONTROL_AT));
+        list.read(timer_word(1, COUNTER_AT));
         list.pending();
     }
     // Byte for byte: the run bit goes up by the second write.
-    list.write(timer_word(1, TIMER_CONTROL), 0x8000);
-    list.write_sized(1, timer_word(1, TIMER_CONTROL), 0x01);
-    list.write_sized(1, timer_word(1, TIMER_CONTROL) + 1, 0x60);
+    list.write(timer_word(1, CONTROL_AT), 0x8000);
+    list.write_sized(1, timer_word(1, CONTROL_AT), 0x01);
+    list.write_sized(1, timer_word(1, CONTROL_AT) + 1, 0x60);
     list.pass(0.01);
-    list.read(timer_word(1, TIMER_CONTROL));
-    list.read(timer_word(1, TIMER_COUNTER));
-    list.write_sized(1, timer_word(1, TIMER_CONTROL), 0x00);
-    list.read(timer_word(1, TIMER_CONTROL));
+    list.read(timer_word(1, CONTROL_AT));
+    list.read(timer_word(1, COUNTER_AT));
+    list.write_sized(1, timer_word(1, CONTROL_AT), 0x00);
+    list.read(timer_word(1, CONTROL_AT));
 }
 
 /// The three words by each size, duties at their ends, other clocks.
@@ -93,7 +93,7 @@ pub fn tones(list: &mut List) {
     // No other timer is a reason to look at the tone again.
     list.write(SYSCLK_VAR, 12_345);
     for timer in [0, 3, 5] {
-        list.write(timer_word(timer, TIMER_CONTROL), 0x2000);
+        list.write(timer_word(timer, CONTROL_AT), 0x2000);
     }
     list.write(compare, 0xFFF6);
     list.write(control, 0xA001);

@@ -17,19 +17,19 @@ pub fn timers(author: &mut Author) {
         0..=2 => author.set_up(n),
         3 => {
             let control = author.value(&CONTROLS);
-            author.put_part(timer_word(n, TIMER_CONTROL), control);
+            author.put_part(timer_word(n, CONTROL_AT), control);
         }
         4 => {
             let reload = author.value(&RELOADS);
-            author.put_part(timer_word(n, TIMER_RELOAD), reload);
+            author.put_part(timer_word(n, RELOAD_AT), reload);
         }
         5 => author.change_clock(),
         6 => author.other_timer_word(n),
         7 => author.acknowledge(n),
         _ => author.timer_passes(n),
     }
-    author.get(timer_word(n, TIMER_CONTROL));
-    author.get(timer_word(n, TIMER_COUNTER));
+    author.get(timer_word(n, CONTROL_AT));
+    author.get(timer_word(n, COUNTER_AT));
 }
 
 pub fn sound(author: &mut Author) {
@@ -38,13 +38,13 @@ pub fn sound(author: &mut Author) {
         3..=6 => author.compare(),
         7..=9 => {
             let control = author.value(&CONTROLS);
-            author.put_part(timer_word(SOUND_TIMER, TIMER_CONTROL), control);
+            author.put_part(timer_word(SOUND_TIMER, CONTROL_AT), control);
         }
         10 => {
             author.change_clock();
             // Another timer is no reason to look at the tone again.
             let n = author.random.pick(&[0, 3, 5]);
-            author.put_once(timer_word(n, TIMER_CONTROL), 0x2000);
+            author.put_once(timer_word(n, CONTROL_AT), 0x2000);
             author.same_again();
         }
         11 => author.same_again(),
@@ -60,10 +60,10 @@ pub fn sound(author: &mut Author) {
 impl Author {
     pub fn set_up(&mut self, n: usize) {
         let reload = self.value(&RELOADS);
-        self.put(timer_word(n, TIMER_RELOAD), reload);
-        self.put(timer_word(n, TIMER_CONTROL), 0);
+        self.put(timer_word(n, RELOAD_AT), reload);
+        self.put(timer_word(n, CONTROL_AT), 0);
         let control = self.value(&CONTROLS) | 0x2000;
-        self.put_once(timer_word(n, TIMER_CONTROL), control);
+        self.put_once(timer_word(n, CONTROL_AT), control);
     }
 
     /// The clock is a word of SRAM as any other.
@@ -80,16 +80,16 @@ impl Author {
 
     /// A word that is only stored; the counter's shows while the timer stands.
     fn other_timer_word(&mut self, n: usize) {
-        let word = self.random.pick(&[0x04, TIMER_COMPARE, TIMER_COUNTER, 0x14, 0x18, 0x1C]);
+        let word = self.random.pick(&[0x04, COMPARE_AT, COUNTER_AT, 0x14, 0x18, 0x1C]);
         let value = self.bits();
         self.put_part(timer_word(n, word), value);
         self.get(timer_word(n, word));
     }
 
     fn acknowledge(&mut self, n: usize) {
-        let control = self.list.system().reg(timer_word(n, TIMER_CONTROL));
+        let control = self.list.system().reg(timer_word(n, CONTROL_AT));
         self.list.lines();
-        self.put_once(timer_word(n, TIMER_CONTROL), control | 0x8000);
+        self.put_once(timer_word(n, CONTROL_AT), control | 0x8000);
         self.list.lines();
     }
 
@@ -111,7 +111,7 @@ impl Author {
         let counts = self.random.one_in(4);
         let more = self.random.pick(&[0.0, 1.0, 1.0, 2.0, 777.0]);
         let system = self.list.system();
-        let slow = system.reg(timer_word(n, TIMER_CONTROL)) & 1 != 0;
+        let slow = system.reg(timer_word(n, CONTROL_AT)) & 1 != 0;
         let rate = system.sysclk() / if slow { 256.0 } else { 2.0 };
         let length = if counts { 1.0 } else { system.timer_period(n) as f64 };
         let start = system.timers[n].start;
@@ -122,7 +122,7 @@ impl Author {
     fn reload(&mut self) {
         let high = if self.random.one_in(3) { self.bits() << 16 } else { 0 };
         let reload = self.value(&SOUND_RELOADS) & 0xFFFF | high;
-        self.put_part(timer_word(SOUND_TIMER, TIMER_RELOAD), reload);
+        self.put_part(timer_word(SOUND_TIMER, RELOAD_AT), reload);
     }
 
     /// Compares whose duty is about one of its ends, or plain ones.
@@ -132,7 +132,7 @@ impl Author {
         let high = (period * part) as u32 + self.random.below(4) as u32;
         let compare = 0x1_0001u32.wrapping_sub(high);
         let compare = self.value(&[compare, compare & 0xFFFF, 0, 0xFFFF]);
-        self.put_once(timer_word(SOUND_TIMER, TIMER_COMPARE), compare);
+        self.put_once(timer_word(SOUND_TIMER, COMPARE_AT), compare);
     }
 
     /// The same tone, unless the clock has changed meanwhile.
@@ -178,10 +178,10 @@ impl Author {
 
 /// Writes tones until all places are taken.
 pub fn fill_events(list: &mut List, first: u32) {
-    list.write(timer_word(SOUND_TIMER, TIMER_CONTROL), 0x6000);
+    list.write(timer_word(SOUND_TIMER, CONTROL_AT), 0x6000);
     let mut reload = first;
     while list.waiting() < SOUND_PLACES {
-        list.write_sized(2, timer_word(SOUND_TIMER, TIMER_RELOAD), reload);
+        list.write_sized(2, timer_word(SOUND_TIMER, RELOAD_AT), reload);
         reload += 1;
     }
 }

@@ -36,7 +36,7 @@ impl Author {
             }
             3 => {
                 frame(&mut self.list, &[0x06]);
-                self.list.write(FLASH_SELECT, FLASH_SELECTED)
+                self.list.write(SPIFC_SELECT, FLASH_SELECTED)
             }
             4 => {
                 self.list.press(2, 0.3);
@@ -60,7 +60,7 @@ pub fn probe(list: &mut List) {
     list.look_state();
     look_stored(list);
     list.take();
-    for word in [FLASH_ANSWER, RTC_OUT, DAY_SECONDS] {
+    for word in [SPIFC_ANSWER, RTC_OUT, RTC_SECONDS] {
         list.read(word);
     }
     for register in [0x15, 0x30, 0x35, 0x40] {
@@ -75,8 +75,8 @@ pub fn probe(list: &mut List) {
     list.digest(3);
     list.pixel(0);
     // Nothing is selected, so this ends nothing.
-    list.write(FLASH_TRANSFER, 0x06);
-    list.write(FLASH_SELECT, 0);
+    list.write(SPIFC_SEND, 0x06);
+    list.write(SPIFC_SELECT, 0);
     frame(list, &[0x05, 0]);
     // No tone was there, and no line was driven.
     list.write(timer_word(SOUND_TIMER, 0), 0);
@@ -85,7 +85,7 @@ pub fn probe(list: &mut List) {
     list.advance(0.35);
     list.keys();
     list.read(KEY_LINES);
-    list.read(DAY_SECONDS);
+    list.read(RTC_SECONDS);
     list.lines();
     list.next();
 }

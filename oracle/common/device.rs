@@ -26,7 +26,7 @@ const _: () = assert!(numbers::GPIO_BYTES == sys::GPIO_SIZE);
 
 /// The address of a timer's word.
 pub const fn timer_word(timer: usize, word: u32) -> u32 {
-    numbers::TIMER_BASE + numbers::TIMER_STRIDE * timer as u32 + word
+    numbers::TIMER_BASE + numbers::TIMER_STEP * timer as u32 + word
 }
 
 /// The fresh state; RAM begins with `image`, and the rest is zero.

@@ -39,27 +39,27 @@ pub const SYSCLK_VAR: u32 = 0xF800_90A4;
 // their words; then the words of one that do something.
 pub const TIMER_BASE: u32 = 0xC002_0000;
 pub const TIMER_COUNT: usize = 6;
-pub const TIMER_STRIDE: u32 = 0x20;
+pub const TIMER_STEP: u32 = 0x20;
 pub const TIMER_WORDS: u32 = 48;
 pub const SOUND_TIMER: usize = 4;
-pub const TIMER_CONTROL: u32 = 0x00;
-pub const TIMER_RELOAD: u32 = 0x08;
-pub const TIMER_COMPARE: u32 = 0x0C;
-pub const TIMER_COUNTER: u32 = 0x10;
+pub const CONTROL_AT: u32 = 0x00;
+pub const RELOAD_AT: u32 = 0x08;
+pub const COMPARE_AT: u32 = 0x0C;
+pub const COUNTER_AT: u32 = 0x10;
 
 // The time of day, and its tick.
 pub const RTC_IRQ_BASE: u32 = 0xC004_0000;
-pub const DAY_SECONDS: u32 = 0xC004_0000;
-pub const DAY_MINUTES: u32 = 0xC004_0004;
-pub const DAY_HOURS: u32 = 0xC004_0008;
-pub const RTC_STATUS: u32 = 0xC004_0054;
-pub const RTC_ENABLE: u32 = 0xC004_0058;
+pub const RTC_SECONDS: u32 = 0xC004_0000;
+pub const RTC_MINUTES: u32 = 0xC004_0004;
+pub const RTC_HOURS: u32 = 0xC004_0008;
+pub const RTC_IRQ_STATUS: u32 = 0xC004_0054;
+pub const RTC_IRQ_ENABLE: u32 = 0xC004_0058;
 
 // The second serial port.
 pub const SPI2_BASE: u32 = 0xC008_0000;
-pub const SPI2_START: u32 = 0xC008_0008;
-pub const SPI2_STATE: u32 = 0xC008_000C;
-pub const SPI2_VALUE: u32 = 0xC008_0010;
+pub const SPI2_SEND: u32 = 0xC008_0008;
+pub const SPI2_STATUS: u32 = 0xC008_000C;
+pub const SPI2_ANSWER: u32 = 0xC008_0010;
 
 // The RTC chip's bus.
 pub const RTC_BUS: u32 = 0xC009_0000;
@@ -72,14 +72,14 @@ pub const RTC_OUT: u32 = 0xC009_0014;
 // The ADC.
 pub const ADC_BASE: u32 = 0xC00C_0000;
 pub const ADC_CONTROL: u32 = 0xC00C_0004;
-pub const ADC_VALUE: u32 = 0xC00C_0008;
+pub const ADC_RESULT: u32 = 0xC00C_0008;
 
 // The flash, and the bit that selects it.
 pub const SPIFC_BASE: u32 = 0xC015_0000;
-pub const FLASH_SELECT: u32 = 0xC015_0000;
-pub const FLASH_STATE: u32 = 0xC015_0004;
-pub const FLASH_TRANSFER: u32 = 0xC015_0008;
-pub const FLASH_ANSWER: u32 = 0xC015_000C;
+pub const SPIFC_SELECT: u32 = 0xC015_0000;
+pub const SPIFC_STATUS: u32 = 0xC015_0004;
+pub const SPIFC_SEND: u32 = 0xC015_0008;
+pub const SPIFC_ANSWER: u32 = 0xC015_000C;
 pub const FLASH_SELECTED: u32 = 0x40;
 
 // Clock switch, power and interrupts.
@@ -101,7 +101,7 @@ pub const LCD_CONTROL: u32 = 0xD050_0140;
 pub const LCD_DATA: u32 = 0xD050_016C;
 pub const LCD_ENABLE: u32 = 0xD050_0188;
 pub const LCD_STATUS: u32 = 0xD050_018C;
-pub const LCD_PICTURE: u32 = 0xD050_033C;
+pub const LCD_DMA: u32 = 0xD050_033C;
 pub const SEND_COMMAND: u32 = 0x81;
 pub const SEND_BYTE: u32 = 0x20A1;
 pub const SEND_TWO: u32 = 0xA1;

@@ -2,7 +2,7 @@
 //! included unchanged. Standard input holds one step a line: `+` selects, `-`
 //! deselects, two lowercase hex digits transfer a byte.
 
-use crate::common::numbers::{FLASH_ANSWER, FLASH_SELECT, FLASH_SELECTED, FLASH_TRANSFER};
+use crate::common::numbers::{FLASH_SELECTED, SPIFC_ANSWER, SPIFC_SELECT, SPIFC_SEND};
 #[path = "../common/mod.rs"]
 mod common;
 
@@ -38,11 +38,11 @@ fn parse(line: &[u8]) -> Option<Step> {
 
 fn step(system: &mut System, step: Step, out: &mut impl Write) -> io::Result<()> {
     match step {
-        Step::Select => system.write32(FLASH_SELECT, FLASH_SELECTED),
-        Step::Deselect => system.write32(FLASH_SELECT, 0),
+        Step::Select => system.write32(SPIFC_SELECT, FLASH_SELECTED),
+        Step::Deselect => system.write32(SPIFC_SELECT, 0),
         Step::Transfer(byte) => {
-            system.write32(FLASH_TRANSFER, byte.into());
-            writeln!(out, "{:02x}", system.read32(FLASH_ANSWER))?;
+            system.write32(SPIFC_SEND, byte.into());
+            writeln!(out, "{:02x}", system.read32(SPIFC_ANSWER))?;
         }
     }
     Ok(())

@@ -111,7 +111,7 @@ impl Panel {
         for (at, pixel) in self.system.ram[..FRAMEBUFFER_BYTES].chunks_exact_mut(2).enumerate() {
             pixel.copy_from_slice(&first.wrapping_add(at as u16).to_le_bytes());
         }
-        self.system.write32(LCD_PICTURE, FLASH_BASE);
+        self.system.write32(LCD_DMA, FLASH_BASE);
         self.system.write32(LCD_CONTROL, START_DMA);
     }
 

@@ -128,8 +128,8 @@ fn end(author: &mut Author, random: &mut Random) {
 
 pub fn look_a_little(list: &mut List) {
     list.look_state();
-    let counter = timer_word(SOUND_TIMER, TIMER_COUNTER);
-    for word in [KEY_LINES, counter, DAY_SECONDS, FLASH_ANSWER, LCD_STATUS, SYSCLK_VAR] {
+    let counter = timer_word(SOUND_TIMER, COUNTER_AT);
+    for word in [KEY_LINES, counter, RTC_SECONDS, SPIFC_ANSWER, LCD_STATUS, SYSCLK_VAR] {
         list.read(word);
     }
     list.take();

@@ -45,21 +45,21 @@ fn clocks(list: &mut List) {
     for register in [0x30, 0x31, 0x32, 0x35] {
         rtc_read(list, register);
     }
-    list.write(SPI2_VALUE, 0x77);
-    list.write(SPI2_START, 0x88);
-    list.read(SPI2_VALUE);
-    list.read(SPI2_STATE);
+    list.write(SPI2_ANSWER, 0x77);
+    list.write(SPI2_SEND, 0x88);
+    list.read(SPI2_ANSWER);
+    list.read(SPI2_STATUS);
 }
 
 /// Running again is no start, and the acknowledging bit is not kept.
 fn timers(list: &mut List) {
-    list.write(timer_word(3, TIMER_RELOAD), 1);
-    list.write(timer_word(3, TIMER_CONTROL), 0x6000);
+    list.write(timer_word(3, RELOAD_AT), 1);
+    list.write(timer_word(3, CONTROL_AT), 0x6000);
     list.pass(0.013);
-    list.write(timer_word(3, TIMER_CONTROL), 0xE000);
+    list.write(timer_word(3, CONTROL_AT), 0xE000);
     list.pass(0.001);
-    list.read(timer_word(3, TIMER_COUNTER));
-    list.read(timer_word(3, TIMER_CONTROL));
+    list.read(timer_word(3, COUNTER_AT));
+    list.read(timer_word(3, CONTROL_AT));
     list.next();
 }
 
@@ -71,10 +71,10 @@ fn flash(list: &mut List) {
     }
     list.counters();
     // Nothing is selected when the bytes come, so they enable nothing.
-    list.write(FLASH_SELECT, FLASH_SELECTED);
-    list.write(FLASH_SELECT, 0);
-    list.write(FLASH_TRANSFER, 0x06);
-    list.write(FLASH_SELECT, 0);
+    list.write(SPIFC_SELECT, FLASH_SELECTED);
+    list.write(SPIFC_SELECT, 0);
+    list.write(SPIFC_SEND, 0x06);
+    list.write(SPIFC_SELECT, 0);
     frame(list, &[0x05, 0]);
     for bytes in [&[0x06][..], &[0xC7], &[0x05, 0]] {
         frame(list, bytes);

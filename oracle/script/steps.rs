@@ -107,10 +107,10 @@ fn selects(author: &mut Author) {
         let select = author.random.pick(&[0, FLASH_SELECTED]);
         let byte = author.random.pick(&[0x06, 0x06, 0x05, 0x9F, 0x04, 0x20, 0x02, 0x00, 0x00]);
         if author.random.one_in(2) {
-            author.list.write(FLASH_SELECT, select);
+            author.list.write(SPIFC_SELECT, select);
         } else {
-            author.list.write(FLASH_TRANSFER, byte);
-            author.list.read(FLASH_ANSWER);
+            author.list.write(SPIFC_SEND, byte);
+            author.list.read(SPIFC_ANSWER);
         }
     }
     author.list.counters();
@@ -123,7 +123,7 @@ fn selects(author: &mut Author) {
 fn counters(author: &mut Author) {
     let (picture, address) = (author.address(), author.flash_address());
     let frames = author.random.one_in(2);
-    author.list.write(LCD_PICTURE, picture);
+    author.list.write(LCD_DMA, picture);
     for _ in 0..author.random.between(250, 300) {
         if frames {
             author.list.write(LCD_CONTROL, START_DMA);
@@ -138,11 +138,11 @@ fn counters(author: &mut Author) {
 
 /// A transaction without its answers.
 fn send(list: &mut List, bytes: &[u8]) {
-    list.write(FLASH_SELECT, FLASH_SELECTED);
+    list.write(SPIFC_SELECT, FLASH_SELECTED);
     for &byte in bytes {
-        list.write(FLASH_TRANSFER, byte.into());
+        list.write(SPIFC_SEND, byte.into());
     }
-    list.write(FLASH_SELECT, 0);
+    list.write(SPIFC_SELECT, 0);
 }
 
 /// Any kind with any numbers.

@@ -67,7 +67,7 @@ fn limits() -> Script {
     let last = [LAST_TIME.next_up(), LAST_TIME, LAST_TIME.next_down()];
     let times = last.map(|time| step(ADVANCE, 0, 0, time.to_bits()));
     let edges = TIME_EDGES.iter().map(|&time| step(ADVANCE, 0, 0, time));
-    let game = [DAY_SECONDS, DAY_MINUTES, DAY_HOURS].map(|word| step(READ, 4, word, 0));
+    let game = [RTC_SECONDS, RTC_MINUTES, RTC_HOURS].map(|word| step(READ, 4, word, 0));
     let steps = turbos.chain(holds).chain(keys).chain(sizes).chain(fastest).chain(times);
     Script { presses, steps: steps.chain(game).chain(edges).collect() }
 }

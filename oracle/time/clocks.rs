@@ -39,13 +39,13 @@ pub fn day(author: &mut Author) {
         0..=2 => author.set_field(),
         3 => {
             let ones = author.value(&[0, 1, 2, 3, 0xFFFF_FFFD, u32::MAX]);
-            author.list.write(RTC_STATUS, ones);
-            author.list.read(RTC_STATUS);
+            author.list.write(RTC_IRQ_STATUS, ones);
+            author.list.read(RTC_IRQ_STATUS);
         }
         4 => {
             let enable = author.value(&[0, 1, 2, 3, u32::MAX]);
-            author.list.write(RTC_ENABLE, enable);
-            author.list.read(RTC_ENABLE);
+            author.list.write(RTC_IRQ_ENABLE, enable);
+            author.list.read(RTC_IRQ_ENABLE);
         }
         5 => author.change_turbo(),
         6 => author.fields(),
@@ -67,13 +67,13 @@ pub fn adc(author: &mut Author) {
     author.list.look(0xA);
     if author.random.one_in(8) {
         let value = author.random.next() as u32;
-        author.list.write(ADC_VALUE, value);
-        author.list.read(ADC_VALUE);
+        author.list.write(ADC_RESULT, value);
+        author.list.read(ADC_RESULT);
     }
     if !author.random.one_in(4) {
         author.pass();
         author.list.read(ADC_CONTROL);
-        author.list.read(ADC_VALUE);
+        author.list.read(ADC_RESULT);
         author.list.look(0xA);
     }
 }
@@ -202,7 +202,7 @@ impl Author {
             self.go_game((gone + 1.0) * unit - base);
         }
         self.fields();
-        self.list.read(RTC_STATUS);
+        self.list.read(RTC_IRQ_STATUS);
         if self.random.one_in(2) {
             self.list.look(0x9);
         }

@@ -28,18 +28,18 @@ const TAME: usize = 6;
 
 /// Every other register word that a list reads or writes.
 const OTHER_WORDS: [u32; 12] = [
-    DAY_SECONDS,
-    DAY_MINUTES,
-    DAY_HOURS,
-    RTC_STATUS,
-    RTC_ENABLE,
+    RTC_SECONDS,
+    RTC_MINUTES,
+    RTC_HOURS,
+    RTC_IRQ_STATUS,
+    RTC_IRQ_ENABLE,
     RTC_ADDRESS,
     RTC_DATA,
     RTC_COMMAND,
     RTC_READY,
     RTC_OUT,
     ADC_CONTROL,
-    ADC_VALUE,
+    ADC_RESULT,
 ];
 
 /// Each action belongs to another family. Wild ones are rarer, for they undo

@@ -81,15 +81,15 @@ fn rtc_read(list: &mut List, register: u32) -> Answer {
 /// What these answer was worked out by hand.
 fn examples(list: &mut List) {
     for (timer, reload) in [(0, 0x0000), (1, 0xFFFF), (2, 0xFC18)] {
-        list.write(timer_word(timer, TIMER_RELOAD), reload);
-        list.write(timer_word(timer, TIMER_CONTROL), 0x6000);
+        list.write(timer_word(timer, RELOAD_AT), reload);
+        list.write(timer_word(timer, CONTROL_AT), 0x6000);
     }
     expect(list.advance(0.5), 0, [0, 0, 0]);
     // 6,000,000 counts are 91 periods of 65,536 and 0x8D80 more.
     for (timer, periods, counter) in [(0, 91, 0x8D80), (1, 6_000_000, 0xFFFF), (2, 6_000, 0xFC18)] {
         expect(list.look(timer), 0, [0, periods, 1]);
-        expect(list.read(timer_word(timer as usize, TIMER_COUNTER)), 0, [counter, 0, 0]);
-        expect(list.read(timer_word(timer as usize, TIMER_CONTROL)), 0, [0xE000, 0, 0]);
+        expect(list.read(timer_word(timer as usize, COUNTER_AT)), 0, [counter, 0, 0]);
+        expect(list.read(timer_word(timer as usize, CONTROL_AT)), 0, [0xE000, 0, 0]);
     }
     list.write(RTC_IRQ_BASE + 8, 25);
     expect(list.read(RTC_IRQ_BASE + 8), 0, [1, 0, 0]);
@@ -116,20 +116,20 @@ fn timer_edges(list: &mut List) {
         let timer = at % 6;
         rewind(list);
         list.clock(clock);
-        list.write(timer_word(timer, TIMER_RELOAD), reload);
-        list.write(timer_word(timer, TIMER_CONTROL), 0);
+        list.write(timer_word(timer, RELOAD_AT), reload);
+        list.write(timer_word(timer, CONTROL_AT), 0);
         let slow = (at + 1) % 2;
-        list.write(timer_word(timer, TIMER_CONTROL), 0x6000 | slow as u32);
+        list.write(timer_word(timer, CONTROL_AT), 0x6000 | slow as u32);
         let rate = list.device.sysclk() / [2.0, 256.0][slow];
         let period = list.device.timer_period(timer) as f64;
         for periods in [1.0, 3.0] {
             for places in -1..=1 {
                 list.advance(off(periods * period / rate, places));
-                list.read(timer_word(timer, TIMER_COUNTER));
+                list.read(timer_word(timer, COUNTER_AT));
                 list.look(timer as u64);
             }
-            list.read(timer_word(timer, TIMER_CONTROL));
-            list.write(timer_word(timer, TIMER_CONTROL), 0xE000 | slow as u32);
+            list.read(timer_word(timer, CONTROL_AT));
+            list.write(timer_word(timer, CONTROL_AT), 0xE000 | slow as u32);
         }
     }
 }
@@ -138,21 +138,21 @@ fn timer_edges(list: &mut List) {
 /// shows what was stored while the timer stands.
 fn timer_controls(list: &mut List) {
     restart(list);
-    list.write(timer_word(3, TIMER_RELOAD), 0xFFFE);
-    list.write(timer_word(3, TIMER_COUNTER), 0x1234_5678);
+    list.write(timer_word(3, RELOAD_AT), 0xFFFE);
+    list.write(timer_word(3, COUNTER_AT), 0x1234_5678);
     for combination in 0..16 {
-        list.write(timer_word(3, TIMER_CONTROL), control_bits(combination));
-        list.read(timer_word(3, TIMER_CONTROL));
+        list.write(timer_word(3, CONTROL_AT), control_bits(combination));
+        list.read(timer_word(3, CONTROL_AT));
         let now = list.device.now;
         list.advance(now + 0.3);
-        list.read(timer_word(3, TIMER_CONTROL));
-        list.read(timer_word(3, TIMER_COUNTER));
+        list.read(timer_word(3, CONTROL_AT));
+        list.read(timer_word(3, COUNTER_AT));
         if combination % 4 == 3 {
             list.look(3);
         }
     }
-    list.write(timer_word(3, TIMER_CONTROL), 0xFFFF_FFFF);
-    list.read(timer_word(3, TIMER_CONTROL));
+    list.write(timer_word(3, CONTROL_AT), 0xFFFF_FFFF);
+    list.read(timer_word(3, CONTROL_AT));
 }
 
 /// About the ends of sixtieths of a second.
@@ -174,7 +174,7 @@ fn tones(list: &mut List) {
     list.turbo(3.0);
     list.advance(0.75);
     let [control, reload, compare] =
-        [TIMER_CONTROL, TIMER_RELOAD, TIMER_COMPARE].map(|w| timer_word(SOUND_TIMER, w));
+        [CONTROL_AT, RELOAD_AT, COMPARE_AT].map(|w| timer_word(SOUND_TIMER, w));
     list.write(control, 0x2000);
     for period in [1, 19, 20, 21, 1000, 65_536] {
         list.write(reload, 65_536 - period);
@@ -203,7 +203,7 @@ fn full_store(author: &mut Author) {
     author.fill_store();
     let list = &mut author.list;
     let [control, reload, compare] =
-        [TIMER_CONTROL, TIMER_RELOAD, TIMER_COMPARE].map(|w| timer_word(SOUND_TIMER, w));
+        [CONTROL_AT, RELOAD_AT, COMPARE_AT].map(|w| timer_word(SOUND_TIMER, w));
     let (first, period) = (list.device.reg(reload), list.device.timer_period(SOUND_TIMER) as u32);
     // An interrupt of timer 4 waits.
     let now = list.device.now;
@@ -218,7 +218,7 @@ fn full_store(author: &mut Author) {
     expect(list.write(reload, first), SOUND_FULL, [0, 0, 0]);
     list.clock(0);
     // The first two give the tone that there is, the third is no tone's.
-    let other = timer_word(0, TIMER_CONTROL);
+    let other = timer_word(0, CONTROL_AT);
     for (word, value) in [(reload, first | 0x5555_0000), (control, 0xE000), (other, 0)] {
         expect(list.write(word, value), 0, [0, 0, 0]);
         list.read(word);
@@ -296,8 +296,8 @@ fn day_fields(list: &mut List) {
 
 /// Across a second, a minute, an hour and midnight; ticks, and their status.
 fn day_passes(list: &mut List) {
-    list.write(RTC_ENABLE, 0xFFFF_FFFF);
-    list.read(RTC_ENABLE);
+    list.write(RTC_IRQ_ENABLE, 0xFFFF_FFFF);
+    list.read(RTC_IRQ_ENABLE);
     for (turbo, to) in [(1.0, 0.999), (FASTEST, 1.0), (SLOWEST, 1.0), (1000.5, 60.0)] {
         list.turbo(turbo);
         for (word, value) in [(0x08, 23), (0x04, 59), (0x00, 59)] {
@@ -308,9 +308,9 @@ fn day_passes(list: &mut List) {
             list.advance(time);
             list.look(0xC);
             list.read(RTC_IRQ_BASE + 0x08);
-            list.read(RTC_STATUS);
-            list.write(RTC_STATUS, if turbo == 1.0 { 0xFFFF_FFFD } else { 2 });
-            list.read(RTC_STATUS);
+            list.read(RTC_IRQ_STATUS);
+            list.write(RTC_IRQ_STATUS, if turbo == 1.0 { 0xFFFF_FFFD } else { 2 });
+            list.read(RTC_IRQ_STATUS);
         }
         list.look(0x9);
     }
@@ -335,15 +335,15 @@ fn adc_controls(list: &mut List) {
             list.read(ADC_CONTROL);
         }
     }
-    list.write(ADC_VALUE, 0xFFFF_FFFF);
-    list.read(ADC_VALUE);
+    list.write(ADC_RESULT, 0xFFFF_FFFF);
+    list.read(ADC_RESULT);
     list.write(ADC_CONTROL, 0);
     list.write(ADC_CONTROL, 0xFFFF_FFFF);
     list.read(ADC_CONTROL);
     let now = list.device.now;
     list.advance(now);
     list.read(ADC_CONTROL);
-    list.read(ADC_VALUE);
+    list.read(ADC_RESULT);
 }
 
 fn times(list: &mut List) {
@@ -405,13 +405,13 @@ fn turbos(list: &mut List) {
 fn wild_numbers(list: &mut List) {
     restart(list);
     list.put(0xB, 0x7FFF_FFFF_FFFF_FFFF);
-    list.write(timer_word(0, TIMER_RELOAD), 0xFC18);
-    list.write(timer_word(0, TIMER_CONTROL), 0x6000);
+    list.write(timer_word(0, RELOAD_AT), 0xFC18);
+    list.write(timer_word(0, CONTROL_AT), 0x6000);
     for number in WILD_NUMBERS {
         list.put_number(0x7, number);
         list.look(0xC);
         list.put_number(0x0, number);
-        list.read(timer_word(0, TIMER_COUNTER));
+        list.read(timer_word(0, COUNTER_AT));
     }
     // No place takes a NaN.
     for at in 0x0..=0xF {
@@ -433,7 +433,7 @@ fn wild_numbers(list: &mut List) {
 fn equal_tone(list: &mut List) {
     list.put_number(0x9, -0.0);
     list.put_number(0xA, 0.5);
-    list.write(timer_word(SOUND_TIMER, TIMER_CONTROL), 0);
+    list.write(timer_word(SOUND_TIMER, CONTROL_AT), 0);
     list.look(0x7);
 }
 

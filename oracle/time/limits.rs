@@ -150,11 +150,11 @@ impl Author {
         let n = self.random.below(TIMER_COUNT);
         if self.random.one_in(3) {
             let start = self.list.device.timers[n].start;
-            self.list.write(timer_word(n, TIMER_CONTROL), 0x6000);
+            self.list.write(timer_word(n, CONTROL_AT), 0x6000);
             // Beginning to run has set the start; here it is to be wild.
             self.list.put_number(n as u64, start);
         }
-        self.list.read(timer_word(n, TIMER_COUNTER));
+        self.list.read(timer_word(n, COUNTER_AT));
         self.list.look(n as u64);
     }
 
@@ -164,12 +164,10 @@ impl Author {
         if self.random.one_in(4) {
             self.list.put_number(0x9, -0.0);
             self.list.put_number(0xA, 0.5);
-            self.list.write(timer_word(SOUND_TIMER, TIMER_CONTROL), 0);
+            self.list.write(timer_word(SOUND_TIMER, CONTROL_AT), 0);
         } else {
-            let word = timer_word(
-                SOUND_TIMER,
-                self.random.pick(&[TIMER_CONTROL, TIMER_RELOAD, TIMER_COMPARE]),
-            );
+            let word =
+                timer_word(SOUND_TIMER, self.random.pick(&[CONTROL_AT, RELOAD_AT, COMPARE_AT]));
             let value = self.list.device.reg(word);
             self.list.write(word, value);
         }

@@ -22,8 +22,8 @@ pub fn timers(author: &mut Author) {
     match author.random.below(14) {
         0 | 1 => {
             let control = author.control();
-            author.list.write(timer_word(n, TIMER_CONTROL), control);
-            author.list.read(timer_word(n, TIMER_CONTROL));
+            author.list.write(timer_word(n, CONTROL_AT), control);
+            author.list.read(timer_word(n, CONTROL_AT));
         }
         2 | 3 => author.set_up(n),
         4 => author.reload(n, &RELOADS),
@@ -68,8 +68,7 @@ impl Author {
     /// Whether timer `n` runs and began before now.
     fn goes(&self, n: usize) -> bool {
         let device = &self.list.device;
-        device.reg(timer_word(n, TIMER_CONTROL)) & 0x2000 != 0
-            && device.timers[n].start <= device.now
+        device.reg(timer_word(n, CONTROL_AT)) & 0x2000 != 0 && device.timers[n].start <= device.now
     }
 
     fn control(&mut self) -> u32 {
@@ -87,14 +86,14 @@ impl Author {
     fn reload(&mut self, n: usize, edges: &[u32]) {
         let high = if self.random.one_in(3) { (self.random.next() as u32) << 16 } else { 0 };
         let reload = self.value(edges) & 0xFFFF | high;
-        self.list.write(timer_word(n, TIMER_RELOAD), reload);
+        self.list.write(timer_word(n, RELOAD_AT), reload);
     }
 
     fn set_up(&mut self, n: usize) {
         self.reload(n, &RELOADS);
-        self.list.write(timer_word(n, TIMER_CONTROL), 0);
+        self.list.write(timer_word(n, CONTROL_AT), 0);
         let control = self.control() | 0x2000;
-        self.list.write(timer_word(n, TIMER_CONTROL), control);
+        self.list.write(timer_word(n, CONTROL_AT), control);
     }
 
     fn change_clock(&mut self) {
@@ -104,10 +103,8 @@ impl Author {
 
     /// A word that is only stored; the counter's shows while the timer stands.
     fn other_word(&mut self, n: usize) {
-        let word = timer_word(
-            n,
-            self.random.pick(&[0x04, TIMER_COMPARE, TIMER_COUNTER, 0x14, 0x18, 0x1C]),
-        );
+        let word =
+            timer_word(n, self.random.pick(&[0x04, COMPARE_AT, COUNTER_AT, 0x14, 0x18, 0x1C]));
         let value = self.random.next() as u32;
         self.list.write(word, value);
         self.list.read(word);
@@ -131,13 +128,13 @@ impl Author {
             }
             _ => self.pass(),
         }
-        self.list.read(timer_word(n, TIMER_COUNTER));
-        self.list.read(timer_word(n, TIMER_CONTROL));
+        self.list.read(timer_word(n, COUNTER_AT));
+        self.list.read(timer_word(n, CONTROL_AT));
         self.list.look(n as u64);
         let other = self.random.below(2 * TIMER_COUNT);
         if other < TIMER_COUNT {
             self.list.look(other as u64);
-            self.list.read(timer_word(other, TIMER_COUNTER));
+            self.list.read(timer_word(other, COUNTER_AT));
         }
     }
 
@@ -153,7 +150,7 @@ impl Author {
 
     fn rate(&self, n: usize) -> f64 {
         let clock = self.list.device.sysclk();
-        let slow = self.list.device.reg(timer_word(n, TIMER_CONTROL)) & 1 != 0;
+        let slow = self.list.device.reg(timer_word(n, CONTROL_AT)) & 1 != 0;
         clock / if slow { 256.0 } else { 2.0 }
     }
 
@@ -182,17 +179,17 @@ impl Author {
         let high = (period * part) as u32 + self.random.below(4) as u32;
         let compare = 0x1_0001u32.wrapping_sub(high);
         let compare = self.value(&[compare, compare & 0xFFFF, 0, 0xFFFF]);
-        self.list.write(timer_word(SOUND_TIMER, TIMER_COMPARE), compare);
+        self.list.write(timer_word(SOUND_TIMER, COMPARE_AT), compare);
     }
 
     fn sound_control(&mut self) {
         let control = self.control();
         let run = if self.random.one_in(4) { 0 } else { 0x2000 };
-        self.list.write(timer_word(SOUND_TIMER, TIMER_CONTROL), control | run);
+        self.list.write(timer_word(SOUND_TIMER, CONTROL_AT), control | run);
     }
 
     fn sound_word(&mut self) -> u32 {
-        timer_word(SOUND_TIMER, self.random.pick(&[TIMER_CONTROL, TIMER_RELOAD, TIMER_COMPARE]))
+        timer_word(SOUND_TIMER, self.random.pick(&[CONTROL_AT, RELOAD_AT, COMPARE_AT]))
     }
 
     /// The same tone, unless the clock has changed meanwhile.
@@ -210,10 +207,10 @@ impl Author {
 
     /// Writes tones until all places are taken.
     pub fn fill_store(&mut self) {
-        self.list.write(timer_word(SOUND_TIMER, TIMER_CONTROL), 0x6000);
+        self.list.write(timer_word(SOUND_TIMER, CONTROL_AT), 0x6000);
         while self.list.waiting() < SOUND_PLACES {
             let reload = self.random.next() as u32 & 0xFFFF;
-            self.list.write(timer_word(SOUND_TIMER, TIMER_RELOAD), reload);
+            self.list.write(timer_word(SOUND_TIMER, RELOAD_AT), reload);
             if self.random.one_in(64) {
                 self.pass();
             }
@@ -239,8 +236,8 @@ impl Author {
             3 | 4 => self.compare(),
             5 => self.same_again(),
             6 => {
-                self.list.write(timer_word(SOUND_TIMER, TIMER_COUNTER), 7);
-                self.list.write(timer_word(0, TIMER_CONTROL), 0x6000);
+                self.list.write(timer_word(SOUND_TIMER, COUNTER_AT), 7);
+                self.list.write(timer_word(0, CONTROL_AT), 0x6000);
             }
             7 => self.change_clock(),
             8 => self.timer_passes(SOUND_TIMER),

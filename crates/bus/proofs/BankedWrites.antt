@@ -1,24 +1,27 @@
 -- The branches of a write, over the bank's parts, each with the facts that lead to it; and the event that it makes.
 use Prim.Native.Nat.{ℕ, _<_, _≤_}
-use mathlib.Core.Path.{_≡_, refl, sym, ap, subst, _∙_}
+use mathlib.Core.Path.{_≡_, refl, sym, ap, _∙_}
 use mathlib.Core.Bool.{Bool, true, false, not, cond}
 use mathlib.Core.List.{List}
-use mathlib.Core.Logic.{_≢_}
 use lib.Ieee.{Float}
 use native.Mathlib.Omega.{arith}
 use lib.Dec.{eqb}
-use lib.ListN.{getD}
-use borrow.Author.Tests.{lt-ltb, le-ltb}
+use lib.ListN.{getD, set}
 use Rattle.registers.specs.declared.Registers.{Registers}
+use Rattle.registers.specs.declared.Effect.{Effect}
+use Rattle.registers.specs.declared.Effect.the-variants.{DayField}
+use Rattle.registers.specs.declared.Port.{Port}
+use Rattle.registers.specs.declared.Port.the-variants.{Select, Send, LcdControl, RtcCommand, Acts, Other}
 use Rattle.registers.specs.declared.Refusal.{Refusal}
 use Rattle.registers.specs.declared.Spot.{Spot}
 use Rattle.registers.specs.declared.Spot.the-variants.{Own, Never, Held, Absent}
-use Rattle.registers.specs.Words.{numberOf, wordsFrom, namedWords, ownWords, slotOf, slotWord, ownAt, ownWith, unstored, place, Others, others, putHeld, OtherOutcome, otherOutcome}
+use Rattle.registers.specs.Words.{numberOf, ownAt, ownWith, unstored, place, Others, others, putHeld, OtherOutcome}
+use Rattle.registers.specs.Words.{otherOutcome}
+use Rattle.registers.specs.Ports.{slotOf, slotWord, dayWord, portOf, fieldOf}
 use Rattle.registers.specs.Words.{putAbsent, registersOf, othersOf, otherSpot, wordIn, wordAt, beside, putIn, putWord}
-use Rattle.registers.proofs.Choice.{by-less}
 use Rattle.registers.proofs.Cases.{spot-other}
 use Rattle.registers.proofs.Own.{slot-hit, own-word, own-put}
-use Rattle.registers.proofs.Slots.{slot-back}
+use Rattle.registers.proofs.Slots.{slot-back, port-none}
 use Rattle.registers.proofs.Stays.{unstored-word}
 use Rattle.memory.specs.declared.Place.{Place}
 use Rattle.memory.specs.declared.Place.the-variants.{Ram, Sram, Gpio, Register, Stray}
@@ -37,20 +40,23 @@ use Rattle.timer.specs.Events.{queueOf, fullOf, putOf, PutOutcome}
 use Rattle.state.specs.declared.Devices.{Devices}
 use Rattle.state.specs.declared.Parts.{Parts}
 use Rattle.state.specs.Bank.{partsIn}
-use Rattle.state.specs.Packed.{Kept, Answered}
+use Rattle.state.specs.Packed.{StaysPacked, Answered}
 use Rattle.state.specs.Parts.{devicesPut, sentWith, flashPut, sentPut, panelPut, latchPut, ringPut}
 use Rattle.time.specs.Clocks.{clockIn}
-use Rattle.bus.specs.declared.Told.{Told}
-use Rattle.bus.specs.World.{World, world, Out, out, done, Said, answer, well}
+use Rattle.bus.specs.declared.WriteAnswer.{WriteAnswer}
+use Rattle.bus.specs.World.{World, world, Out, out, outDone, OwnOut, answer}
 use Rattle.bus.specs.Chip.{Flashed, flashed, chipped, selectWritten, sendWritten}
 use Rattle.bus.specs.Rtc.{Ran, ran, commandWritten}
 use Rattle.bus.specs.Screen.{Copied, copied, controlled}
 use Rattle.bus.specs.Sounds.{noted}
-use Rattle.bus.specs.Words.{fieldAt, actsOf, daySet, wordWritten, ownWritten}
-use Rattle.bus.specs.Write.{Stored, stored, settled, storedWord, otherWritten, byFlash, byPanel, byRtc, byWord, byStore, portWritten, wordOf, regWritten, sizedPut, sizedNumber, writeAt, writeOf, together, notedWrite}
-use Rattle.bus.specs.Bank.{Rest, wroteOf, toldOf, outOf}
+use Rattle.bus.specs.Words.{daySet, wordWritten}
+use Rattle.bus.specs.Write.{Stored, stored, settled, storedWord, otherWritten, byFlash, byPanel, byRtc, byWord}
+use Rattle.bus.specs.Write.{byStore, writtenAt, portWritten, wordAddress, regWritten, sizedPut, sizedNumber}
+use Rattle.bus.specs.Write.{writeAt, writeOf, together, notedWrite}
+use Rattle.bus.specs.Bank.{Rest, wroteOf, withoutEvent, outOf}
 use Rattle.bus.proofs.Cases.{other}
-use Rattle.bus.proofs.Slots.{slot-not, other-else, other-control, other-acts, field-acts, day-unstored}
+use Rattle.bus.proofs.Branches.{Stores, by-stores}
+use Rattle.bus.proofs.Slots.{slot-stored, day-unstored}
 use Rattle.bus.proofs.Parts.{sent-alone}
 
 -- ---- a word that has no storage of its own
@@ -67,33 +73,26 @@ module _ (r : Registers) (x : Parts) (word : ℕ) (none : slotOf word ≡ 76) wh
   unfolding wordAt
   word-as e = rw (← spot-other (r .addresses) word (slotOf word) refl past, ← e)
 
-  module _ {f : ℕ} (e : f ≡ fieldAt word) (a n v : ℕ) where
-    pub other-day : {t : Told} {y : Parts} {new : ℕ} → f < 3 → t ≡ toldOf 0 → new ≡ mergedOf 0 a n v
-        → y ≡ devicesPut x (daySet (x .devices) f new)
+  module _ {b : Bool} (e : b ≡ dayWord word) (a n v : ℕ) where
+    pub other-day : {t : WriteAnswer} {y : Parts} {f new : ℕ} → b ≡ true → t ≡ withoutEvent 0 → new ≡ mergedOf 0 a n v
+        → f ≡ fieldOf word → y ≡ devicesPut x (daySet (x .devices) f new)
         → stored r (wroteOf t (y .devices)) ≡ otherWritten r (x .devices) word (mergedOf (wordAt r word) a n v)
     unfolding otherWritten
-    other-day l k h j = rw (
-      unstored-word r word (day-unstored word (subst (λ (z : ℕ). z < 3) e l)),
-      ← e,
-      lt-ltb _ _
-          l,
-      k,
-      j,
-      h,
-    )
+    other-day l k h g j =
+        rw (unstored-word r word (day-unstored word (sym e ∙ l)), ← e, l, k, j, h, g)
 
-    module _ (l : 3 ≤ f) {y : Spot} (h : y ≡ otherSpot (r .addresses) word) where
+    module _ (l : b ≡ false) {y : Spot} (h : y ≡ otherSpot (r .addresses) word) where
       other-put : {z : Stored}
           → z ≡ settled (putIn r y word (mergedOf (wordIn (r .own) (r .values) y) a n v)) (x .devices)
           → z ≡ otherWritten r (x .devices) word (mergedOf (wordAt r word) a n v)
       unfolding otherWritten storedWord
-      other-put k = rw (← e, le-ltb _ _ l, word-as h, put-as (mergedOf (wordIn (r .own) (r .values) y) a n v) h) k
+      other-put k = rw (← e, l, word-as h, put-as (mergedOf (wordIn (r .own) (r .values) y) a n v) h) k
 
-      pub other-none : {t : Told} → t ≡ toldOf 0 → y ≡ Never
+      pub other-none : {t : WriteAnswer} → t ≡ withoutEvent 0 → y ≡ Never
           → stored r (wroteOf t (x .devices)) ≡ otherWritten r (x .devices) word (mergedOf (wordAt r word) a n v)
       other-none k m = other-put (rw (m, k))
 
-      pub other-put-held : {t : Told} {old new : ℕ} {p q : List ℕ} (i : ℕ) → t ≡ toldOf 0 → y ≡ Held i
+      pub other-put-held : {t : WriteAnswer} {old new : ℕ} {p q : List ℕ} (i : ℕ) → t ≡ withoutEvent 0 → y ≡ Held i
           → old ≡ getD (r .values) i 0 → new ≡ mergedOf old a n v
           → others p q ≡ putHeld (othersOf r) i new
           → stored (registersOf (r .own) p q) (wroteOf t (x .devices)) ≡ otherWritten r (x .devices) word (mergedOf
@@ -102,9 +101,9 @@ module _ (r : Registers) (x : Parts) (word : ℕ) (none : slotOf word ≡ 76) wh
           other-put (rw (m, k, ← o, ← w) (ap (λ (z : Others). stored (registersOf (r .own) (z .addresses)
           (z .values)) (answer 0 (x .devices))) j))
 
-      pub other-put-absent : {t : Told} {new : ℕ} {p q : List ℕ} (i : ℕ) (b : Refusal) → y ≡ Absent i
+      pub other-put-absent : {t : WriteAnswer} {new : ℕ} {p q : List ℕ} (i : ℕ) (b : Refusal) → y ≡ Absent i
           → new ≡ mergedOf 0 a n v
-          → otherOutcome b (others p q) ≡ putAbsent (othersOf r) i word new → t ≡ toldOf (numberOf b)
+          → otherOutcome b (others p q) ≡ putAbsent (othersOf r) i word new → t ≡ withoutEvent (numberOf b)
           → stored (registersOf (r .own) p q) (wroteOf t (x .devices)) ≡ otherWritten r (x .devices) word (mergedOf
           (wordAt r word) a n v)
       other-put-absent i b m w j k =
@@ -127,8 +126,8 @@ module _ (r : Registers) (c p m s g fb : List ℕ) (x : Parts) (full : Bool) (wo
   abbrev before : World
   before = world r c p m s g fb (x .devices)
 
-  module _ {t : Told} {y : Parts} {own₁ : List ℕ} (k : t ≡ toldOf 0) where
-    pub port-select : {f chip : Chip} {p₁ m₁ : List ℕ} → word ≡ 0xC0150000 → chip ≡ x .devices .flash
+  module _ {t : WriteAnswer} {y : Parts} {own₁ : List ℕ} (k : t ≡ withoutEvent 0) where
+    pub port-select : {f chip : Chip} {p₁ m₁ : List ℕ} → portOf word ≡ Select → chip ≡ x .devices .flash
         → flashed own₁ (chipped f p₁ m₁) ≡ selectWritten (r .own) chip p m new → y ≡ flashPut x f
         → outOf (world (registersOf own₁ (r .addresses) (r .values)) c p₁ m₁ s g fb (y .devices)) t ≡ portWritten
         before full word old new part
@@ -137,7 +136,7 @@ module _ (r : Registers) (c p m s g fb : List ℕ) (x : Parts) (full : Bool) (wo
         (r .own) z p m new) a))
 
     -- a transfer changes the answer and the transaction alone
-    pub port-send : {f chip : Chip} {p₁ m₁ : List ℕ} → word ≡ 0xC0150008 → chip ≡ x .devices .flash
+    pub port-send : {f chip : Chip} {p₁ m₁ : List ℕ} → portOf word ≡ Send → chip ≡ x .devices .flash
         → flashed own₁ (chipped f p₁ m₁) ≡ sendWritten (r .own) chip p m new → y ≡ sentPut x (f .rx) (f .tx)
         → outOf (world (registersOf own₁ (r .addresses) (r .values)) c p₁ m₁ s g fb (y .devices)) t ≡ portWritten
         before full word old new part
@@ -148,7 +147,7 @@ module _ (r : Registers) (c p m s g fb : List ℕ) (x : Parts) (full : Bool) (wo
         rw (h, k, e ∙ ap (λ (z : Chip). flashPut x z) (sym s)) (ap (λ (z : Flashed). byFlash before z) (i ∙ ap (λ (z
         : Chip). sendWritten (r .own) z p m new) a))
 
-    pub port-panel : {q panel : Panel} {f₁ : List ℕ} → word ≡ 0xD0500140 → panel ≡ x .devices .panel
+    pub port-panel : {q panel : Panel} {f₁ : List ℕ} → portOf word ≡ LcdControl → panel ≡ x .devices .panel
         → copied own₁ (screen q f₁) ≡ controlled r m s g (screen panel fb) new → y ≡ panelPut x q
         → outOf (world (registersOf own₁ (r .addresses) (r .values)) c p m s g f₁ (y .devices)) t ≡ portWritten
         before full word old new part
@@ -156,7 +155,7 @@ module _ (r : Registers) (c p m s g fb : List ℕ) (x : Parts) (full : Bool) (wo
     port-panel h a i e = rw (h, k, e) (ap (λ (z : Copied). byPanel before z) (i ∙ ap (λ (z : Panel). controlled r m s
         g (screen z fb) new) a))
 
-    pub port-rtc : {l latch : Latch} {times : Times} {c₁ : List ℕ} → word ≡ 0xC009000C
+    pub port-rtc : {l latch : Latch} {times : Times} {c₁ : List ℕ} → portOf word ≡ RtcCommand
         → latch ≡ x .devices .latch → times ≡ x .devices .clocks .times
         → ran own₁ (rtcOf c₁ l) ≡ commandWritten (r .own) (rtcOf c latch) (times .game) new → y ≡ latchPut x l
         → outOf (world (registersOf own₁ (r .addresses) (r .values)) c₁ p m s g fb (y .devices)) t ≡ portWritten
@@ -168,72 +167,65 @@ module _ (r : Registers) (c p m s g fb : List ℕ) (x : Parts) (full : Bool) (wo
         (i ∙ ap (λ (z : Latch). commandWritten (r .own) (rtcOf c z) (times .game) new) a
         ∙ ap (λ (z : Times). commandWritten (r .own) (rtcOf c (x .devices .latch)) (z .game) new) b))
 
-module _ (w : World) (full : Bool) (s old new part : ℕ) (h : s < 76) where
-  -- a word in its own storage that has no memory behind it
-  pub port-own : {x : Said} → s ≢ 60 → s ≢ 62 → s ≢ 71 → s ≢ 55
-      → x ≡ ownWritten (w .registers .own) (w .devices) (clockIn (w .sram)) full (slotWord s) old new part
-      → byWord w x ≡ portWritten w full (slotWord s) old new part
-  unfolding portWritten ownWritten storedWord ownWords wordsFrom namedWords
-  port-own d₁ d₂ d₃ d₄ e =
-      let less : slotOf (slotWord s) < 76 = omega (arith, slot-back s h) in
-      rw (
-        e,
-        slot-not s h 60 0xC0150000 (omega arith) refl d₁,
-        slot-not s h 62 0xC0150008 (omega arith) refl d₂,
-        slot-not s h 71 0xD0500140 (omega arith) refl d₃,
-        slot-not s h 55 0xC009000C (omega arith) refl d₄,
-        own-put (w .registers) (slotWord s) new less,
-      )
-      (either (actsOf (slotWord s)))
+module _ (w : World) (full : Bool) (word old new part : ℕ) where
+  pub port-acts : {x : OwnOut} (e : Effect) → portOf word ≡ Acts e
+      → x ≡ wordWritten e (w .registers .own) (w .devices) (clockIn (w .sram)) full word old new part
+      → byWord w x ≡ portWritten w full word old new part
+  unfolding portWritten
+  port-acts e h k = rw h (ap (byWord w) k)
+
+  -- one that has no storage of its own
+  pub port-other : slotOf word ≡ 76 → {x : Stored} → x ≡ otherWritten (w .registers) (w .devices) word new
+      → byStore w x ≡ portWritten w full word old new part
+  unfolding portWritten otherWritten
+  port-other none e = rw (e, port-none word none) (by (dayWord word))
     where
-      either : (b : Bool) → byWord w (cond b (wordWritten (w .registers .own) (w .devices) (clockIn (w .sram)) full
-          (slotWord s) old new part)
-          (well (ownWith (w .registers .own) (slotWord s) new) (w .devices)))
-          ≡ cond b (byWord w (wordWritten (w .registers .own) (w .devices) (clockIn (w .sram)) full (slotWord s) old
-          new part))
-          (byWord w (well (ownWith (w .registers .own) (slotWord s) new) (w .devices)))
-      either true = refl
-      either false = refl
+      by : (b : Bool) → byStore w (cond b (stored (w .registers) (answer 0 (daySet (w .devices) (fieldOf word) new)))
+          (storedWord (w .registers) (w .devices) word new))
+          ≡ writtenAt (cond b (Acts DayField) Other) w full word old new part
+      by true = refl
+      by false = refl
 
--- one that has none
-pub port-other : (w : World) (full : Bool) (word old new part : ℕ) → slotOf word ≡ 76 → {x : Stored}
-    → x ≡ otherWritten (w .registers) (w .devices) word new → byStore w x ≡ portWritten w full word old new part
-unfolding portWritten otherWritten wordWritten ownWords wordsFrom namedWords
-port-other w full word old new part none e =
-    rw (
-      e,
-      other-else word none 60 0xC0150000 (omega arith) refl,
-      other-else word none 62 0xC0150008 (omega arith) refl,
-      other-else word none 71 0xD0500140 (omega arith) refl,
-      other-else word none 55 0xC009000C (omega arith) refl,
-    )
-    (by-less (fieldAt word) 3
-    (λ l. rw (lt-ltb _ _ l, field-acts word none refl l, other-control word none))
-    (λ l. rw (le-ltb _ _ l, other-acts word none refl l)))
+-- one that is only stored, by its slot
+pub port-holds : (w : World) (full : Bool) (s old new part : ℕ) (p : Port) → s < 76 → portOf (slotWord s) ≡ p → Stores p
+    → {own₁ : List ℕ} {t : WriteAnswer} → (own₁ ≡ set (w .registers .own) s new) × (t ≡ withoutEvent 0)
+    → outOf (world (registersOf own₁ (w .registers .addresses) (w .registers .values)) (w .rtc) (w .page) (w .ram)
+    (w .sram)
+    (w .gpio) (w .fb) (w .devices)) t ≡ portWritten w full (slotWord s) old new part
+unfolding portWritten storedWord
+port-holds w full s old new part p h e b (i, k) =
+    let less : slotOf (slotWord s) < 76 = omega (arith, slot-back s h) in
+    let put = own-put (w .registers) (slotWord s) new less in
+    rw (e, i, k, slot-stored s h (w .registers .own) new)
+    (by-stores (λ (q : Port). outDone (world (registersOf (ownWith (w .registers .own) (slotWord s) new)
+    (w .registers .addresses)
+    (w .registers .values)) (w .rtc) (w .page) (w .ram) (w .sram) (w .gpio) (w .fb) (w .devices))
+    ≡ writtenAt q w full (slotWord s) old new part) (λ v. rw put) (rw put) (rw put) p b)
 
-module _ (w : World) (full : Bool) (a n v : ℕ) {s : ℕ} (e : s ≡ slotOf (wordOf a)) where
+module _ (w : World) (full : Bool) (a n v : ℕ) {s : ℕ} (e : s ≡ slotOf (wordAddress a)) where
   pub reg-merged : {old new part : ℕ} {x : Out} → s < 76 → old ≡ getD (w .registers .own) s 0
       → new ≡ mergedOf old a n v
       → part ≡ writtenOf a n v → x ≡ portWritten w full (slotWord s) old new part → x ≡ regWritten w full a n v
   unfolding regWritten ownAt
   reg-merged {old} l h k j i =
-      let less : slotOf (wordOf a) < 76 = omega arith in
-      let o : old ≡ wordAt (w .registers) (wordOf a)
-      = h ∙ ap (λ (z : ℕ). getD (w .registers .own) z 0) e ∙ sym (own-word (w .registers) (wordOf a) less) in
-      let word : slotWord s ≡ wordOf a = ap slotWord e ∙ slot-hit (wordOf a) less in
+      let less : slotOf (wordAddress a) < 76 = omega arith in
+      let o : old ≡ wordAt (w .registers) (wordAddress a)
+      = h ∙ ap (λ (z : ℕ). getD (w .registers .own) z 0) e ∙ sym (own-word (w .registers) (wordAddress a) less) in
+      let word : slotWord s ≡ wordAddress a = ap slotWord e ∙ slot-hit (wordAddress a) less in
       rw (← o, ← k, ← j, ← word) i
 
-  pub reg-else : {x : Stored} → slotOf (wordOf a) ≡ 76
-      → x ≡ otherWritten (w .registers) (w .devices) (wordOf a) (mergedOf (wordAt (w .registers) (wordOf a)) a n v)
+  pub reg-else : {x : Stored} → slotOf (wordAddress a) ≡ 76
+      → x ≡ otherWritten (w .registers) (w .devices) (wordAddress a) (mergedOf (wordAt (w .registers) (wordAddress a))
+      a n v)
       → byStore w x ≡ regWritten w full a n v
   unfolding regWritten
-  reg-else none i = port-other w full (wordOf a) _ _ _ none i
+  reg-else none i = port-other w full (wordAddress a) _ _ _ none i
 
 -- ---- any address
 
 -- a memory is stored, or nothing is and the number is 9
 sized-out : (b : Bool) (w : List ℕ → World) (l m : List ℕ)
-    → out (w (cond b l m)) (cond b 0 9) false ≡ cond b (done (w l)) (out (w m) 9 false)
+    → out (w (cond b l m)) (cond b 0 9) false ≡ cond b (outDone (w l)) (out (w m) 9 false)
 sized-out true w l m = refl
 sized-out false w l m = refl
 
@@ -243,7 +235,7 @@ module _ (r : Registers) (c p m s g fb : List ℕ) (d : Devices) (full : Bool) (
 
   module _ {q : Place} (f : q ≡ placeOf a) where
     -- a memory, by the size
-    module _ {t : Told} {o : ℕ} {l : List ℕ} (j : t ≡ toldOf (sizedNumber n)) where
+    module _ {t : WriteAnswer} {o : ℕ} {l : List ℕ} (j : t ≡ withoutEvent (sizedNumber n)) where
       pub write-ram : q ≡ Ram o → l ≡ sizedPut m o n v → outOf (world r c p l s g fb d) t ≡ writeOf there full a n v
       unfolding writeOf
       write-ram k i =
@@ -260,7 +252,8 @@ module _ (r : Registers) (c p m s g fb : List ℕ) (d : Devices) (full : Bool) (
           rw (j, i, ← f, k) (sized-out (goodSize n) (λ (z : List ℕ). world r c p m s z fb d) (storedAt g o n v) g)
 
     module _ {good : Bool} (e : good ≡ goodSize n) where
-      pub write-size : {t : Told} → not good ≡ true → t ≡ toldOf 9 → outOf there t ≡ writeOf there full a n v
+      pub write-size : {t : WriteAnswer} → not good ≡ true → t ≡ withoutEvent 9
+          → outOf there t ≡ writeOf there full a n v
       unfolding writeOf
       write-size h k = rw (← e, other good true h, k)
 
@@ -272,7 +265,7 @@ module _ (r : Registers) (c p m s g fb : List ℕ) (d : Devices) (full : Bool) (
         pub write-register : {z : Out} → q ≡ Register → z ≡ regWritten there full a n v → z ≡ writeOf there full a n v
         write-register k i = rw (placed, k) i
 
-        pub write-stray : {t : Told} → q ≡ Stray → t ≡ toldOf 6 → outOf there t ≡ writeOf there full a n v
+        pub write-stray : {t : WriteAnswer} → q ≡ Stray → t ≡ withoutEvent 6 → outOf there t ≡ writeOf there full a n v
         write-stray k i = rw (placed, k, i)
 
 -- ---- the event
@@ -318,14 +311,14 @@ noted-none a f u x h = (rw h, refl)
 module _ (r : Registers) (c p m s g fb : List ℕ) (l : List ℕ) (v : List Float) (a f u : List Float) (addr size value
     : ℕ) where
   pub write-noted : {r₁ : Registers} {c₁ p₁ m₁ s₁ g₁ fb₁ : List ℕ} {l₁ l₂ : List ℕ} {v₁ : List Float} {ring : Ring}
-      {full : Bool} {t : Told} {a₁ f₁ u₁ : List Float}
+      {full : Bool} {t : WriteAnswer} {a₁ f₁ u₁ : List Float}
       → ring ≡ partsIn l v .ring → full ≡ fullOf ring
       → (outOf (world r₁ c₁ p₁ m₁ s₁ g₁ fb₁ (partsIn l₁ v₁ .devices)) t ≡ writeOf (world r c p m s g fb (partsIn l
       v .devices)) full addr size value)
       × Rest t l v l₁ v₁
       → (queueOf a₁ f₁ u₁ (partsIn l₂ v₁ .ring) ≡ noted (queueOf a f u (partsIn l₁ v₁ .ring)) (partsIn l₁
       v₁ .devices) (t .event))
-      × (partsIn l₂ v₁ ≡ ringPut (partsIn l₁ v₁) (partsIn l₂ v₁ .ring)) × Kept l₁ v₁ l₂ v₁ × (t .event ≡ false
+      × (partsIn l₂ v₁ ≡ ringPut (partsIn l₁ v₁) (partsIn l₂ v₁ .ring)) × StaysPacked l₁ v₁ l₂ v₁ × (t .event ≡ false
       → l₂ ≡ l₁)
       → (together (outOf (world r₁ c₁ p₁ m₁ s₁ g₁ fb₁ (partsIn l₂ v₁ .devices)) t) (queueOf a₁ f₁ u₁ (partsIn l₂
       v₁ .ring))
@@ -340,5 +333,8 @@ module _ (r : Registers) (c p m s g fb : List ℕ) (l : List ℕ) (v : List Floa
       let d : partsIn l₂ v₁ .devices ≡ partsIn l₁ v₁ .devices = ap (λ (o : Parts). o .devices) (n .1) in (
         rw (← e, n .0, d, w .1 .only .ring),
         ap (λ (o : Parts). o .keys) (n .1) ∙ w .1 .only .keys,
-        record { kept = λ k. n .2 (w .1 .kept k); still = λ h. let z = w .1 .still h in (n .3 (z .0) ∙ z .1, z .2) },
+        record {
+          packed = λ k. n .2 (w .1 .packed k);
+          still = λ h. let z = w .1 .still h in (n .3 (z .0) ∙ z .1, z .2);
+        },
       )

@@ -1,4 +1,5 @@
--- The flash's words as steps of its chip, whose array is the first 8 MiB of RAM; and the words that leave flash and panel alone.
+-- The flash's words as steps of its chip, whose array is the first 8 MiB of RAM; and the words that leave flash and
+-- panel alone.
 use Prim.Native.Nat.{ℕ, zero, suc, _+_, _≤_}
 use mathlib.Core.Path.{_≡_, refl, ap, _∙_}
 use mathlib.Core.Bool.{Bool}
@@ -7,18 +8,21 @@ use native.Mathlib.Omega.{arith}
 use lib.ListN.{length, take, drop, set}
 use lib.Seq.{sets, take-set-le}
 use lib.Dec.{leb}
+use Rattle.whole.proofs.Choice.{by-cond}
 use Rattle.memory.specs.Bytes.{bytesOf, storedAt}
 use Rattle.flash.specs.declared.Chip.{Chip}
 use Rattle.flash.specs.Board.{Board, board}
 use Rattle.flash.specs.Steps.{Step, cs, byte}
-use Rattle.flash.specs.Run.{after}
+use Rattle.flash.specs.Run.{afterStep}
 use Rattle.flash.proofs.Long.{step-long}
 use Rattle.state.specs.declared.Devices.{Devices}
-use Rattle.bus.specs.World.{Said}
+use Rattle.registers.specs.declared.Effect.{Effect}
+use Rattle.registers.specs.Ports.{timerOf}
+use Rattle.bus.specs.World.{OwnOut}
 use Rattle.bus.specs.Chip.{Chipped, boardOf, inRam, selectedOver, sentOver}
 use Rattle.bus.specs.Sounds.{soundWritten, timerWritten}
-use Rattle.bus.specs.Words.{controlAt, adcWritten, daySet, wordWritten}
-use Rattle.bus.proofs.Branches.{by-test, by-word, by-sound, by-timer}
+use Rattle.bus.specs.Words.{adcWritten, daySet, wordWritten}
+use Rattle.bus.proofs.Branches.{by-word, by-sound, by-timer}
 
 -- ---- the array in RAM
 
@@ -35,16 +39,16 @@ abbrev pub boardLeft : Chipped → Board
 boardLeft c = boardOf (c .chip) (c .page) (c .ram)
 
 module _ (c : Chip) (p m : List ℕ) where
-  ram-step : (x : Step) → boardLeft (inRam (after (boardOf c p m) x) m) ≡ after (boardOf c p m) x
+  ram-step : (x : Step) → boardLeft (inRam (afterStep (boardOf c p m) x) m) ≡ afterStep (boardOf c p m) x
   ram-step x =
-      let b : Board = after (boardOf c p m) x in
+      let b : Board = afterStep (boardOf c p m) x in
       ap (λ (l : List ℕ). board (b .chip) (b .page) l) (rejoin 8388608 (b .array) m (step-long (boardOf c p m) x))
 
-  pub select-step : (on : Bool) → boardLeft (selectedOver c p m on) ≡ after (boardOf c p m) (cs on)
+  pub select-step : (on : Bool) → boardLeft (selectedOver c p m on) ≡ afterStep (boardOf c p m) (cs on)
   unfolding selectedOver
   select-step on = ram-step (cs on)
 
-  pub send-step : (b : ℕ) → boardLeft (sentOver c p m b) ≡ after (boardOf c p m) (byte b)
+  pub send-step : (b : ℕ) → boardLeft (sentOver c p m b) ≡ afterStep (boardOf c p m) (byte b)
   unfolding sentOver
   send-step b = ram-step (byte b)
 
@@ -56,7 +60,8 @@ sets-past (b ∷ bs) m k o h = sets-past bs (set m o b) k (suc o) (omega arith) 
 
 pub store-past : (m : List ℕ) (k o n v : ℕ) → k ≤ o → take k (storedAt m o n v) ≡ take k m
 unfolding storedAt
-store-past m k o n v h = by-test (λ (l : List ℕ). take k l ≡ take k m) (leb (o + n) (length m)) _ m (λ e. sets-past (bytesOf n v) m k o h) (λ e. refl)
+store-past m k o n v h = by-cond (λ (l : List ℕ). take k l ≡ take k m) (leb (o + n) (length m)) _ m
+    (λ e. sets-past (bytesOf n v) m k o h) (λ e. refl)
 
 -- ---- words that leave flash and panel alone
 
@@ -64,7 +69,7 @@ abbrev pub Alone : Devices → Devices → Type 0
 Alone d e = (e .flash ≡ d .flash) × (e .panel ≡ d .panel)
 
 module _ (own : List ℕ) (d : Devices) (clock : ℕ) (full : Bool) where
-  abbrev Spared : Said → Type 0
+  abbrev Spared : OwnOut → Type 0
   Spared x = Alone d (x .wrote .devices)
 
   sound-alone : (next : Devices) (word v : ℕ) → Alone d next → Spared (soundWritten own d next clock full word v)
@@ -72,17 +77,18 @@ module _ (own : List ℕ) (d : Devices) (clock : ℕ) (full : Bool) where
 
   timer-alone : (n word old new : ℕ) → Spared (timerWritten own d clock full n word old new)
   timer-alone n word old new =
-      by-timer Spared own d clock full n word old new _ refl (λ e. sound-alone _ word _ (refl, refl)) (λ e. (refl, refl))
+      by-timer Spared own d clock full n word old new _ refl (λ e. sound-alone _ word _ (refl, refl))
+      (λ e. (refl, refl))
 
-  pub word-alone : (word old new part : ℕ) → Spared (wordWritten own d clock full word old new part)
+  pub word-alone : (e : Effect) (word old new part : ℕ) → Spared (wordWritten e own d clock full word old new part)
   unfolding adcWritten daySet
-  word-alone word old new part =
-      by-word Spared own d clock full word old new part
-      (λ l. timer-alone (controlAt word) word old new)
-      (λ l. (refl, refl))
-      (λ e. (refl, refl))
-      (λ e. (refl, refl))
-      (λ e. (refl, refl))
-      (λ e. (refl, refl))
-      (λ e. (refl, refl))
+  word-alone e word old new part =
+      by-word Spared own d clock full e word old new part
+      (λ k. timer-alone (timerOf word) word old new)
+      (refl, refl)
       (sound-alone d word new (refl, refl))
+      (refl, refl)
+      (refl, refl)
+      (refl, refl)
+      (refl, refl)
+      (refl, refl)

@@ -15,7 +15,8 @@ use borrow.Author.Tests.{lt-leb, le-leb, eq-eqb, ne-eqb}
 use Rattle.whole.proofs.Bits.{lt-or-ge}
 use Rattle.whole.specs.Words.{has}
 use Rattle.registers.specs.declared.Registers.{Registers}
-use Rattle.registers.specs.Words.{slotOf, slotWord, ownAt, ownWith, wordAt}
+use Rattle.registers.specs.Words.{ownAt, ownWith, wordAt}
+use Rattle.registers.specs.Ports.{slotOf, slotWord}
 use Rattle.registers.proofs.Own.{slot-hit, own-word}
 use Rattle.memory.specs.declared.Place.{Place}
 use Rattle.memory.specs.declared.Place.the-variants.{Ram, Sram, Gpio, Register, Stray}
@@ -24,7 +25,7 @@ use Rattle.memory.specs.Bytes.{loaded}
 use Rattle.memory.specs.Access.{goodSize, cutOf}
 use Rattle.panel.specs.Entries.{Screen, screen}
 use Rattle.panel.specs.Lcd.{counted}
-use Rattle.panel.specs.Runs.{byte, ordered, taken}
+use Rattle.panel.specs.Runs.{byte, screenAfterCommand, screenAfterInput}
 use Rattle.clock.specs.declared.Rtc.{Rtc}
 use Rattle.clock.specs.Rtc.{commandedOf}
 use Rattle.flash.specs.declared.Chip.{Chip}
@@ -35,12 +36,13 @@ use Rattle.bus.specs.Chip.{Chipped, flashed, selectedOver, sentOver, sel
 use Rattle.bus.specs.Rtc.{ran, commandWritten}
 use Rattle.bus.specs.Block as block
 use Rattle.bus.specs.Block.{Block, peekOf, joinedOf, blockOf, wholeOf, Plain, pokedOf, laidFrom, laidOf}
-use Rattle.bus.specs.Screen.{fedWord, Copied, copied, dmaDone, acted, quieted, controlled}
+use Rattle.bus.specs.Screen.{fedWord, Copied, copied, dmaDone, actResult, quieted, controlled}
 use Rattle.bus.specs.Words.{spiSent}
-use Rattle.bus.specs.Write.{wordOf}
+use Rattle.bus.specs.Write.{wordAddress}
 use Rattle.bus.specs.declared.Got.{Got}
-use Rattle.bus.specs.Read.{afterRead, valueOf, otherValue, Given, given, regRead, got, sizedGot, reads, readAt, readOf}
-use Rattle.bus.proofs.Values.{other-after, other-reads}
+use Rattle.bus.specs.Read.{wordRead, otherValue, Given, given, cutGiven, regRead, got, sizedGot, reads, readAt}
+use Rattle.bus.specs.Read.{readOf}
+use Rattle.bus.proofs.Values.{other-reads}
 
 -- ---- a block that fits
 
@@ -49,7 +51,8 @@ module _ (len at n : ℕ) where
   fits-short h = let l : len < at + n = omega arith in sym (lt-leb _ _ l)
 
   pub fits-is : n ≤ len → leb at (len - n) ≡ leb (at + n) len
-  fits-is h = ⊎-elim (λ l. lt-leb _ _ l ∙ fits-not (omega arith)) (λ l. le-leb _ _ l ∙ fits-yes (omega arith)) (lt-or-ge (len - n) at)
+  fits-is h = ⊎-elim (λ l. lt-leb _ _ l ∙ fits-not (omega arith)) (λ l. le-leb _ _ l ∙ fits-yes (omega arith))
+      (lt-or-ge (len - n) at)
     where
       fits-not : len < at + n → false ≡ leb (at + n) len
       fits-not l = sym (lt-leb _ _ l)
@@ -60,22 +63,26 @@ module _ (len at n : ℕ) where
 -- ---- a word with a device behind it
 
 module _ (own : List ℕ) {own₁ : List ℕ} where
-  pub select-stored : (f : Chip) (p m : List ℕ) (new : ℕ) {c : Chipped} {on : Bool} → own₁ ≡ ownWith own 0xC0150000 new → on ≡ has new 0x40
+  pub select-stored : (f : Chip) (p m : List ℕ) (new : ℕ) {c : Chipped} {on : Bool}
+      → own₁ ≡ ownWith own 0xC0150000 new → on ≡ has new 0x40
       → c ≡ selectedOver f p m on → flashed own₁ c ≡ selectWritten own f p m new
   unfolding selectWritten
   select-stored f p m new e k h = rw (e, h, k)
 
-  pub send-stored : (f : Chip) (p m : List ℕ) (new : ℕ) {c : Chipped} {b : ℕ} → own₁ ≡ ownWith own 0xC0150008 new → b ≡ new % 256
+  pub send-stored : (f : Chip) (p m : List ℕ) (new : ℕ) {c : Chipped} {b : ℕ} → own₁ ≡ ownWith own 0xC0150008 new
+      → b ≡ new % 256
       → c ≡ sentOver f p m b → flashed own₁ c ≡ sendWritten own f p m new
   unfolding sendWritten
   send-stored f p m new e k h = rw (e, h, k)
 
-  pub command-ran : (r : Rtc) (game : Float) (new : ℕ) {x y : ℕ} {s : Rtc} → own₁ ≡ ownWith own 0xC009000C new → x ≡ ownAt own₁ 0xC0090004
+  pub command-ran : (r : Rtc) (game : Float) (new : ℕ) {x y : ℕ} {s : Rtc} → own₁ ≡ ownWith own 0xC009000C new
+      → x ≡ ownAt own₁ 0xC0090004
       → y ≡ ownAt own₁ 0xC0090008 → s ≡ commandedOf r game x y new → ran own₁ s ≡ commandWritten own r game new
   unfolding commandWritten
   command-ran r game new e hx hy h = rw (h, hx, hy, e)
 
-pub spi-done : (own : List ℕ) (new : ℕ) {a b d : List ℕ} {x : ℕ} → a ≡ ownWith own 0xC0080008 new → b ≡ ownWith a 0xC0080010 0
+pub spi-done : (own : List ℕ) (new : ℕ) {a b d : List ℕ} {x : ℕ} → a ≡ ownWith own 0xC0080008 new
+    → b ≡ ownWith a 0xC0080010 0
     → x ≡ ownAt b 0xC008000C → d ≡ ownWith b 0xC008000C (bitOr x 1) → d ≡ spiSent own new
 unfolding spiSent
 spi-done own new e f h g = rw (g, h, f, e)
@@ -83,58 +90,67 @@ spi-done own new e f h g = rw (g, h, f, e)
 -- ---- the panel
 
 module _ (s : Screen) (one : Bool) (word : ℕ) where
-  pub feed-one : {b : ℕ} {t : Screen} → one ≡ true → b ≡ word % 256 → t ≡ taken s (byte b) → t ≡ fedWord s one word
+  pub feed-one : {b : ℕ} {t : Screen} → one ≡ true → b ≡ word % 256 → t ≡ screenAfterInput s (byte b)
+      → t ≡ fedWord s one word
   unfolding fedWord
   feed-one h e k = rw (h, k, e)
 
-  pub feed-two : {a b : ℕ} {t u : Screen} → one ≡ false → a ≡ word / 256 % 256 → t ≡ taken s (byte a) → b ≡ word % 256 → u ≡ taken t (byte b)
+  pub feed-two : {a b : ℕ} {t u : Screen} → one ≡ false → a ≡ word / 256 % 256 → t ≡ screenAfterInput s (byte a)
+      → b ≡ word % 256 → u ≡ screenAfterInput t (byte b)
       → u ≡ fedWord s one word
   unfolding fedWord
   feed-two {t = t} h e k e′ k′ =
       rw h
-      (k′ ∙ ap (λ (b : ℕ). taken t (byte b)) e′
-      ∙ ap (λ (z : Screen). taken z (byte (word % 256))) (k ∙ ap (λ (a : ℕ). taken s (byte a)) e))
+      (k′ ∙ ap (λ (b : ℕ). screenAfterInput t (byte b)) e′
+      ∙ ap (λ (z : Screen). screenAfterInput z (byte (word % 256))) (k ∙ ap (λ (a : ℕ). screenAfterInput s (byte a)) e))
 
 module _ (r : Registers) (m s g : List ℕ) (t : Screen) where
   pub dma-none : {a : ℕ} → a ≡ ownAt (r .own) 0xD050033C → a ≡ 0 → copied (r .own) t ≡ dmaDone r m s g t
   unfolding dmaDone
   dma-none e h = rw (← e, eq-eqb _ _ h)
 
-  pub dma-done : {a x : ℕ} {own₁ fb : List ℕ} {p : Panel} → a ≡ ownAt (r .own) 0xD050033C → a ≢ 0 → fb ≡ blockOf r m s g a (length (t .fb))
+  pub dma-done : {a x : ℕ} {own₁ fb : List ℕ} {p : Panel} → a ≡ ownAt (r .own) 0xD050033C → a ≢ 0
+      → fb ≡ blockOf r m s g a (length (t .fb))
       → x ≡ ownAt (r .own) 0xD050018C → own₁ ≡ ownWith (r .own) 0xD050018C (bitOr x 0x40) → p ≡ counted (t .panel)
       → copied own₁ (screen p fb) ≡ dmaDone r m s g t
   unfolding dmaDone
   dma-done e h i j k l = rw (← e, ne-eqb _ _ h, k, j, i, l)
 
   module _ (val : ℕ) {x : ℕ} (e : x ≡ ownAt (r .own) 0xD050016C) where
-    pub act-command : {b : ℕ} {p : Panel} → bitAnd val 0xF0 ≡ 0x80 → b ≡ x % 256 → screen p (t .fb) ≡ ordered t b → copied (r .own) (screen p (t .fb)) ≡ acted r m s g t val
-    unfolding acted
+    pub act-command : {b : ℕ} {p : Panel} → bitAnd val 0xF0 ≡ 0x80 → b ≡ x % 256
+        → screen p (t .fb) ≡ screenAfterCommand t b → copied (r .own) (screen p (t .fb)) ≡ actResult r m s g t val
+    unfolding actResult
     act-command h i j = rw (h, ← e, ← i) (ap (λ (u : Screen). copied (r .own) u) j)
 
-    pub act-data : {one : Bool} {u : Screen} → bitAnd val 0xF0 ≡ 0xA0 → one ≡ has val 0x2000 → u ≡ fedWord t one x → copied (r .own) u ≡ acted r m s g t val
-    unfolding acted
+    pub act-data : {one : Bool} {u : Screen} → bitAnd val 0xF0 ≡ 0xA0 → one ≡ has val 0x2000 → u ≡ fedWord t one x
+        → copied (r .own) u ≡ actResult r m s g t val
+    unfolding actResult
     act-data h i j = rw (h, ← e, ← i, ← j)
 
   module _ (val : ℕ) where
-    pub act-dma : {c : Copied} → bitAnd val 0xF0 ≡ 0xD0 → c ≡ dmaDone r m s g t → c ≡ acted r m s g t val
-    unfolding acted
+    pub act-dma : {c : Copied} → bitAnd val 0xF0 ≡ 0xD0 → c ≡ dmaDone r m s g t → c ≡ actResult r m s g t val
+    unfolding actResult
     act-dma h i = rw h i
 
-    pub act-none : bitAnd val 0xF0 ≢ 0x80 → bitAnd val 0xF0 ≢ 0xA0 → bitAnd val 0xF0 ≢ 0xD0 → copied (r .own) t ≡ acted r m s g t val
-    unfolding acted
+    pub act-none : bitAnd val 0xF0 ≢ 0x80 → bitAnd val 0xF0 ≢ 0xA0 → bitAnd val 0xF0 ≢ 0xD0
+        → copied (r .own) t ≡ actResult r m s g t val
+    unfolding actResult
     act-none h i j = rw (ne-eqb _ _ h, ne-eqb _ _ i, ne-eqb _ _ j)
 
-    pub control-idle : {own₁ : List ℕ} → own₁ ≡ ownWith (r .own) 0xD0500140 val → has val 1 ≡ false → copied own₁ t ≡ controlled r m s g t val
+    pub control-idle : {own₁ : List ℕ} → own₁ ≡ ownWith (r .own) 0xD0500140 val → has val 1 ≡ false
+        → copied own₁ t ≡ controlled r m s g t val
     unfolding controlled
     control-idle e h = rw (h, e)
 
     pub control-act : {own₁ own₂ own₃ : List ℕ} {u : Screen} → own₁ ≡ ownWith (r .own) 0xD0500140 val → has val 1 ≡ true
-        → copied own₂ u ≡ acted (record { own = own₁; addresses = r .addresses; values = r .values }) m s g t val
+        → copied own₂ u ≡ actResult (record { own = own₁; addresses = r .addresses; values = r .values }) m s g t val
         → own₃ ≡ ownWith own₂ 0xD0500140 (bitAnd val 0xFFFFFFFE) → copied own₃ u ≡ controlled r m s g t val
     unfolding controlled
     control-act {own₁} {own₂} {own₃} {u} e h i j =
         rw (h, j)
-        (ap (λ (c : Copied). quieted c val) i ∙ ap (λ (o : List ℕ). quieted (acted (record { own = o; addresses = r .addresses; values = r .values }) m s g t val) val) e)
+        (ap (λ (c : Copied). quieted c val) i ∙ ap
+        (λ (o : List ℕ). quieted (actResult (record { own = o; addresses = r .addresses; values = r .values }) m s
+        g t val) val) e)
 
 -- ---- a test that is turned over
 
@@ -148,20 +164,22 @@ other b c h = sym (not-not b) ∙ ap not h
 -- ---- reads
 
 module _ (r : Registers) (s : List ℕ) (d : Devices) (a n : ℕ) where
-  pub reg-own : {own₁ : List ℕ} {v x slot : ℕ} → slot ≡ slotOf (wordOf a) → slot < 76
-      → given own₁ v ≡ given (afterRead (r .own) (slotWord slot)) (valueOf (r .own) d (clockIn s) (slotWord slot) (getD (r .own) slot 0))
+  pub reg-own : {own₁ : List ℕ} {v x slot : ℕ} → slot ≡ slotOf (wordAddress a) → slot < 76
+      → given own₁ v ≡ wordRead (r .own) d (clockIn s) (slotWord slot) (getD (r .own) slot 0)
       → x ≡ cutOf v a n → given own₁ x ≡ regRead r s d a n
   unfolding regRead ownAt
   reg-own {own₁} {v} {slot = slot} e h k l =
-      let less : slotOf (wordOf a) < 76 = omega arith in
-      let w : slotWord slot ≡ wordOf a = ap slotWord e ∙ slot-hit (wordOf a) less in
-      let o : getD (r .own) slot 0 ≡ wordAt r (wordOf a) = ap (λ (z : ℕ). getD (r .own) z 0) e ∙ sym (own-word r (wordOf a) less) in
-      rw l (ap (λ (z : Given). given (z .own) (cutOf (z .value) a n)) k ∙ rw (w, o))
+      let less : slotOf (wordAddress a) < 76 = omega arith in
+      let w : slotWord slot ≡ wordAddress a = ap slotWord e ∙ slot-hit (wordAddress a) less in
+      let o : getD (r .own) slot 0 ≡ wordAt r (wordAddress a) = ap (λ (z : ℕ). getD (r .own) z 0) e ∙ sym
+      (own-word r (wordAddress a) less) in
+      rw l (ap (λ (z : Given). cutGiven z a n) k ∙ rw (w, o))
 
-  pub reg-other : {v x : ℕ} → slotOf (wordOf a) ≡ 76 → v ≡ otherValue r (d .clocks) (wordOf a) → x ≡ cutOf v a n
+  pub reg-other : {v x : ℕ} → slotOf (wordAddress a) ≡ 76 → v ≡ otherValue r (d .clocks) (wordAddress a)
+      → x ≡ cutOf v a n
       → given (r .own) x ≡ regRead r s d a n
   unfolding regRead
-  reg-other e h l = rw (l, h, other-after (r .own) (wordOf a) e, other-reads r d (clockIn s) (wordOf a) e)
+  reg-other e h l = rw (l, h, other-reads r d (clockIn s) (wordAddress a) e)
 
 -- what is read of a memory, by its size
 sized-reads : (own : List ℕ) (b : Bool) (x y : Got) → got own (cond b x y) ≡ cond b (got own x) (got own y)
@@ -182,7 +200,8 @@ module _ (r : Registers) (m s g : List ℕ) (d : Devices) (a n : ℕ) {p : Place
   read-gpio k l = rw (l, ← f, k) (sized-reads (r .own) (goodSize n) _ _)
 
   module _ {good : Bool} (e : good ≡ goodSize n) where
-    pub read-size : {x : Got} → not good ≡ true → x ≡ record { refusal = 9; value = 0 } → got (r .own) x ≡ readOf r m s g d a n
+    pub read-size : {x : Got} → not good ≡ true → x ≡ record { refusal = 9; value = 0 }
+        → got (r .own) x ≡ readOf r m s g d a n
     unfolding readOf
     read-size h k = rw (k, ← e, other good true h)
 
@@ -191,7 +210,8 @@ module _ (r : Registers) (m s g : List ℕ) (d : Devices) (a n : ℕ) {p : Place
       unfolding readOf
       located = rw (← e, other good false h, ← f)
 
-      pub read-register : {own₁ : List ℕ} {x : ℕ} → p ≡ Register → given own₁ x ≡ regRead r s d a n → reads (given own₁ x) ≡ readOf r m s g d a n
+      pub read-register : {own₁ : List ℕ} {x : ℕ} → p ≡ Register → given own₁ x ≡ regRead r s d a n
+          → reads (given own₁ x) ≡ readOf r m s g d a n
       read-register k l = rw (located, k) (ap reads l)
 
       pub read-stray : p ≡ Stray → reads (given (r .own) 0) ≡ readOf r m s g d a n
@@ -199,10 +219,12 @@ module _ (r : Registers) (m s g : List ℕ) (d : Devices) (a n : ℕ) {p : Place
 
 -- ---- a word of four bytes
 
-pub word-joined : (r : Registers) (m s g : List ℕ) (addr : ℕ) {a b c d i j k l x : ℕ} → i ≡ (addr + 0) % 2 ^ 32 → a ≡ peekOf r m s g i → j ≡ (addr + 1) % 2 ^ 32
-    → b ≡ peekOf r m s g j → k ≡ (addr + 2) % 2 ^ 32 → c ≡ peekOf r m s g k → l ≡ (addr + 3) % 2 ^ 32 → d ≡ peekOf r m s g l → x ≡ joinedOf a b c d
-    → x ≡ block.wordOf r m s g addr
-unfolding block.wordOf
+pub word-joined : (r : Registers) (m s g : List ℕ) (addr : ℕ) {a b c d i j k l x : ℕ} → i ≡ (addr + 0) % 2 ^ 32
+    → a ≡ peekOf r m s g i → j ≡ (addr + 1) % 2 ^ 32
+    → b ≡ peekOf r m s g j → k ≡ (addr + 2) % 2 ^ 32 → c ≡ peekOf r m s g k → l ≡ (addr + 3) % 2 ^ 32
+    → d ≡ peekOf r m s g l → x ≡ joinedOf a b c d
+    → x ≡ block.peeked32 r m s g addr
+unfolding block.peeked32
 word-joined r m s g addr i a j b k c l d x = rw (← i, ← a, ← j, ← b, ← k, ← c, ← l, ← d) x
 
 pub block-read : (r : Registers) (m s g : List ℕ) (a n : ℕ) {l : List ℕ} {b : Bool} → l ≡ blockOf r m s g a n
@@ -210,7 +232,8 @@ pub block-read : (r : Registers) (m s g : List ℕ) (a n : ℕ) {l : List ℕ} {
 unfolding block.readOf
 block-read r m s g a n h k = rw (h, k)
 
-pub block-bytes : (r : Registers) (m s g : List ℕ) (a n : ℕ) {l : List ℕ} {b : Bool} → block.block b l ≡ block.readOf r m s g a n → l ≡ blockOf r m s g a n
+pub block-bytes : (r : Registers) (m s g : List ℕ) (a n : ℕ) {l : List ℕ} {b : Bool}
+    → block.block b l ≡ block.readOf r m s g a n → l ≡ blockOf r m s g a n
 unfolding block.readOf
 block-bytes r m s g a n h = ap (λ (z : Block). z .bytes) h
 
@@ -221,8 +244,10 @@ pub lay-step : (p : Plain) {q : Plain} (a i : ℕ) (bytes : List ℕ) {k : ℕ} 
 unfolding laidFrom
 lay-step p a i bytes l e h =
     ap (λ (z : Plain). laidFrom z a (i + 1) (drop (i + 1) bytes)) (h ∙ ap (λ (x : ℕ). pokedOf p x (getD bytes i 0)) e)
-    ∙ sym (ap (λ (bs : List ℕ). laidFrom p a i bs) (drop-cons bytes i 0 l ∙ ap (λ (x : ℕ). getD bytes i 0 ∷ drop x bytes) (sym (add-one i))))
+    ∙ sym (ap (λ (bs : List ℕ). laidFrom p a i bs)
+    (drop-cons bytes i 0 l ∙ ap (λ (x : ℕ). getD bytes i 0 ∷ drop x bytes) (sym (add-one i))))
 
-pub lay-end : (p q : Plain) (a i : ℕ) (bytes : List ℕ) → length bytes ≤ i → laidFrom p a i (drop i bytes) ≡ laidOf q a bytes → p ≡ laidOf q a bytes
+pub lay-end : (p q : Plain) (a i : ℕ) (bytes : List ℕ) → length bytes ≤ i → laidFrom p a i (drop i bytes) ≡ laidOf q a
+    bytes → p ≡ laidOf q a bytes
 unfolding laidFrom
 lay-end p q a i bytes l h = rw (drop-of-length-le bytes l) at h

@@ -5,7 +5,7 @@ use mathlib.Core.List.{List}
 use native.Mathlib.Omega.{arith}
 use lib.ListN.{length, getD, set, take, drop, length-set, length-drop}
 use lib.Seq.{length-take-le, getD-set-same, getD-set-other, getD-take, getD-drop, ext-getD}
-use Rattle.registers.proofs.Choice.{by-same, by-less}
+use Rattle.whole.proofs.Choice.{by-same, by-less}
 
 module _ (l : List ℕ) (at : ℕ) where
   -- place j holds the byte that it is to hold

@@ -13,7 +13,7 @@ use Rattle.whole.proofs.Bits.{lt-or-ge}
 use Rattle.flash.specs.declared.Chip.{Chip}
 use Rattle.flash.specs.declared.Reply.{Reply}
 use Rattle.flash.specs.Pick.{pick}
-use Rattle.flash.specs.Board.{Outcome, board, outcome, goodSize, refused, done}
+use Rattle.flash.specs.Board.{Outcome, board, outcome, goodSize, refusedOutcome, acceptedOutcome}
 use Rattle.flash.specs.Flash.{replied, sentBoard, selected, transferred}
 use Rattle.state.specs.Parts.{sentWith}
 use Rattle.bus.specs.Chip.{partOf, chipped, boardOf, inRam, selectedOver, sentOver, Flashed, flashed, sendWritten}
@@ -37,7 +37,8 @@ part-drop : (m : List ℕ) → drop (partOf (length m)) m ≡ drop 8388608 m
 unfolding partOf
 part-drop m =
     ⊎-elim
-    (λ h. rw (lt-ltb (length m) 8388608 h) (drop-of-length-le m {i = length m} (le-refl _) ∙ sym (drop-of-length-le m {i = 8388608} (omega arith))))
+    (λ h. rw (lt-ltb (length m) 8388608 h) (drop-of-length-le m {i = length m} (le-refl _) ∙ sym
+    (drop-of-length-le m {i = 8388608} (omega arith))))
     (λ h. rw (le-ltb (length m) 8388608 h))
     (lt-or-ge (length m) 8388608)
 
@@ -52,7 +53,8 @@ module _ (c : Chip) (p m : List ℕ) {n : ℕ} (e : n ≡ partOf (length m)) whe
       ap (λ (t : List ℕ). chipped (r .chip) p′ (l ++ t)) (ap (λ (k : ℕ). drop k m) e ∙ part-drop m)
       ∙ ap (λ (o : Outcome). inRam (o .board) m) (h ∙ ap (λ (t : List ℕ). selected (board c p t) on) all)
 
-  pub send-part : (r : Reply) (b : ℕ) {p′ : List ℕ} → outcome r p′ (take n m) ≡ transferred (board c p (take n m)) b → chipped (r .chip) p′ m ≡ sentOver c p m b
+  pub send-part : (r : Reply) (b : ℕ) {p′ : List ℕ} → outcome r p′ (take n m) ≡ transferred (board c p (take n m)) b
+      → chipped (r .chip) p′ m ≡ sentOver c p m b
   unfolding sentOver
   send-part r b {p′} h =
       ap (λ (t : List ℕ). chipped (r .chip) p′ t) (sym (take-append-drop 8388608 m))
@@ -60,12 +62,15 @@ module _ (c : Chip) (p m : List ℕ) {n : ℕ} (e : n ≡ partOf (length m)) whe
       ∙ ap (λ (o : Outcome). inRam (o .board) m) (h ∙ ap (λ (t : List ℕ). transferred (board c p t) b) all)
 
 -- what a transfer changes of the chip
-pub sent-alone : (own : List ℕ) (c : Chip) (p m : List ℕ) (new : ℕ) {own₁ p₁ m₁ : List ℕ} {f : Chip} → flashed own₁ (chipped f p₁ m₁) ≡ sendWritten own c p m new
+pub sent-alone : (own : List ℕ) (c : Chip) (p m : List ℕ) (new : ℕ) {own₁ p₁ m₁ : List ℕ} {f : Chip}
+    → flashed own₁ (chipped f p₁ m₁) ≡ sendWritten own c p m new
     → f ≡ sentWith c (f .rx) (f .tx)
 unfolding sendWritten sentOver transferred
 sent-alone own c p m new {f = f} h = by (goodSize (length (take 8388608 m))) (ap (λ (z : Flashed). z .left .chip) h)
   where
-    by : (good : Bool) → f ≡ pick good (done (replied (boardOf c p m)) (sentBoard (boardOf c p m) (new % 256))) (refused (boardOf c p m)) .board .chip → f ≡ sentWith c (f .rx) (f .tx)
+    by : (good : Bool) → f ≡ pick good (acceptedOutcome (replied (boardOf c p m))
+        (sentBoard (boardOf c p m) (new % 256))) (refusedOutcome (boardOf c p m)) .board .chip
+        → f ≡ sentWith c (f .rx) (f .tx)
     by true e = rw e
     by false e = rw e
 
@@ -76,13 +81,16 @@ pub table-step : (f : ℕ → ℕ) (k i j : ℕ) (d : List ℕ) → i + k ≡ j 
 unfolding table
 table-step f k i j [] e l = absurd (not-suc-le-zero l)
 table-step f zero i j (x ∷ d) e l = let z : j ≡ i = omega arith in ap (λ (n : ℕ). f n ∷ d) z
-table-step f (suc k) i j (x ∷ d) e l = ap (λ (t : List ℕ). f i ∷ t) (table-step f k (suc i) j d (omega arith) (le-of-suc-le-suc l))
+table-step f (suc k) i j (x ∷ d) e l = ap (λ (t : List ℕ). f i ∷ t) (table-step f k (suc i) j d (omega arith)
+    (le-of-suc-le-suc l))
 
 table-long : (f : ℕ → ℕ) (i n : ℕ) → length (table f i n) ≡ n
 unfolding table
 table-long f i zero = refl
 table-long f i (suc n) = ap suc (table-long f (suc i) n)
 
-pub table-whole : (f : ℕ → ℕ) (d : List ℕ) → take (length d) (table f 0 (length d)) ++ drop (length d) d ≡ table f 0 (length d)
+pub table-whole : (f : ℕ → ℕ) (d : List ℕ) → take (length d) (table f 0 (length d)) ++ drop (length d) d ≡ table f 0
+    (length d)
 table-whole f d =
-    rw (drop-of-length-le d (le-refl (length d)), append-nil) (take-all (length d) (table f 0 (length d)) (le-of-eq (table-long f 0 (length d))))
+    rw (drop-of-length-le d (le-refl (length d)), append-nil) (take-all (length d) (table f 0 (length d))
+    (le-of-eq (table-long f 0 (length d))))

@@ -7,9 +7,9 @@ use mathlib.Core.Logic.{_≢_}
 use borrow.Author.Tests.{ne-eqb}
 use Rattle.memory.specs.Access.{goodSize}
 use Rattle.memory.specs.Bytes.{loaded, storedAt}
-use Rattle.bus.specs.declared.Told.{Told}
+use Rattle.bus.specs.declared.WriteAnswer.{WriteAnswer}
 use Rattle.bus.specs.declared.Got.{Got}
-use Rattle.bus.specs.Bank.{toldOf}
+use Rattle.bus.specs.Bank.{withoutEvent}
 use Rattle.bus.specs.Read.{sizedGot}
 use Rattle.bus.specs.Write.{sizedPut, sizedNumber}
 
@@ -31,8 +31,8 @@ module _ (n k : ℕ) (e : n ≡ k) (g : goodSize k ≡ true) (m : List ℕ) (o :
       → _≡_ {A = Got} (record { refusal = 0; value = v }) (sizedGot n (loaded m o n))
   got-sized h = rw (e, g, h)
 
-  pub put-sized : (v : ℕ) {l : List ℕ} {t : Told} → l ≡ storedAt m o k v → t ≡ toldOf 0
-      → (l ≡ sizedPut m o n v) × (t ≡ toldOf (sizedNumber n))
+  pub put-sized : (v : ℕ) {l : List ℕ} {t : WriteAnswer} → l ≡ storedAt m o k v → t ≡ withoutEvent 0
+      → (l ≡ sizedPut m o n v) × (t ≡ withoutEvent (sizedNumber n))
   put-sized v h f = (rw (e, g, h), rw (e, g) f)
 
 module _ (n : ℕ) (a : n ≢ 1) (b : n ≢ 2) (c : n ≢ 4) where
@@ -43,6 +43,6 @@ module _ (n : ℕ) (a : n ≢ 1) (b : n ≢ 2) (c : n ≢ 4) where
   pub got-refused : (v : ℕ) {x : Got} → x ≡ record { refusal = 9; value = 0 } → x ≡ sizedGot n v
   got-refused v h = rw bad h
 
-  pub put-refused : (m : List ℕ) (o v : ℕ) {t : Told} → t ≡ toldOf 9
-      → (m ≡ sizedPut m o n v) × (t ≡ toldOf (sizedNumber n))
+  pub put-refused : (m : List ℕ) (o v : ℕ) {t : WriteAnswer} → t ≡ withoutEvent 9
+      → (m ≡ sizedPut m o n v) × (t ≡ withoutEvent (sizedNumber n))
   put-refused m o v f = (rw bad, rw bad f)

@@ -9,6 +9,7 @@ use lib.Dec.{leb}
 use lib.ListN.{length, getD, take, drop}
 use lib.Seq.{drop-cons}
 use borrow.Author.Tests.{le-leb, lt-leb, leb-true}
+use Rattle.whole.proofs.Choice.{both}
 use Rattle.registers.specs.declared.Registers.{Registers}
 use Rattle.memory.specs.declared.Place.the-variants.{Ram, Sram, Gpio}
 use Rattle.memory.specs.Places.{within, placeOf}
@@ -16,7 +17,8 @@ use Rattle.bus.specs.Block.{peekOf, peekOn, table, blockOf, liesIn, runO
 
 -- ---- a table of a list's elements
 
-table-part : (f : ℕ → ℕ) (l : List ℕ) (o i n : ℕ) → ((k : ℕ) → k < i + n → f k ≡ getD l (o + k) 0) → o + i + n ≤ length l
+table-part : (f : ℕ → ℕ) (l : List ℕ) (o i n : ℕ) → ((k : ℕ) → k < i + n → f k ≡ getD l (o + k) 0)
+    → o + i + n ≤ length l
     → table f i n ≡ take n (drop (o + i) l)
 unfolding table
 table-part f l o i zero e h = refl
@@ -51,11 +53,6 @@ gpio-at a h k =
 
 -- ---- what the test says
 
-both : (a b : Bool) → (a && b) ≡ true → (a ≡ true) × (b ≡ true)
-both true true e = (refl, refl)
-both true false e = let z : _≡_ {A = ℕ} 0 1 = cc in absurd (omega arith)
-both false b e = let z : _≡_ {A = ℕ} 0 1 = cc in absurd (omega arith)
-
 pub record Lies (first size len a n : ℕ) : Type 0 where
   pub low : first ≤ a
   pub high : a - first + n ≤ size
@@ -70,15 +67,18 @@ lies first size len a n e =
 
 -- ---- the three memories
 
-peek-ram : (r : Registers) (m s g : List ℕ) (a : ℕ) → 0x20000000 ≤ a → a ≤ 0x20FFFFFF → peekOf r m s g a ≡ getD m (a - 0x20000000) 0
+peek-ram : (r : Registers) (m s g : List ℕ) (a : ℕ) → 0x20000000 ≤ a → a ≤ 0x20FFFFFF
+    → peekOf r m s g a ≡ getD m (a - 0x20000000) 0
 unfolding peekOf
 peek-ram r m s g a h k = rw (ram-at a h k)
 
-peek-sram : (r : Registers) (m s g : List ℕ) (a : ℕ) → 0xF8000000 ≤ a → a ≤ 0xF80FFFFF → peekOf r m s g a ≡ getD s (a - 0xF8000000) 0
+peek-sram : (r : Registers) (m s g : List ℕ) (a : ℕ) → 0xF8000000 ≤ a → a ≤ 0xF80FFFFF
+    → peekOf r m s g a ≡ getD s (a - 0xF8000000) 0
 unfolding peekOf
 peek-sram r m s g a h k = rw (sram-at a h k)
 
-peek-gpio : (r : Registers) (m s g : List ℕ) (a : ℕ) → 0xC0000000 ≤ a → a ≤ 0xC0000FFF → peekOf r m s g a ≡ getD g (a - 0xC0000000) 0
+peek-gpio : (r : Registers) (m s g : List ℕ) (a : ℕ) → 0xC0000000 ≤ a → a ≤ 0xC0000FFF
+    → peekOf r m s g a ≡ getD g (a - 0xC0000000) 0
 unfolding peekOf
 peek-gpio r m s g a h k = rw (gpio-at a h k)
 
@@ -95,7 +95,8 @@ module _ (r : Registers) (m s g l : List ℕ) (first size : ℕ) (top : first + 
   pub block-part : (a n : ℕ) → Lies first size (length l) a n → blockOf r m s g a n ≡ take n (drop (a - first) l)
   unfolding blockOf
   block-part a n w =
-      table-part (λ k. peekOn r m s g a k) l (a - first) 0 n (λ k b. on a n k w (let h : k < n = omega arith in h)) (omega (arith, w .long))
+      table-part (λ k. peekOn r m s g a k) l (a - first) 0 n (λ k b. on a n k w (let h : k < n = omega arith in h))
+      (omega (arith, w .long))
       ∙ ap (λ (y : ℕ). take n (drop y l)) (add-zero (a - first))
 
 -- ---- what the run says
@@ -141,17 +142,22 @@ module _ (m s g : List ℕ) (a n : ℕ) {k : ℕ} (e : k ≡ runOf (length m) (l
   run-gpio h = lies _ _ _ a n (three (inRam m a n) (inSram s a n) (inGpio g a n) (sym e ∙ h))
 
 module _ (r : Registers) (m s g : List ℕ) (a n : ℕ) {o : ℕ} {l : List ℕ} where
-  pub laid-ram : Lies 0x20000000 0x1000000 (length m) a n → o ≡ a - 0x20000000 → l ≡ take n (drop o m) → l ≡ blockOf r m s g a n
+  pub laid-ram : Lies 0x20000000 0x1000000 (length m) a n → o ≡ a - 0x20000000 → l ≡ take n (drop o m)
+      → l ≡ blockOf r m s g a n
   laid-ram w i h =
       h ∙ ap (λ (y : ℕ). take n (drop y m)) i
-      ∙ sym (block-part r m s g m 0x20000000 0x1000000 (omega arith) (λ x b c. peek-ram r m s g x b (omega arith)) a n w)
+      ∙ sym (block-part r m s g m 0x20000000 0x1000000 (omega arith) (λ x b c. peek-ram r m s g x b (omega arith)) a n
+      w)
 
-  pub laid-sram : Lies 0xF8000000 0x100000 (length s) a n → o ≡ a - 0xF8000000 → l ≡ take n (drop o s) → l ≡ blockOf r m s g a n
+  pub laid-sram : Lies 0xF8000000 0x100000 (length s) a n → o ≡ a - 0xF8000000 → l ≡ take n (drop o s)
+      → l ≡ blockOf r m s g a n
   laid-sram w i h =
       h ∙ ap (λ (y : ℕ). take n (drop y s)) i
-      ∙ sym (block-part r m s g s 0xF8000000 0x100000 (omega arith) (λ x b c. peek-sram r m s g x b (omega arith)) a n w)
+      ∙ sym (block-part r m s g s 0xF8000000 0x100000 (omega arith) (λ x b c. peek-sram r m s g x b (omega arith)) a n
+      w)
 
-  pub laid-gpio : Lies 0xC0000000 0x1000 (length g) a n → o ≡ a - 0xC0000000 → l ≡ take n (drop o g) → l ≡ blockOf r m s g a n
+  pub laid-gpio : Lies 0xC0000000 0x1000 (length g) a n → o ≡ a - 0xC0000000 → l ≡ take n (drop o g)
+      → l ≡ blockOf r m s g a n
   laid-gpio w i h =
       h ∙ ap (λ (y : ℕ). take n (drop y g)) i
       ∙ sym (block-part r m s g g 0xC0000000 0x1000 (omega arith) (λ x b c. peek-gpio r m s g x b (omega arith)) a n w)

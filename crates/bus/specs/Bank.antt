@@ -9,9 +9,9 @@ use Rattle.registers.specs.Words.{registersOf}
 use Rattle.state.specs.declared.Devices.{Devices}
 use Rattle.state.specs.declared.Parts.{Parts}
 use Rattle.state.specs.Bank.{panelIn, partsIn}
-use Rattle.state.specs.Packed.{Kept}
+use Rattle.state.specs.Packed.{StaysPacked}
 use Rattle.state.specs.Parts.{panelPut}
-use Rattle.bus.specs.declared.Told.{Told}
+use Rattle.bus.specs.declared.WriteAnswer.{WriteAnswer}
 use Rattle.bus.specs.World.{World, world, Out, out, Wrote}
 
 -- of the parts nothing but the devices differs
@@ -22,13 +22,13 @@ pub record Only (x y : Parts) : Type 0 where
 -- from cells to later ones nothing but the panel differs; packed words stay packed. The floats are not lent.
 pub record OnlyPanel (l l′ : List ℕ) : Type 0 where
   pub parts : (f : List Float) → partsIn l′ f ≡ panelPut (partsIn l f) (panelIn l′)
-  pub kept : (f : List Float) → Kept l f l′ f
+  pub packed : (f : List Float) → StaysPacked l f l′ f
 
 -- what a write leaves of the bank beside the devices: ring and keys; packed words packed; and where it is refused it
 -- makes no event and every word is as it was
-pub record Rest (r : Told) (l : List ℕ) (f : List Float) (l′ : List ℕ) (f′ : List Float) : Type 0 where
+pub record Rest (r : WriteAnswer) (l : List ℕ) (f : List Float) (l′ : List ℕ) (f′ : List Float) : Type 0 where
   pub only : Only (partsIn l f) (partsIn l′ f′)
-  pub kept : Kept l f l′ f′
+  pub packed : StaysPacked l f l′ f′
   pub still : r .refusal ≢ 0 → (r .event ≡ false) × (l′ ≡ l) × (f′ ≡ f)
 
 -- the registers' three lists, the RTC's registers, the page's running AND, the four memories, the bank's parts
@@ -37,13 +37,13 @@ worldOf own addresses values rtc page ram sram gpio fb x =
     world (registersOf own addresses values) rtc page ram sram gpio fb (x .devices)
 
 -- an answer, with the devices that are then in the bank
-abbrev pub wroteOf : Told → Devices → Wrote
+abbrev pub wroteOf : WriteAnswer → Devices → Wrote
 wroteOf r d = record { refusal = r .refusal; event = r .event; devices = d }
 
 -- an answer without an event
-abbrev pub toldOf : ℕ → Told
-toldOf n = record { refusal = n; event = false }
+abbrev pub withoutEvent : ℕ → WriteAnswer
+withoutEvent n = record { refusal = n; event = false }
 
 -- an answer, with the world that it leaves
-abbrev pub outOf : World → Told → Out
+abbrev pub outOf : World → WriteAnswer → Out
 outOf w r = out w (r .refusal) (r .event)

@@ -4,6 +4,7 @@ use mathlib.Core.Bool.{Bool, cond}
 use mathlib.Core.List.{List, _++_}
 use lib.ListN.{take, drop}
 use lib.Dec.{ltb}
+use Rattle.map.specs.Numbers.{FLASH-SIZE, SPIFC-SELECT, SPIFC-SEND}
 use Rattle.whole.specs.Words.{has}
 use Rattle.registers.specs.Words.{ownWith}
 use Rattle.flash.specs.declared.Chip.{Chip}
@@ -12,7 +13,7 @@ use Rattle.flash.specs.Flash.{selected, transferred}
 
 -- how many bytes of a memory are the flash's
 unfoldable pub partOf : ℕ → ℕ
-partOf n = cond (ltb n 8388608) n 8388608
+partOf n = cond (ltb n FLASH-SIZE) n FLASH-SIZE
 
 -- the chip, the page's running AND and all of RAM
 pub record Chipped : Type 0 where
@@ -21,22 +22,22 @@ pub record Chipped : Type 0 where
   pub ram : List ℕ
 
 abbrev pub chipped : Chip → List ℕ → List ℕ → Chipped
-chipped c p m = record { chip = c; page = p; ram = m }
+chipped c p ram = record { chip = c; page = p; ram = ram }
 
 -- the chip on its board, whose array is the first 8 MiB of RAM
 abbrev pub boardOf : Chip → List ℕ → List ℕ → Board
-boardOf c p m = board c p (take 8388608 m)
+boardOf c p ram = board c p (take FLASH-SIZE ram)
 
 -- a board's outcome, in RAM
 abbrev pub inRam : Board → List ℕ → Chipped
-inRam b m = chipped (b .chip) (b .page) (b .array ++ drop 8388608 m)
+inRam b ram = chipped (b .chip) (b .page) (b .array ++ drop FLASH-SIZE ram)
 
 unfoldable pub selectedOver : Chip → List ℕ → List ℕ → Bool → Chipped
-selectedOver c p m on = inRam (selected (boardOf c p m) on .board) m
+selectedOver c p ram on = inRam (selected (boardOf c p ram) on .board) ram
 
 -- a transfer stores nothing
 unfoldable pub sentOver : Chip → List ℕ → List ℕ → ℕ → Chipped
-sentOver c p m b = inRam (transferred (boardOf c p m) b .board) m
+sentOver c p ram b = inRam (transferred (boardOf c p ram) b .board) ram
 
 pub record Flashed : Type 0 where
   pub own : List ℕ
@@ -47,8 +48,8 @@ flashed o c = record { own = o; left = c }
 
 -- bit 6 selects
 unfoldable pub selectWritten : List ℕ → Chip → List ℕ → List ℕ → ℕ → Flashed
-selectWritten own c p m new = flashed (ownWith own 0xC0150000 new) (selectedOver c p m (has new 0x40))
+selectWritten own c p ram new = flashed (ownWith own SPIFC-SELECT new) (selectedOver c p ram (has new 0x40))
 
 -- the low byte is sent
 unfoldable pub sendWritten : List ℕ → Chip → List ℕ → List ℕ → ℕ → Flashed
-sendWritten own c p m new = flashed (ownWith own 0xC0150008 new) (sentOver c p m (new % 256))
+sendWritten own c p ram new = flashed (ownWith own SPIFC-SEND new) (sentOver c p ram (new % 256))

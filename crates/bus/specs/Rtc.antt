@@ -2,6 +2,7 @@
 use Prim.Native.Nat.{ℕ}
 use mathlib.Core.List.{List}
 use lib.Ieee.{Float}
+use Rattle.map.specs.Numbers.{RTC-ADDRESS, RTC-DATA, RTC-COMMAND}
 use Rattle.registers.specs.Words.{ownAt, ownWith}
 use Rattle.clock.specs.declared.Rtc.{Rtc}
 use Rattle.clock.specs.Rtc.{commandedOf}
@@ -14,7 +15,7 @@ abbrev pub ran : List ℕ → Rtc → Ran
 ran o r = record { own = o; chip = r }
 
 abbrev pub commandedBy : List ℕ → Rtc → Float → ℕ → Ran
-commandedBy own r game new = ran own (commandedOf r game (ownAt own 0xC0090004) (ownAt own 0xC0090008) new)
+commandedBy own r game new = ran own (commandedOf r game (ownAt own RTC-ADDRESS) (ownAt own RTC-DATA) new)
 
 unfoldable pub commandWritten : List ℕ → Rtc → Float → ℕ → Ran
-commandWritten own r game new = commandedBy (ownWith own 0xC009000C new) r game new
+commandWritten own r game new = commandedBy (ownWith own RTC-COMMAND new) r game new

@@ -4,6 +4,7 @@ use mathlib.Core.Bool.{Bool, true, false, cond}
 use mathlib.Core.List.{List}
 use lib.ListN.{getD}
 use lib.Dec.{eqb}
+use Rattle.map.specs.Numbers.{SOUND-TIMER, SOUND-CONTROL, SOUND-RELOAD, SOUND-COMPARE, DONE, SOUND-FULL}
 use Rattle.registers.specs.Words.{ownAt, ownWith}
 use Rattle.timer.specs.declared.Event.{Event}
 use Rattle.timer.specs.declared.Queue.{Queue}
@@ -17,7 +18,7 @@ use Rattle.timer.specs.Sound.{toneOf, soundedOf}
 use Rattle.timer.specs.Events.{putOf}
 use Rattle.state.specs.Parts.{none, timerWith, withClocks, withTone}
 use Rattle.state.specs.declared.Devices.{Devices}
-use Rattle.bus.specs.World.{Said, said, answer, well}
+use Rattle.bus.specs.World.{OwnOut, ownOut, answer, ownDone}
 
 abbrev pub timerSet : Devices → ℕ → Timer → Devices
 timerSet d n t = withClocks d (timerWith (d .clocks) n t)
@@ -27,26 +28,27 @@ unfoldable pub soundOf : List ℕ → Tone → ℕ → Bool → ℕ → ℕ → 
 soundOf own tone clock full word v =
     soundedOf tone full
     (toneOf clock
-    (cond (eqb word 0xC0020080) v (ownAt own 0xC0020080))
-    (cond (eqb word 0xC0020088) v (ownAt own 0xC0020088))
-    (cond (eqb word 0xC002008C) v (ownAt own 0xC002008C)))
+    (cond (eqb word SOUND-CONTROL) v (ownAt own SOUND-CONTROL))
+    (cond (eqb word SOUND-RELOAD) v (ownAt own SOUND-RELOAD))
+    (cond (eqb word SOUND-COMPARE) v (ownAt own SOUND-COMPARE)))
 
 -- the word is stored and the devices are the next ones, with the new tone; or nothing changes
-abbrev pub sounding : Sounded → List ℕ → Devices → Devices → ℕ → ℕ → Said
-sounding SoundFull own d next word v = said own (answer 5 d)
-sounding Same own d next word v = well (ownWith own word v) next
-sounding (Change tone) own d next word v = said (ownWith own word v) (record { refusal = 0; event = true; devices = withTone next tone })
+abbrev pub sounding : Sounded → List ℕ → Devices → Devices → ℕ → ℕ → OwnOut
+sounding SoundFull own d next word v = ownOut own (answer SOUND-FULL d)
+sounding Same own d next word v = ownDone (ownWith own word v) next
+sounding (Change tone) own d next word v = ownOut (ownWith own word v)
+    (record { refusal = DONE; event = true; devices = withTone next tone })
 
-unfoldable pub soundWritten : List ℕ → Devices → Devices → ℕ → Bool → ℕ → ℕ → Said
+unfoldable pub soundWritten : List ℕ → Devices → Devices → ℕ → Bool → ℕ → ℕ → OwnOut
 soundWritten own d next clock full word v = sounding (soundOf own (d .tone) clock full word v) own d next word v
 
-abbrev pub controlWritten : Written → List ℕ → Devices → ℕ → Bool → ℕ → ℕ → Said
+abbrev pub controlWritten : Written → List ℕ → Devices → ℕ → Bool → ℕ → ℕ → OwnOut
 controlWritten x own d clock full n word =
-    cond (eqb n 4) (soundWritten own d (timerSet d n (x .timer)) clock full word (x .control))
-    (well (ownWith own word (x .control)) (timerSet d n (x .timer)))
+    cond (eqb n SOUND-TIMER) (soundWritten own d (timerSet d n (x .timer)) clock full word (x .control))
+    (ownDone (ownWith own word (x .control)) (timerSet d n (x .timer)))
 
 -- the control word of timer n
-unfoldable pub timerWritten : List ℕ → Devices → ℕ → Bool → ℕ → ℕ → ℕ → ℕ → Said
+unfoldable pub timerWritten : List ℕ → Devices → ℕ → Bool → ℕ → ℕ → ℕ → ℕ → OwnOut
 timerWritten own d clock full n word old new =
     controlWritten (writtenOf (getD (d .clocks .timers) n none) (d .clocks .times .now) new old) own d clock full n word
 

@@ -2,9 +2,12 @@
 use Prim.Native.Nat.{ℕ, _-_, _%_}
 use mathlib.Core.Bool.{Bool, false, cond}
 use mathlib.Core.List.{List}
-use lib.Dec.{eqb, ltb}
+use Rattle.map.specs.Numbers.{DONE, STRAY-WRITE, BAD-SIZE}
 use Rattle.registers.specs.declared.Registers.{Registers}
-use Rattle.registers.specs.Words.{Outcome, registersOf, wordAt, putWord}
+use Rattle.registers.specs.declared.Port.{Port}
+use Rattle.registers.specs.declared.Port.the-variants.{Select, Send, LcdControl, RtcCommand, Acts, Shows, Holds, Other}
+use Rattle.registers.specs.Ports.{dayWord, portOf, fieldOf}
+use Rattle.registers.specs.Words.{Outcome, wordAt, putWord}
 use Rattle.memory.specs.declared.Place.{Place}
 use Rattle.memory.specs.declared.Place.the-variants.{Ram, Sram, Gpio, Register, Stray}
 use Rattle.memory.specs.Places.{placeOf}
@@ -17,12 +20,14 @@ use Rattle.timer.specs.Events.{fullOf}
 use Rattle.state.specs.declared.Devices.{Devices}
 use Rattle.state.specs.Parts.{withFlash, withPanel, withLatch}
 use Rattle.time.specs.Clocks.{clockIn}
-use Rattle.bus.specs.World.{World, world, Out, out, done, Wrote, Said, answer}
+use Rattle.bus.specs.World.{World, Out, out, outDone, Wrote, OwnOut, answer}
+use Rattle.bus.specs.World.{withRegisters, withOwn, withRtc, withPage, withRam, withSram, withGpio, withFb}
+use Rattle.bus.specs.World.{withDevices}
 use Rattle.bus.specs.Chip.{Flashed, selectWritten, sendWritten}
 use Rattle.bus.specs.Rtc.{Ran, commandWritten}
 use Rattle.bus.specs.Screen.{Copied, controlled}
 use Rattle.bus.specs.Sounds.{noted}
-use Rattle.bus.specs.Words.{fieldAt, actsOf, daySet, wordWritten}
+use Rattle.bus.specs.Words.{daySet, wordWritten}
 
 -- a word that only is stored
 pub record Stored : Type 0 where
@@ -40,59 +45,63 @@ storedWord r d word new = settled (putWord r word new) d
 
 -- a word that has no storage of its own: a field of the time of day, or one that is only stored
 unfoldable pub otherWritten : Registers → Devices → ℕ → ℕ → Stored
-otherWritten r d word new =
-    cond (ltb (fieldAt word) 3) (stored r (answer 0 (daySet d (fieldAt word) new))) (storedWord r d word new)
+otherWritten r d word new = cond (dayWord word) (stored r (answer 0 (daySet d (fieldOf word) new)))
+    (storedWord r d word new)
 
 -- ---- an outcome in the world
 
-abbrev pub ownIn : World → List ℕ → Registers
-ownIn w own = registersOf own (w .registers .addresses) (w .registers .values)
-
 abbrev pub byFlash : World → Flashed → Out
-byFlash w x = done (world (ownIn w (x .own)) (w .rtc) (x .left .page) (x .left .ram) (w .sram) (w .gpio) (w .fb) (withFlash (w .devices) (x .left .chip)))
+byFlash w x =
+    outDone (withDevices (withRam (withPage (withOwn w (x .own)) (x .left .page)) (x .left .ram))
+    (withFlash (w .devices) (x .left .chip)))
 
 abbrev pub byPanel : World → Copied → Out
-byPanel w x =
-    done (world (ownIn w (x .own)) (w .rtc) (w .page) (w .ram) (w .sram) (w .gpio) (x .screen .fb) (withPanel (w .devices) (x .screen .panel)))
+byPanel w x = outDone (withDevices (withFb (withOwn w (x .own)) (x .screen .fb))
+    (withPanel (w .devices) (x .screen .panel)))
 
 abbrev pub byRtc : World → Ran → Out
-byRtc w x = done (world (ownIn w (x .own)) (x .chip .regs) (w .page) (w .ram) (w .sram) (w .gpio) (w .fb) (withLatch (w .devices) (x .chip .latch)))
+byRtc w x = outDone (withDevices (withRtc (withOwn w (x .own)) (x .chip .regs))
+    (withLatch (w .devices) (x .chip .latch)))
 
-abbrev pub byWord : World → Said → Out
-byWord w x = out (world (ownIn w (x .own)) (w .rtc) (w .page) (w .ram) (w .sram) (w .gpio) (w .fb) (x .wrote .devices)) (x .wrote .refusal) (x .wrote .event)
+abbrev pub byWord : World → OwnOut → Out
+byWord w x = out (withDevices (withOwn w (x .own)) (x .wrote .devices)) (x .wrote .refusal) (x .wrote .event)
 
 abbrev pub byStore : World → Stored → Out
-byStore w x = out (world (x .registers) (w .rtc) (w .page) (w .ram) (w .sram) (w .gpio) (w .fb) (x .wrote .devices)) (x .wrote .refusal) (x .wrote .event)
+byStore w x = out (withDevices (withRegisters w (x .registers)) (x .wrote .devices)) (x .wrote .refusal)
+    (x .wrote .event)
 
 -- ---- a register
 
+-- what a write does, by the word's port
+abbrev pub writtenAt : Port → World → Bool → ℕ → ℕ → ℕ → ℕ → Out
+writtenAt Select w full word old new part = byFlash w (selectWritten (w .registers .own) (w .devices .flash) (w .page)
+    (w .ram) new)
+writtenAt Send w full word old new part = byFlash w (sendWritten (w .registers .own) (w .devices .flash) (w .page)
+    (w .ram) new)
+writtenAt LcdControl w full word old new part =
+    byPanel w (controlled (w .registers) (w .ram) (w .sram) (w .gpio) (screen (w .devices .panel) (w .fb)) new)
+writtenAt RtcCommand w full word old new part =
+    byRtc w (commandWritten (w .registers .own) (rtcOf (w .rtc) (w .devices .latch)) (w .devices .clocks .times .game)
+    new)
+writtenAt (Acts e) w full word old new part =
+    byWord w (wordWritten e (w .registers .own) (w .devices) (clockIn (w .sram)) full word old new part)
+writtenAt (Shows v) w full word old new part = byStore w (storedWord (w .registers) (w .devices) word new)
+writtenAt Holds w full word old new part = byStore w (storedWord (w .registers) (w .devices) word new)
+writtenAt Other w full word old new part = byStore w (storedWord (w .registers) (w .devices) word new)
+
 unfoldable pub portWritten : World → Bool → ℕ → ℕ → ℕ → ℕ → Out
-portWritten w full word old new part =
-    cond (eqb word 0xC0150000) (byFlash w (selectWritten (w .registers .own) (w .devices .flash) (w .page) (w .ram) new))
-    (cond (eqb word 0xC0150008) (byFlash w (sendWritten (w .registers .own) (w .devices .flash) (w .page) (w .ram) new))
-    (cond (eqb word 0xD0500140) (byPanel w (controlled (w .registers) (w .ram) (w .sram) (w .gpio) (screen (w .devices .panel) (w .fb)) new))
-    (cond (eqb word 0xC009000C) (byRtc w (commandWritten (w .registers .own) (rtcOf (w .rtc) (w .devices .latch)) (w .devices .clocks .times .game) new))
-    (cond (actsOf word) (byWord w (wordWritten (w .registers .own) (w .devices) (clockIn (w .sram)) full word old new part))
-    (byStore w (storedWord (w .registers) (w .devices) word new))))))
+portWritten w full word old new part = writtenAt (portOf word) w full word old new part
 
 -- the word that an address lies in
-abbrev pub wordOf : ℕ → ℕ
-wordOf a = a - a % 4
+abbrev pub wordAddress : ℕ → ℕ
+wordAddress a = a - a % 4
 
 unfoldable pub regWritten : World → Bool → ℕ → ℕ → ℕ → Out
 regWritten w full a n v =
-    portWritten w full (wordOf a) (wordAt (w .registers) (wordOf a)) (mergedOf (wordAt (w .registers) (wordOf a)) a n v) (writtenOf a n v)
+    portWritten w full (wordAddress a) (wordAt (w .registers) (wordAddress a))
+    (mergedOf (wordAt (w .registers) (wordAddress a)) a n v) (writtenOf a n v)
 
 -- ---- any address
-
-abbrev pub withRam : World → List ℕ → World
-withRam w m = world (w .registers) (w .rtc) (w .page) m (w .sram) (w .gpio) (w .fb) (w .devices)
-
-abbrev pub withSram : World → List ℕ → World
-withSram w m = world (w .registers) (w .rtc) (w .page) (w .ram) m (w .gpio) (w .fb) (w .devices)
-
-abbrev pub withGpio : World → List ℕ → World
-withGpio w m = world (w .registers) (w .rtc) (w .page) (w .ram) (w .sram) m (w .fb) (w .devices)
 
 -- what an access leaves of a memory: as it was, where its size is not 1, 2 or 4
 abbrev pub sizedPut : List ℕ → ℕ → ℕ → ℕ → List ℕ
@@ -100,17 +109,17 @@ sizedPut m o n v = cond (goodSize n) (storedAt m o n v) m
 
 -- and its number
 abbrev pub sizedNumber : ℕ → ℕ
-sizedNumber n = cond (goodSize n) 0 9
+sizedNumber n = cond (goodSize n) DONE BAD-SIZE
 
 abbrev pub writeAt : Place → World → Bool → ℕ → ℕ → ℕ → Out
-writeAt (Ram o) w full a n v = done (withRam w (storedAt (w .ram) o n v))
-writeAt (Sram o) w full a n v = done (withSram w (storedAt (w .sram) o n v))
-writeAt (Gpio o) w full a n v = done (withGpio w (storedAt (w .gpio) o n v))
+writeAt (Ram o) w full a n v = outDone (withRam w (storedAt (w .ram) o n v))
+writeAt (Sram o) w full a n v = outDone (withSram w (storedAt (w .sram) o n v))
+writeAt (Gpio o) w full a n v = outDone (withGpio w (storedAt (w .gpio) o n v))
 writeAt Register w full a n v = regWritten w full a n v
-writeAt Stray w full a n v = out w 6 false
+writeAt Stray w full a n v = out w STRAY-WRITE false
 
 unfoldable pub writeOf : World → Bool → ℕ → ℕ → ℕ → Out
-writeOf w full a n v = cond (goodSize n) (writeAt (placeOf a) w full a n v) (out w 9 false)
+writeOf w full a n v = cond (goodSize n) (writeAt (placeOf a) w full a n v) (out w BAD-SIZE false)
 
 -- ---- with the sound queue: an event that finds 256 waiting refuses the write, any other is put in
 

@@ -4,7 +4,7 @@ ghost use Prim.Native.Nat.{_+_, _-_, _%_, _^_, _≤_, _<_};
 ghost use lib.Dec.{leb};
 ghost use lib.ListN.{length, getD, set, take, drop};
 ghost use Rattle.registers.specs.Words.{registersOf};
-ghost use Rattle.bus.specs.Block.{peekOf, joinedOf, wordOf, blockOf, liesIn, runOf, wholeOf};
+ghost use Rattle.bus.specs.Block.{peekOf, joinedOf, peeked32, blockOf, liesIn, runOf, wholeOf};
 ghost use Rattle.bus.specs.Block.{block, readOf, plain, pokedOf, laidOf};
 use memory::Place;
 
@@ -58,7 +58,7 @@ pub fn peek32(
     addr: u32,
 ) -> u32
     ensures { λ r. ⌜ r
-        ≡ wordOf (registersOf (now (own .entry)) (now (addresses .entry)) (now (values .entry)))
+        ≡ peeked32 (registersOf (now (own .entry)) (now (addresses .entry)) (now (values .entry)))
         (now (ram .entry)) (now (sram .entry)) (now (gpio .entry)) addr ⌝ }
 {
     let a = peek8(own, addresses, values, ram, sram, gpio, along(addr, 0));
@@ -87,7 +87,7 @@ fn is_whole(ram: usize, sram: usize, gpio: usize, addr: u32, n: usize) -> bool
         Place::Sram(at) => fits(sram, at, n),
         Place::Gpio(at) => fits(gpio, at, n),
         Place::Register => false,
-        Place::Stray => fits(65536, (addr % 65536) as usize, n),
+        Place::Stray => fits(0x1_0000, (addr % 0x1_0000) as usize, n),
     }
 }
 
@@ -106,13 +106,13 @@ fn lies_in(first: u32, size: usize, len: usize, addr: u32, n: usize) -> bool
 fn run_of(ram: usize, sram: usize, gpio: usize, addr: u32, n: usize) -> u8
     ensures { λ r. ⌜ r ≡ runOf ram sram gpio addr n ⌝ }
 {
-    if lies_in(0x2000_0000, 0x100_0000, ram, addr, n) {
+    if lies_in(map::FLASH_BASE, map::RAM_SIZE, ram, addr, n) {
         return 1;
     }
-    if lies_in(0xF800_0000, 0x10_0000, sram, addr, n) {
+    if lies_in(map::SRAM_BASE, map::SRAM_SIZE, sram, addr, n) {
         return 2;
     }
-    if lies_in(0xC000_0000, 0x1000, gpio, addr, n) {
+    if lies_in(map::GPIO_BASE, map::GPIO_SIZE, gpio, addr, n) {
         return 3;
     }
     0
@@ -198,13 +198,13 @@ fn copy(
     let run = run_of(ram.len(), sram.len(), gpio.len(), addr, buf.len());
     match run {
         1 => {
-            lay(ram, offset(addr, 0x2000_0000), buf);
+            lay(ram, offset(addr, map::FLASH_BASE), buf);
         }
         2 => {
-            lay(sram, offset(addr, 0xF800_0000), buf);
+            lay(sram, offset(addr, map::SRAM_BASE), buf);
         }
         3 => {
-            lay(gpio, offset(addr, 0xC000_0000), buf);
+            lay(gpio, offset(addr, map::GPIO_BASE), buf);
         }
         _ => {
             gather(own, addresses, values, ram, sram, gpio, addr, buf);

@@ -7,11 +7,16 @@ use flash::Chip;
 fn part(n: usize) -> usize
     ensures { λ r. ⌜ r ≡ partOf n ⌝ }
 {
-    if n < 8388608 { n } else { 8388608 }
+    if n < map::FLASH_SIZE {
+        n
+    } else {
+        map::FLASH_SIZE
+    }
 }
 
 fn flash_select(page: &mut [u8; 256], ram: &mut [u8], chip: Chip, on: bool) -> Chip
-    ensures { λ r. ⌜ chipped r (now (page .exit)) (now (ram .exit)) ≡ selectedOver chip (now (page .entry)) (now (ram .entry)) on ⌝ }
+    ensures { λ r. ⌜ chipped r (now (page .exit)) (now (ram .exit)) ≡ selectedOver chip (now (page .entry))
+        (now (ram .entry)) on ⌝ }
 {
     let n = part(ram.len());
     let r = flash::select(chip, page, &mut ram[..n], on);
@@ -19,7 +24,8 @@ fn flash_select(page: &mut [u8; 256], ram: &mut [u8], chip: Chip, on: bool) -> C
 }
 
 fn flash_xfer(page: &mut [u8; 256], ram: &[u8], chip: Chip, byte: u8) -> Chip
-    ensures { λ r. ⌜ chipped r (now (page .exit)) (now (ram .entry)) ≡ sentOver chip (now (page .entry)) (now (ram .entry)) byte ⌝ }
+    ensures { λ r. ⌜ chipped r (now (page .exit)) (now (ram .entry)) ≡ sentOver chip (now (page .entry))
+        (now (ram .entry)) byte ⌝ }
 {
     let n = part(ram.len());
     let r = flash::transfer(chip, page, &ram[..n], byte);
@@ -36,7 +42,7 @@ pub(crate) fn select_write(
     ensures { λ r. ⌜ flashed (now (own .exit)) (chipped r (now (page .exit)) (now (ram .exit)))
         ≡ selectWritten (now (own .entry)) chip (now (page .entry)) (now (ram .entry)) new ⌝ }
 {
-    registers::own_insert(own, 0xC015_0000, new);
+    registers::own_insert(own, map::SPIFC_SELECT, new);
     flash_select(page, ram, chip, new & 0x40 != 0)
 }
 
@@ -50,6 +56,6 @@ pub(crate) fn send_write(
     ensures { λ r. ⌜ flashed (now (own .exit)) (chipped r (now (page .exit)) (now (ram .entry)))
         ≡ sendWritten (now (own .entry)) chip (now (page .entry)) (now (ram .entry)) new ⌝ }
 {
-    registers::own_insert(own, 0xC015_0008, new);
+    registers::own_insert(own, map::SPIFC_SEND, new);
     flash_xfer(page, ram, chip, memory::low(new))
 }

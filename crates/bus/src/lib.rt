@@ -1,7 +1,8 @@
 // The bus: what the CPU sees of memories, registers and devices. `System` of core/src/sys.rs.
 //
-// The work is done over lent arrays: the registers, the memories, and the bank of crate state, which holds every scalar of
-// the devices. The functions take memories of any length: what lies past the end of one reads as 0 and is not stored.
+// The work is done over lent arrays: the registers, the memories, and the bank of crate state, which holds every
+// scalar of the devices. The functions take memories of any length: what lies past the end of one reads as 0 and is
+// not stored.
 pub mod block;
 mod chip;
 pub mod read;
@@ -13,7 +14,7 @@ pub mod write;
 
 // What a write answers: 01's number, and whether the tone changed, which is an event at the time that the bank has.
 // It is a struct so that there is room for what later requests report.
-pub struct Told {
+pub struct WriteAnswer {
     pub refusal: u8,
     pub event: bool,
 }

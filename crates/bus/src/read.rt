@@ -3,21 +3,31 @@ ghost use mathlib.Core.Path.{_≡_};
 ghost use Prim.Native.Nat.{_<_};
 ghost use lib.ListN.{getD};
 ghost use Rattle.memory.specs.Bytes.{loaded};
-ghost use Rattle.registers.specs.Words.{slotOf, slotWord, registersOf};
+ghost use Rattle.registers.specs.Words.{registersOf};
+ghost use Rattle.registers.specs.Ports.{slotOf, slotWord, portAt};
 ghost use Rattle.time.specs.Clocks.{clockIn};
 ghost use Rattle.state.specs.Bank.{partsIn};
-ghost use Rattle.bus.specs.Read.{statusOf, baseOf, dayRead, timerRead, counterRead, timerValue, valueOf, otherValue, afterRead, got, given, sizedGot, regRead, readOf};
+ghost use Rattle.bus.specs.Read.{statusOf, baseOf, dayRead, timerRead, counterRead, actingValue, viewOf};
+ghost use Rattle.bus.specs.Read.{wordRead};
+ghost use Rattle.bus.specs.Read.{otherValue, got, given, sizedGot, regRead, readOf};
 use crate::Got;
-use crate::words::field_at;
+use crate::words::field_of;
 use memory::Place;
+use registers::Effect;
+use registers::Port;
+use registers::View;
 use state::Cells;
 use state::Floats;
-use whole::forms::keep;
+use whole::forms::choose;
 
 fn clock_status(own: &[u32; 76]) -> u32
     ensures { λ r. ⌜ r ≡ statusOf (now (own .entry)) ⌝ }
 {
-    keep(registers::own_reg(own, 0xD000_001C) & 0x8000 != 0, 2, 1)
+    choose(
+        registers::own_reg(own, map::CLOCK_SWITCH) & 0x8000 != 0,
+        2,
+        1,
+    )
 }
 
 fn tod_read(cells: &Cells, floats: &Floats, field: u32) -> u32
@@ -40,7 +50,7 @@ fn base_of(n: usize) -> u32
     requires { ⌜ n < 6 ⌝ }
     ensures { λ r. ⌜ r ≡ baseOf n ⌝ }
 {
-    0xC002_0000 + (n as u32) * 0x20
+    map::TIMER_BASE + (n as u32) * map::TIMER_STEP
 }
 
 fn counter_read(
@@ -63,78 +73,123 @@ fn counter_read(
     timer::counter(t, times.now, clock, control, reload, old)
 }
 
-// A word of a timer, by its slot; old is what it holds.
-fn timer_value(
-    own: &[u32; 76],
+// What a word reads as that shows something else than what is stored, by its slot; old is what it holds. Reading the
+// answer of the second SPI clears three bits beside it.
+fn view_of(
+    own: &mut [u32; 76],
     cells: &Cells,
     floats: &Floats,
     sram: &[u8],
+    view: View,
     s: usize,
     old: u32,
 ) -> u32
-    requires { ⌜ s < 48 ⌝ }
-    ensures { λ r. ⌜ r ≡ timerValue (now (own .entry)) (partsIn (now (cells .entry))
-        (now (floats .entry)) .devices .clocks) (clockIn (now (sram .entry))) s old ⌝ }
-{
-    if s % 8 == 0 {
-        return timer_read(cells, floats, s / 8, old);
-    }
-    if s % 8 == 4 {
-        let clock = time::sysclk_var(sram);
-        return counter_read(own, cells, floats, clock, s / 8, old);
-    }
-    old
-}
-
-// What a word in its own storage reads as, before shifting. Reading the answer of the second SPI clears three bits
-// beside it.
-fn own_value(own: &mut [u32; 76], cells: &Cells, floats: &Floats, sram: &[u8], s: usize) -> u32
-    requires { ⌜ s < 76 ⌝ }
+    requires { ⌜ (s < 76) × (portAt s ≡ Port.Shows view) ⌝ }
     ensures { λ r. ⌜ given (now (own .exit)) r
-        ≡ given (afterRead (now (own .entry)) (slotWord s)) (valueOf (now (own .entry)) (partsIn (now (cells .entry))
-        (now (floats .entry)) .devices) (clockIn (now (sram .entry))) (slotWord s) (getD (now (own .entry)) s 0)) ⌝ }
+        ≡ viewOf view (now (own .entry)) (partsIn (now (cells .entry))
+        (now (floats .entry)) .devices) (clockIn (now (sram .entry))) (slotWord s) old ⌝ }
 {
-    let old = registers::slot_get(own, s);
-    if s < 48 {
-        return timer_value(own, cells, floats, sram, s, old);
-    }
-    match s {
-        // 0xD000_003C
-        65 => {
-            return clock_status(own);
+    match view {
+        View::TimerCounter => {
+            let clock = time::sysclk_var(sram);
+            return counter_read(own, cells, floats, clock, s / 8, old);
         }
-        // 0xC015_0004
-        61 => {
+        View::SpiAnswer => {
+            let c = registers::own_reg(own, map::SPI2_STATUS);
+            registers::own_insert(own, map::SPI2_STATUS, c & 0xFFFF_FFF8);
+            return old;
+        }
+        View::RtcReady => {
+            return 1;
+        }
+        View::RtcOut => {
+            return state::rests::out_of(cells);
+        }
+        View::FlashStatus => {
             return old & 0xFFFF_FFF7;
         }
-        // 0xC015_000C
-        63 => {
+        View::FlashAnswer => {
             let rx = state::chips::rx_of(cells);
             return rx as u32;
         }
-        // 0xD010_0028
-        67 => {
+        View::ClockStatus => {
+            return clock_status(own);
+        }
+        View::Pending => {
             return time::irq::pending_irq(own, cells);
         }
-        // 0xD010_002C
-        68 => {
+        View::PendingFiq => {
             return 0;
         }
-        // 0xC009_0010
-        56 => {
-            return 1;
+    }
+}
+
+// The same of one that acts when it is written.
+fn acting_value(cells: &Cells, floats: &Floats, effect: Effect, s: usize, old: u32) -> u32
+    requires { ⌜ (s < 76) × (portAt s ≡ Port.Acts effect) ⌝ }
+    ensures { λ r. ⌜ r ≡ actingValue effect (partsIn (now (cells .entry)) (now (floats .entry)) .devices .clocks)
+        (slotWord s) old ⌝ }
+{
+    match effect {
+        Effect::TimerControl => {
+            return timer_read(cells, floats, s / 8, old);
         }
-        // 0xC009_0014
-        57 => {
-            return state::rests::out_of(cells);
-        }
-        // 0xC008_0010
-        52 => {
-            let c = registers::own_reg(own, 0xC008_000C);
-            registers::own_insert(own, 0xC008_000C, c & 0xFFFF_FFF8);
+        Effect::DayField => {
             return old;
         }
-        _ => {
+        Effect::Sound => {
+            return old;
+        }
+        Effect::LcdStatus => {
+            return old;
+        }
+        Effect::Tick => {
+            return old;
+        }
+        Effect::AdcControl => {
+            return old;
+        }
+        Effect::Power => {
+            return old;
+        }
+        Effect::SpiSend => {
+            return old;
+        }
+    }
+}
+
+// What a word in its own storage reads as, before shifting.
+fn own_value(own: &mut [u32; 76], cells: &Cells, floats: &Floats, sram: &[u8], s: usize) -> u32
+    requires { ⌜ s < 76 ⌝ }
+    ensures { λ r. ⌜ given (now (own .exit)) r
+        ≡ wordRead (now (own .entry)) (partsIn (now (cells .entry)) (now (floats .entry)) .devices)
+        (clockIn (now (sram .entry))) (slotWord s) (getD (now (own .entry)) s 0) ⌝ }
+{
+    let old = registers::slot_get(own, s);
+    let port = registers::port_at(s);
+    match port {
+        Port::Acts(effect) => {
+            return acting_value(cells, floats, effect, s, old);
+        }
+        Port::Shows(view) => {
+            return view_of(own, cells, floats, sram, view, s, old);
+        }
+        Port::Select => {
+            return old;
+        }
+        Port::Send => {
+            return old;
+        }
+        Port::LcdControl => {
+            return old;
+        }
+        Port::RtcCommand => {
+            return old;
+        }
+        Port::Holds => {
+            return old;
+        }
+        Port::Other => {
             return old;
         }
     }
@@ -154,9 +209,8 @@ fn other_value(
         ≡ otherValue (registersOf (now (own .entry)) (now (addresses .entry)) (now (values .entry)))
         (partsIn (now (cells .entry)) (now (floats .entry)) .devices .clocks) word ⌝ }
 {
-    let field = field_at(word);
-    if field < 3 {
-        return tod_read(cells, floats, field);
+    if registers::day_word(word) {
+        return tod_read(cells, floats, field_of(word));
     }
     let spot = registers::find_other(addresses, word);
     registers::word_in(own, values, spot)
@@ -190,7 +244,7 @@ fn bad_size() -> Got
     ensures { λ r. ⌜ r ≡ record { refusal = 9; value = 0 } ⌝ }
 {
     Got {
-        refusal: 9,
+        refusal: map::BAD_SIZE,
         value: 0,
     }
 }
@@ -202,7 +256,7 @@ fn get(m: &[u8], at: usize, size: u32) -> Got
     if size > 2 {
         if size == 4 {
             return Got {
-                refusal: 0,
+                refusal: map::DONE,
                 value: memory::load(m, at, 4),
             };
         }
@@ -210,13 +264,13 @@ fn get(m: &[u8], at: usize, size: u32) -> Got
     }
     if size == 2 {
         return Got {
-            refusal: 0,
+            refusal: map::DONE,
             value: memory::load(m, at, 2),
         };
     }
     if size == 1 {
         return Got {
-            refusal: 0,
+            refusal: map::DONE,
             value: memory::load(m, at, 1),
         };
     }
@@ -256,14 +310,17 @@ pub fn read(
                 return bad_size();
             }
             let value = mmio_read(own, addresses, values, cells, floats, sram, addr, size);
-            return Got { refusal: 0, value };
+            return Got {
+                refusal: map::DONE,
+                value,
+            };
         }
         Place::Stray => {
             if !memory::good_size(size) {
                 return bad_size();
             }
             return Got {
-                refusal: 0,
+                refusal: map::DONE,
                 value: 0,
             };
         }

@@ -11,10 +11,11 @@ pub(crate) fn command_write(
     game: f64,
     new: u32,
 ) -> Latch
-    ensures { λ r. ⌜ ran (now (own .exit)) (rtcOf (now (regs .exit)) r) ≡ commandWritten (now (own .entry)) (rtcOf (now (regs .entry)) latch) game new ⌝ }
+    ensures { λ r. ⌜ ran (now (own .exit)) (rtcOf (now (regs .exit)) r) ≡ commandWritten (now (own .entry))
+        (rtcOf (now (regs .entry)) latch) game new ⌝ }
 {
-    registers::own_insert(own, 0xC009_000C, new);
-    let address = registers::own_reg(own, 0xC009_0004);
-    let word = registers::own_reg(own, 0xC009_0008);
+    registers::own_insert(own, map::RTC_COMMAND, new);
+    let address = registers::own_reg(own, map::RTC_ADDRESS);
+    let word = registers::own_reg(own, map::RTC_DATA);
     clock::chip::rtc_command(regs, latch, game, address, word, new)
 }

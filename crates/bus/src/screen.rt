@@ -2,16 +2,16 @@
 ghost use mathlib.Core.Path.{_≡_};
 ghost use Rattle.registers.specs.Words.{registersOf};
 ghost use Rattle.panel.specs.Entries.{screen};
-ghost use Rattle.panel.specs.Runs.{byte, taken};
+ghost use Rattle.panel.specs.Runs.{byte, screenAfterInput};
 ghost use Rattle.state.specs.Bank.{panelIn};
 ghost use Rattle.bus.specs.Bank.{OnlyPanel};
-ghost use Rattle.bus.specs.Screen.{fedWord, copied, dmaDone, acted, controlled};
+ghost use Rattle.bus.specs.Screen.{fedWord, copied, dmaDone, actResult, controlled};
 use state::Cells;
 
 // A data byte. One of a pixel, the most frequent, moves the pen alone, and so no more is put.
 fn lcd_data(cells: &mut Cells, fb: &mut [u8], b: u8)
     ensures { λ _. ⌜ (screen (panelIn (now (cells .exit))) (now (fb .exit))
-        ≡ taken (screen (panelIn (now (cells .entry))) (now (fb .entry))) (byte b))
+        ≡ screenAfterInput (screen (panelIn (now (cells .entry))) (now (fb .entry))) (byte b))
         × OnlyPanel (now (cells .entry)) (now (cells .exit)) ⌝ }
 {
     let order = state::panels::order_of(cells);
@@ -58,13 +58,13 @@ fn lcd_dma(
         (screen (panelIn (now (cells .entry))) (now (fb .entry))))
         × OnlyPanel (now (cells .entry)) (now (cells .exit)) ⌝ }
 {
-    let addr = registers::own_reg(own, 0xD050_033C);
+    let addr = registers::own_reg(own, map::LCD_DMA);
     if addr == 0 {
         return;
     }
     crate::block::read_block(own, addresses, values, ram, sram, gpio, addr, fb);
-    let status = registers::own_reg(own, 0xD050_018C);
-    registers::own_insert(own, 0xD050_018C, status | 0x40);
+    let status = registers::own_reg(own, map::LCD_STATUS);
+    registers::own_insert(own, map::LCD_STATUS, status | 0x40);
     let p = state::panels::panel_of(cells);
     let next = panel::lcd::count_frame(p);
     state::panels::put_panel(cells, next);
@@ -83,12 +83,12 @@ fn act(
     val: u32,
 )
     ensures { λ _. ⌜ (copied (now (own .exit)) (screen (panelIn (now (cells .exit))) (now (fb .exit)))
-        ≡ acted (registersOf (now (own .entry)) (now (addresses .entry)) (now (values .entry))) (now (ram .entry))
+        ≡ actResult (registersOf (now (own .entry)) (now (addresses .entry)) (now (values .entry))) (now (ram .entry))
         (now (sram .entry)) (now (gpio .entry))
         (screen (panelIn (now (cells .entry))) (now (fb .entry))) val)
         × OnlyPanel (now (cells .entry)) (now (cells .exit)) ⌝ }
 {
-    let word = registers::own_reg(own, 0xD050_016C);
+    let word = registers::own_reg(own, map::LCD_DATA);
     let asked = val & 0xF0;
     match asked {
         0x80 => {
@@ -129,10 +129,10 @@ pub(crate) fn lcd_write_ctrl(
         (screen (panelIn (now (cells .entry))) (now (fb .entry))) val)
         × OnlyPanel (now (cells .entry)) (now (cells .exit)) ⌝ }
 {
-    registers::own_insert(own, 0xD050_0140, val);
+    registers::own_insert(own, map::LCD_CONTROL, val);
     if val & 1 == 0 {
         return;
     }
     act(own, addresses, values, cells, ram, sram, gpio, fb, val);
-    registers::own_insert(own, 0xD050_0140, val & 0xFFFF_FFFE);
+    registers::own_insert(own, map::LCD_CONTROL, val & 0xFFFF_FFFE);
 }

@@ -1,13 +1,13 @@
 // The timers' control words, and the buzzer that follows timer 4.
 ghost use mathlib.Core.Path.{_≡_};
 ghost use Prim.Native.Nat.{_/_, _<_};
-ghost use Rattle.registers.specs.Words.{slotWord};
+ghost use Rattle.registers.specs.Ports.{slotWord};
 ghost use Rattle.state.specs.Bank.{partsIn};
 ghost use Rattle.bus.specs.Bank.{Rest, wroteOf};
 ghost use Rattle.bus.specs.Sounds.{soundOf, soundWritten, timerWritten};
-ghost use Rattle.bus.specs.World.{said};
-use crate::Told;
-use crate::words::done;
+ghost use Rattle.bus.specs.World.{ownOut};
+use crate::WriteAnswer;
+use crate::words::accepted;
 use crate::words::refused;
 use state::Cells;
 use state::Floats;
@@ -15,17 +15,36 @@ use state::moments::put_timer;
 use state::rests::put_tone;
 use timer::Sounded;
 use timer::Tone;
-use whole::forms::keep;
+use whole::forms::choose;
 
-// What the buzzer does once `kept` is stored in a word of timer 4, by its slot: nothing is stored yet, as that may be
+// What the buzzer does once `stored` is stored in a word of timer 4, by its slot: nothing is stored yet, as that may be
 // refused.
-fn sound_after(own: &[u32; 76], tone: Tone, clock: u32, full: bool, s: usize, kept: u32) -> Sounded
+fn sound_after(
+    own: &[u32; 76],
+    tone: Tone,
+    clock: u32,
+    full: bool,
+    s: usize,
+    stored: u32,
+) -> Sounded
     requires { ⌜ s < 76 ⌝ }
-    ensures { λ r. ⌜ r ≡ soundOf (now (own .entry)) tone clock full (slotWord s) kept ⌝ }
+    ensures { λ r. ⌜ r ≡ soundOf (now (own .entry)) tone clock full (slotWord s) stored ⌝ }
 {
-    let control = keep(s == 32, kept, registers::own_reg(own, 0xC002_0080));
-    let reload = keep(s == 34, kept, registers::own_reg(own, 0xC002_0088));
-    let compare = keep(s == 35, kept, registers::own_reg(own, 0xC002_008C));
+    let control = choose(
+        s == registers::SOUND_CONTROL_SLOT,
+        stored,
+        registers::own_reg(own, map::SOUND_CONTROL),
+    );
+    let reload = choose(
+        s == registers::SOUND_RELOAD_SLOT,
+        stored,
+        registers::own_reg(own, map::SOUND_RELOAD),
+    );
+    let compare = choose(
+        s == registers::SOUND_COMPARE_SLOT,
+        stored,
+        registers::own_reg(own, map::SOUND_COMPARE),
+    );
     timer::sound::sound_update(tone, full, clock, control, reload, compare)
 }
 
@@ -37,29 +56,29 @@ pub(crate) fn sound_write(
     clock: u32,
     full: bool,
     s: usize,
-    kept: u32,
-) -> Told
+    stored: u32,
+) -> WriteAnswer
     requires { ⌜ s < 76 ⌝ }
-    ensures { λ r. ⌜ (said (now (own .exit)) (wroteOf r (partsIn (now (cells .entry)) (now (floats .exit)) .devices))
+    ensures { λ r. ⌜ (ownOut (now (own .exit)) (wroteOf r (partsIn (now (cells .entry)) (now (floats .exit)) .devices))
         ≡ soundWritten (now (own .entry)) (partsIn (now (cells .entry)) (now (floats .entry)) .devices)
-        (partsIn (now (cells .entry)) (now (floats .entry)) .devices) clock full (slotWord s) kept)
+        (partsIn (now (cells .entry)) (now (floats .entry)) .devices) clock full (slotWord s) stored)
         × Rest r (now (cells .entry)) (now (floats .entry)) (now (cells .entry)) (now (floats .exit)) ⌝ }
 {
     let tone = state::rests::tone_of(floats);
-    let sounded = sound_after(own, tone, clock, full, s, kept);
+    let sounded = sound_after(own, tone, clock, full, s, stored);
     match sounded {
         Sounded::SoundFull => {
-            return refused(5);
+            return refused(map::SOUND_FULL);
         }
         Sounded::Same => {
-            registers::slot_set(own, s, kept);
-            return done();
+            registers::slot_set(own, s, stored);
+            return accepted();
         }
         Sounded::Change(next) => {
-            registers::slot_set(own, s, kept);
+            registers::slot_set(own, s, stored);
             put_tone(floats, next);
-            return Told {
-                refusal: 0,
+            return WriteAnswer {
+                refusal: map::DONE,
                 event: true,
             };
         }
@@ -77,9 +96,9 @@ pub(crate) fn timer_write_ctrl(
     s: usize,
     old: u32,
     new: u32,
-) -> Told
+) -> WriteAnswer
     requires { ⌜ s < 76 ⌝ }
-    ensures { λ r. ⌜ (said (now (own .exit)) (wroteOf r (partsIn (now (cells .exit)) (now (floats .exit)) .devices))
+    ensures { λ r. ⌜ (ownOut (now (own .exit)) (wroteOf r (partsIn (now (cells .exit)) (now (floats .exit)) .devices))
         ≡ timerWritten (now (own .entry)) (partsIn (now (cells .entry))
         (now (floats .entry)) .devices) clock full (s / 8) (slotWord s) old new)
         × Rest r (now (cells .entry)) (now (floats .entry)) (now (cells .exit)) (now (floats .exit)) ⌝ }
@@ -88,7 +107,7 @@ pub(crate) fn timer_write_ctrl(
     let t = state::moments::timer_of(cells, floats, n);
     let times = state::moments::times_of(floats);
     let written = timer::write_ctrl(t, times.now, new, old);
-    if n == 4 {
+    if n == map::SOUND_TIMER {
         let told = sound_write(own, cells, floats, clock, full, s, written.control);
         if told.refusal != 0 {
             return told;
@@ -98,5 +117,5 @@ pub(crate) fn timer_write_ctrl(
     }
     registers::slot_set(own, s, written.control);
     put_timer(cells, floats, n, written.timer);
-    done()
+    accepted()
 }

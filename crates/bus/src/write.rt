@@ -3,20 +3,25 @@ ghost use mathlib.Core.Path.{_≡_};
 ghost use mathlib.Core.Bool.{false};
 ghost use Prim.Native.Nat.{_<_};
 ghost use Rattle.memory.specs.Access.{mergedOf};
-ghost use Rattle.registers.specs.Words.{numberOf, slotOf, slotWord, registersOf, wordAt};
+ghost use Rattle.registers.specs.Words.{numberOf, registersOf, wordAt};
+ghost use Rattle.registers.specs.Ports.{slotOf, slotWord};
 ghost use Rattle.timer.specs.Events.{queueOf};
 ghost use Rattle.state.specs.Bank.{partsIn};
-ghost use Rattle.state.specs.Packed.{Kept, Answered};
+ghost use Rattle.state.specs.Packed.{StaysPacked, Answered};
 ghost use Rattle.state.specs.Parts.{ringPut};
-ghost use Rattle.bus.specs.Bank.{Rest, worldOf, wroteOf, toldOf, outOf};
+ghost use Rattle.bus.specs.Bank.{Rest, worldOf, wroteOf, withoutEvent, outOf};
 ghost use Rattle.bus.specs.Sounds.{noted};
-ghost use Rattle.bus.specs.Write.{stored, otherWritten, portWritten, regWritten, sizedPut, sizedNumber, writeOf, together, notedWrite};
-use crate::Told;
-use crate::words::done;
-use crate::words::field_at;
+ghost use Rattle.bus.specs.Write.{stored, otherWritten, portWritten, regWritten, sizedPut, sizedNumber};
+ghost use Rattle.bus.specs.Write.{writeOf, together, notedWrite};
+use crate::WriteAnswer;
+use crate::words::accepted;
+use crate::words::field_of;
 use crate::words::refused;
+use crate::words::store_word;
 use crate::words::tod_write;
+use crate::words::word_write;
 use memory::Place;
+use registers::Port;
 use registers::Refusal;
 use registers::Spot;
 use state::Cells;
@@ -42,7 +47,7 @@ fn own_write(
     old: u32,
     new: u32,
     part: u32,
-) -> Told
+) -> WriteAnswer
     requires { ⌜ s < 76 ⌝ }
     ensures { λ r. ⌜ (outOf (worldOf (now (own .exit)) (now (addresses .exit)) (now (values .exit))
         (now (rtc .exit)) (now (page .exit))
@@ -55,47 +60,53 @@ fn own_write(
         full (slotWord s) old new part)
         × Rest r (now (cells .entry)) (now (floats .entry)) (now (cells .exit)) (now (floats .exit)) ⌝ }
 {
-    match s {
-        // 0xC015_0000
-        60 => {
+    let port = registers::port_at(s);
+    match port {
+        Port::Select => {
             let chip = state::chips::chip_of(cells);
             let next = crate::chip::select_write(own, page, ram, chip, new);
             state::chips::put_chip(cells, next);
-            return done();
+            return accepted();
         }
-        // 0xC015_0008
-        62 => {
+        Port::Send => {
             let chip = state::chips::chip_of(cells);
             let next = crate::chip::send_write(own, page, ram, chip, new);
             state::chips::put_sent(cells, next.rx, next.tx);
-            return done();
+            return accepted();
         }
-        // 0xD050_0140
-        71 => {
+        Port::LcdControl => {
             crate::screen::lcd_write_ctrl(own, addresses, values, cells, ram, sram, gpio, fb, new);
-            return done();
+            return accepted();
         }
-        // 0xC009_000C
-        55 => {
+        Port::RtcCommand => {
             let times = state::moments::times_of(floats);
             let latch = state::rests::latch_of(cells, floats);
             let next = crate::rtc::command_write(own, rtc, latch, times.game, new);
             state::rests::put_latch(cells, floats, next);
-            return done();
+            return accepted();
         }
-        _ => {
-            return crate::words::word_write(own, cells, floats, sram, full, s, old, new, part);
+        Port::Acts(effect) => {
+            return word_write(own, cells, floats, sram, full, effect, s, old, new, part);
+        }
+        Port::Shows(_) => {
+            return store_word(own, s, new);
+        }
+        Port::Holds => {
+            return store_word(own, s, new);
+        }
+        Port::Other => {
+            return store_word(own, s, new);
         }
     }
 }
 
 // What the registers answer to a put of another word.
-fn answer(refusal: Refusal) -> Told
-    ensures { λ r. ⌜ r ≡ toldOf (numberOf refusal) ⌝ }
+fn answer(refusal: Refusal) -> WriteAnswer
+    ensures { λ r. ⌜ r ≡ withoutEvent (numberOf refusal) ⌝ }
 {
     match refusal {
-        Refusal::Done => done(),
-        Refusal::RegistersFull => refused(4),
+        Refusal::Done => accepted(),
+        Refusal::RegistersFull => refused(map::REGISTERS_FULL),
     }
 }
 
@@ -110,7 +121,7 @@ fn other_write(
     addr: u32,
     size: u32,
     value: u32,
-) -> Told
+) -> WriteAnswer
     requires { ⌜ slotOf word ≡ 76 ⌝ }
     ensures { λ r. ⌜ (stored (registersOf (now (own .entry)) (now (addresses .exit)) (now (values .exit)))
         (wroteOf r (partsIn (now (cells .exit)) (now (floats .exit)) .devices))
@@ -120,23 +131,27 @@ fn other_write(
         addr size value))
         × Rest r (now (cells .entry)) (now (floats .entry)) (now (cells .exit)) (now (floats .exit)) ⌝ }
 {
-    let field = field_at(word);
-    if field < 3 {
-        tod_write(cells, floats, field, memory::merged(0, addr, size, value));
-        return done();
+    if registers::day_word(word) {
+        tod_write(
+            cells,
+            floats,
+            field_of(word),
+            memory::merged(0, addr, size, value),
+        );
+        return accepted();
     }
     let spot = registers::find_other(addresses, word);
     match spot {
         Spot::Own(_) => {
-            return done();
+            return accepted();
         }
         Spot::Never => {
-            return done();
+            return accepted();
         }
         Spot::Held(i) => {
             let old = registers::place_get(values, i);
             registers::put_held(addresses, values, i, memory::merged(old, addr, size, value));
-            return done();
+            return accepted();
         }
         Spot::Absent(i) => {
             let new = memory::merged(0, addr, size, value);
@@ -162,7 +177,7 @@ fn mmio_write(
     addr: u32,
     size: u32,
     value: u32,
-) -> Told
+) -> WriteAnswer
     ensures { λ r. ⌜ (outOf (worldOf (now (own .exit)) (now (addresses .exit)) (now (values .exit))
         (now (rtc .exit)) (now (page .exit))
         (now (ram .exit)) (now (sram .entry)) (now (gpio .entry)) (now (fb .exit)) (partsIn (now (cells .exit))
@@ -213,25 +228,26 @@ fn mmio_write(
 }
 
 // What an access writes to a memory. Size and refusal are decided together, so that a word takes two tests.
-fn put(m: &mut [u8], at: usize, size: u32, value: u32) -> Told
-    ensures { λ r. ⌜ (now (m .exit) ≡ sizedPut (now (m .entry)) at size value) × (r ≡ toldOf (sizedNumber size)) ⌝ }
+fn put(m: &mut [u8], at: usize, size: u32, value: u32) -> WriteAnswer
+    ensures { λ r. ⌜ (now (m .exit) ≡ sizedPut (now (m .entry)) at size value) × (r ≡ withoutEvent (sizedNumber size))
+        ⌝ }
 {
     if size > 2 {
         if size == 4 {
             memory::store(m, at, 4, value);
-            return done();
+            return accepted();
         }
-        return refused(9);
+        return refused(map::BAD_SIZE);
     }
     if size == 2 {
         memory::store(m, at, 2, value);
-        return done();
+        return accepted();
     }
     if size == 1 {
         memory::store(m, at, 1, value);
-        return done();
+        return accepted();
     }
-    refused(9)
+    refused(map::BAD_SIZE)
 }
 
 // A write to any address. `full` says that 256 sound events wait.
@@ -251,7 +267,7 @@ fn slow_write(
     addr: u32,
     size: u32,
     value: u32,
-) -> Told
+) -> WriteAnswer
     ensures { λ r. ⌜ (outOf (worldOf (now (own .exit)) (now (addresses .exit)) (now (values .exit))
         (now (rtc .exit)) (now (page .exit))
         (now (ram .exit)) (now (sram .exit)) (now (gpio .exit)) (now (fb .exit)) (partsIn (now (cells .exit))
@@ -276,7 +292,7 @@ fn slow_write(
         }
         Place::Register => {
             if !memory::good_size(size) {
-                return refused(9);
+                return refused(map::BAD_SIZE);
             }
             return mmio_write(
                 own,
@@ -298,9 +314,9 @@ fn slow_write(
         }
         Place::Stray => {
             if !memory::good_size(size) {
-                return refused(9);
+                return refused(map::BAD_SIZE);
             }
-            return refused(6);
+            return refused(map::STRAY_WRITE);
         }
     }
 }
@@ -322,7 +338,7 @@ fn note(
         × (partsIn (now (cells .exit)) (now (floats .entry))
         ≡ ringPut (partsIn (now (cells .entry)) (now (floats .entry))) (partsIn (now (cells .exit))
         (now (floats .entry)) .ring))
-        × Kept (now (cells .entry)) (now (floats .entry)) (now (cells .exit)) (now (floats .entry))
+        × StaysPacked (now (cells .entry)) (now (floats .entry)) (now (cells .exit)) (now (floats .entry))
         × (event ≡ false → now (cells .exit) ≡ now (cells .entry)) ⌝ }
 {
     if event {
@@ -364,7 +380,7 @@ pub fn write(
     addr: u32,
     size: u32,
     value: u32,
-) -> Told
+) -> WriteAnswer
     ensures { λ r. ⌜ (together
         (outOf (worldOf (now (own .exit)) (now (addresses .exit)) (now (values .exit)) (now (rtc .exit))
         (now (page .exit))

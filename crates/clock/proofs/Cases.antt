@@ -37,14 +37,16 @@ module _ (s : Times) (to : Float) where
   unfolding movedOf
   moves-back g l = rw (g, l)
 
-  pub moves-over : goodTime to ≡ true → lt to (s .now) ≡ false → lt (ofBits binary64 0x41E0_0000_0000_0000) (gameAfter s to) ≡ true → BadTime ≡ movedOf s to
+  pub moves-over : goodTime to ≡ true → lt to (s .now) ≡ false → lt (ofBits binary64 0x41E0_0000_0000_0000)
+      (gameAfter s to) ≡ true → BadTime ≡ movedOf s to
   unfolding movedOf
   moves-over g l h = rw (g, l, h)
 
-  pub moves : goodTime to ≡ true → lt to (s .now) ≡ false → lt (ofBits binary64 0x41E0_0000_0000_0000) (gameAfter s to) ≡ false
+  pub advance-moves : goodTime to ≡ true → lt to (s .now) ≡ false → lt (ofBits binary64 0x41E0_0000_0000_0000)
+      (gameAfter s to) ≡ false
       → To (record { now = to; game = gameAfter s to; turbo = s .turbo }) ≡ movedOf s to
   unfolding movedOf
-  moves g l h = rw (g, l, h)
+  advance-moves g l h = rw (g, l, h)
 
 -- ---- the time of day
 -- the 64 bits t of an i64 tell its sign and its remainder
@@ -52,7 +54,8 @@ from : (z : ℤ) (t : ℕ) → mag z < 2 ^ 63 → t ≡ twos z → t < 2 ^ 63 �
 from (pos n) t m e l = ap (λ (x : ℕ). x % 86400) e
 from (negsuc n) t m e l = absurd (omega arith)
 
-below : (z : ℤ) (t : ℕ) → mag z < 2 ^ 63 → t ≡ twos z → 2 ^ 63 ≤ t → 86399 - (2 ^ 64 - 1 - t) % 86400 ≡ remEuclid z 86400
+below : (z : ℤ) (t : ℕ) → mag z < 2 ^ 63 → t ≡ twos z → 2 ^ 63 ≤ t → 86399 - (2 ^ 64 - 1 - t) % 86400 ≡ remEuclid z
+    86400
 below (pos n) t m e l = absurd (omega arith)
 below (negsuc n) t m e l = ap (λ (x : ℕ). 86399 - x % 86400) (back n t m e)
   where
@@ -62,7 +65,8 @@ below (negsuc n) t m e l = ap (λ (x : ℕ). 86399 - x % 86400) (back n t m e)
 pub day-from : (x : Float) (t : ℕ) → t ≡ twos (toSigned 63 x) → t < 2 ^ 63 → t % 86400 ≡ remEuclid (toSigned 63 x) 86400
 day-from x t e l = from (toSigned 63 x) t (toSigned-in 63 x) e l
 
-pub day-below : (x : Float) (t : ℕ) → t ≡ twos (toSigned 63 x) → 2 ^ 63 ≤ t → 86399 - (2 ^ 64 - 1 - t) % 86400 ≡ remEuclid (toSigned 63 x) 86400
+pub day-below : (x : Float) (t : ℕ) → t ≡ twos (toSigned 63 x) → 2 ^ 63 ≤ t
+    → 86399 - (2 ^ 64 - 1 - t) % 86400 ≡ remEuclid (toSigned 63 x) 86400
 day-below x t e l = below (toSigned 63 x) t (toSigned-in 63 x) e l
 
 -- ---- the RTC chip
@@ -79,7 +83,8 @@ module _ (latch : Latch) (regs : List ℕ) (game : Float) (at : ℕ) where
   unfolding outputOf
   puts-high r g n h = rw (le-leb 0x30 at (omega arith), lt-leb at 0x35 h, ne-eqb at 0 n, g)
 
-  pub puts-ticks : (t : ℕ) → t ≡ ticksOf latch game → 0x30 ≤ at → at ≤ 0x35 → bitAnd (t / 2 ^ (8 * (at - 0x30))) 0xFF ≡ outputOf latch regs game at
+  pub puts-ticks : (t : ℕ) → t ≡ ticksOf latch game → 0x30 ≤ at → at ≤ 0x35 → bitAnd (t / 2 ^ (8 * (at - 0x30))) 0xFF
+      ≡ outputOf latch regs game at
   unfolding outputOf
   puts-ticks t e l h = rw (le-leb 0x30 at l, le-leb at 0x35 h, e)
 
@@ -92,31 +97,38 @@ module _ (latch : Latch) (regs : List ℕ) (game : Float) (address word cmd : �
   unfolding commandedOf
   commands-latch r c h e = rw (has-some cmd 1 c, eq-eqb (address % 256) 0x15 h, e)
 
-  pub commands-put : bitAnd cmd 1 ≢ 0 → address % 256 ≢ 0x15 → rtcOf stored latch ≡ commandedOf (rtcOf regs latch) game address word cmd
+  pub commands-put : bitAnd cmd 1 ≢ 0 → address % 256 ≢ 0x15 → rtcOf stored latch ≡ commandedOf (rtcOf regs latch)
+      game address word cmd
   unfolding commandedOf
   commands-put c h = rw (has-some cmd 1 c, ne-eqb (address % 256) 0x15 h)
 
   pub commands-ask : (o : ℕ) → bitAnd cmd 1 ≡ 0 → bitAnd cmd 2 ≢ 0 → o ≡ outputOf latch regs game (address % 256)
-      → rtcOf regs (record { base = latch .base; since = latch .since; out = o }) ≡ commandedOf (rtcOf regs latch) game address word cmd
+      → rtcOf regs (record { base = latch .base; since = latch .since; out = o }) ≡ commandedOf (rtcOf regs latch)
+      game address word cmd
   unfolding commandedOf
   commands-ask o c d e = rw (has-not cmd 1 c, has-some cmd 2 d, e)
 
-  pub commands-nothing : bitAnd cmd 1 ≡ 0 → bitAnd cmd 2 ≡ 0 → rtcOf regs latch ≡ commandedOf (rtcOf regs latch) game address word cmd
+  pub commands-nothing : bitAnd cmd 1 ≡ 0 → bitAnd cmd 2 ≡ 0 → rtcOf regs latch ≡ commandedOf (rtcOf regs latch) game
+      address word cmd
   unfolding commandedOf
   commands-nothing c d = rw (has-not cmd 1 c, has-not cmd 2 d)
 
 -- ---- from bits: what is read is the float of the pattern, and what is not is refused as it would be
 module _ (s : Times) (bits : ℕ) (t : Checked) where
-  pub moves-from : (x : Float) (r : Moved) → t ≡ timeOf bits → t ≡ Good x → r ≡ movedOf s x → r ≡ movedOf s (ofBits binary64 bits)
+  pub moves-from : (x : Float) (r : Moved) → t ≡ timeOf bits → t ≡ Good x → r ≡ movedOf s x
+      → r ≡ movedOf s (ofBits binary64 bits)
   moves-from x r h e k = k ∙ ap (movedOf s) (checked-good (goodTime (ofBits binary64 bits)) bits x (sym e ∙ h))
 
   pub moves-from-none : t ≡ timeOf bits → t ≡ Bad → BadTime ≡ movedOf s (ofBits binary64 bits)
-  moves-from-none h e = moves-not s (ofBits binary64 bits) (checked-bad (goodTime (ofBits binary64 bits)) bits (sym e ∙ h))
+  moves-from-none h e = moves-not s (ofBits binary64 bits) (checked-bad (goodTime (ofBits binary64 bits)) bits
+      (sym e ∙ h))
 
-  pub paces-from : (x : Float) → t ≡ turboOf bits → t ≡ Good x → By (record { now = s .now; game = s .game; turbo = x }) ≡ pacedOf s (ofBits binary64 bits)
+  pub paces-from : (x : Float) → t ≡ turboOf bits → t ≡ Good x
+      → By (record { now = s .now; game = s .game; turbo = x }) ≡ pacedOf s (ofBits binary64 bits)
   unfolding pacedOf
   paces-from x h e =
-      checked-then (goodTurbo (ofBits binary64 bits)) bits (λ (z : Float). By (record { now = s .now; game = s .game; turbo = z })) BadTurbo x (sym e ∙ h)
+      checked-then (goodTurbo (ofBits binary64 bits)) bits
+      (λ (z : Float). By (record { now = s .now; game = s .game; turbo = z })) BadTurbo x (sym e ∙ h)
 
   pub paces-from-none : t ≡ turboOf bits → t ≡ Bad → BadTurbo ≡ pacedOf s (ofBits binary64 bits)
   unfolding pacedOf

@@ -19,7 +19,8 @@ use Rattle.clock.specs.Rtc.{rtcOf, sixBytes, alarmOf, alarmValues}
 
 -- refusal 1 of an advance: a time that is not good, one that goes back, game time above 2,147,483,648.0
 pub moved-number : (s : Times) (to : Float)
-    → movedRefusal (movedOf s to) ≡ cond (goodTime to && not (lt to (s .now)) && not (lt (ofBits binary64 0x41E0_0000_0000_0000) (gameAfter s to))) 0 1
+    → movedRefusal (movedOf s to) ≡ cond (goodTime to && not (lt to (s .now)) && not
+    (lt (ofBits binary64 0x41E0_0000_0000_0000) (gameAfter s to))) 0 1
 unfolding movedOf
 moved-number s to = by (goodTime to) (lt to (s .now)) (lt (ofBits binary64 0x41E0_0000_0000_0000) (gameAfter s to))
   where
@@ -39,11 +40,13 @@ pub paced-number : (s : Times) (to : Float) → pacedRefusal (pacedOf s to) ≡ 
 unfolding pacedOf
 paced-number s to = by (goodTurbo to)
   where
-    by : (b : Bool) → pacedRefusal (cond b (By (record { now = s .now; game = s .game; turbo = to })) BadTurbo) ≡ cond b 0 2
+    by : (b : Bool) → pacedRefusal (cond b (By (record { now = s .now; game = s .game; turbo = to })) BadTurbo) ≡ cond
+        b 0 2
     by true = refl
     by false = refl
 
-pub alarm-values : (regs : List ℕ) → alarmValues (alarmOf regs) ≡ cond (lacks (getD regs 0x40 0) 6) (0, 0) (1, sixBytes regs 0x20)
+pub alarm-values : (regs : List ℕ) → alarmValues (alarmOf regs) ≡ cond (lacks (getD regs 0x40 0) 6) (0, 0)
+    (1, sixBytes regs 0x20)
 unfolding alarmOf
 alarm-values regs = by (lacks (getD regs 0x40 0) 6)
   where

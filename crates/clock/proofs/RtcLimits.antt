@@ -58,7 +58,8 @@ module _ (latch : Latch) (game : Float) (p : Past (latch .since) game) (g : AtMo
   pub ticks-limit : latch .base < 2 ^ 48 → ticksOf latch game < 2 ^ 63
   ticks-limit b = lt-of-le-of-lt (le-of-eq (ticks-exact b)) (sum-limit b)
 
-pub ticks-go-on : (latch : Latch) (game later : Float) → latch .base < 2 ^ 48 → Past (latch .since) game → AtMost game (2 ^ 31)
+pub ticks-go-on : (latch : Latch) (game later : Float) → latch .base < 2 ^ 48 → Past (latch .since) game
+    → AtMost game (2 ^ 31)
     → AtMost later (2 ^ 31) → T (le game later)
     → ticksOf latch game ≤ ticksOf latch later
 unfolding ofBits
@@ -67,21 +68,25 @@ ticks-go-on latch game later b p g k l =
     let x = sub binary64 game (latch .since) in
     let y = sub binary64 later (latch .since) in
     let more : T (le (passed latch game) (passed latch later)) =
-    mul-mono x y (fin false 1 (pos 15)) (at-most-clear x (2 ^ 31) (gone latch game p g)) (at-most-clear y (2 ^ 31) (gone latch later q k)) tt
+    mul-mono x y (fin false 1 (pos 15)) (at-most-clear x (2 ^ 31) (gone latch game p g))
+    (at-most-clear y (2 ^ 31) (gone latch later q k)) tt
     (sub-mono game later (latch .since) (at-most-clear game (2 ^ 31) g) (at-most-clear later (2 ^ 31) k)
     (at-most-clear (latch .since) (2 ^ 31) (p .limit)) l (p .before) (q .before))
     in
     let fewer : toUnsigned 64 (passed latch game) ≤ toUnsigned 64 (passed latch later) =
-    cut-mono (passed latch game) (passed latch later) (at-most-clear (passed latch game) (2 ^ 46) (passed-limit latch game p g))
+    cut-mono (passed latch game) (passed latch later) (at-most-clear (passed latch game) (2 ^ 46)
+    (passed-limit latch game p g))
     (at-most-clear (passed latch later) (2 ^ 46) (passed-limit latch later q k)) more
     in
-    le-trans (le-of-eq (ticks-exact latch game p g b)) (le-trans (add (latch .base) fewer) (le-of-eq (sym (ticks-exact latch later q k b))))
+    le-trans (le-of-eq (ticks-exact latch game p g b))
+    (le-trans (add (latch .base) fewer) (le-of-eq (sym (ticks-exact latch later q k b))))
   where
     add : (a : ℕ) {m n : ℕ} → m ≤ n → a + m ≤ a + n
     add a h = omega arith
 
 -- ---- the RTC stays within the limits
-set-byte : (l : List ℕ) (at b : ℕ) → b < 2 ^ 8 → ((i : ℕ) → getD l i 0 < 2 ^ 8) → (i : ℕ) → getD (set l at b) i 0 < 2 ^ 8
+set-byte : (l : List ℕ) (at b : ℕ) → b < 2 ^ 8 → ((i : ℕ) → getD l i 0 < 2 ^ 8) → (i : ℕ)
+    → getD (set l at b) i 0 < 2 ^ 8
 set-byte [] at b h k i = k i
 set-byte (x ∷ l) zero b h k zero = h
 set-byte (x ∷ l) zero b h k (suc i) = k (suc i)
@@ -97,7 +102,8 @@ six-limit regs from h = joined (h from) (h (from + 1)) (h (from + 2)) (h (from +
     joined p q r s t u = omega arith
 
 -- A COMMAND KEEPS THEM
-pub commands-latched : (rtc : Rtc) (game : Float) (address word cmd : ℕ) → Latched (rtc .regs) (rtc .latch) game → AtMost game (2 ^ 31)
+pub commands-latched : (rtc : Rtc) (game : Float) (address word cmd : ℕ) → Latched (rtc .regs) (rtc .latch) game
+    → AtMost game (2 ^ 31)
     → Latched (commandedOf rtc game address word cmd .regs) (commandedOf rtc game address word cmd .latch) game
 unfolding commandedOf
 commands-latched rtc game address word cmd h g =
@@ -118,13 +124,20 @@ commands-latched rtc game address word cmd h g =
 
     put : In (putOf rtc game at byte)
     put =
-        either (λ (l : Latch). Latched (set (rtc .regs) at byte) l game) (eqb at 0x15) (latchedOf (rtc .latch) (set (rtc .regs) at byte) game) (rtc .latch)
+        either (λ (l : Latch). Latched (set (rtc .regs) at byte) l game) (eqb at 0x15)
+        (latchedOf (rtc .latch) (set (rtc .regs) at byte) game) (rtc .latch)
         (record { bytes = bytes; base = six-limit (set (rtc .regs) at byte) 0x10 bytes; since = past-now game g })
         (record { bytes = bytes; base = h .base; since = h .since })
 
-pub later-latched : (regs : List ℕ) (latch : Latch) (game later : Float) → AtMost game (2 ^ 31) → AtMost later (2 ^ 31) → T (le game later)
+pub later-latched : (regs : List ℕ) (latch : Latch) (game later : Float) → AtMost game (2 ^ 31)
+    → AtMost later (2 ^ 31) → T (le game later)
     → Latched regs latch game → Latched regs latch later
-later-latched regs latch game later g k l h = record { bytes = h .bytes; base = h .base; since = past-later (latch .since) game later g k l (h .since) }
+later-latched regs latch game later g k l h = record {
+  bytes = h .bytes;
+  base = h .base;
+  since = past-later
+      (latch .since) game later g k l (h .since);
+}
 
 pub fresh-latched : (game : Float) → AtMost game (2 ^ 31) → Latched (freshRtc .regs) (freshRtc .latch) game
 unfolding freshRtc

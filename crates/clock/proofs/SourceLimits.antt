@@ -25,7 +25,8 @@ signals : (n seen status bit : ℕ) → seen ≤ n → signalOf n seen status bi
 unfolding signalOf
 signals n seen status bit h = by (ltb seen n) refl
   where
-    by : (b : Bool) → ltb seen n ≡ b → cond {A = Signal} b (record { seen = n; status = bitOr status bit }) (record { seen = seen; status = status }) .seen ≡ n
+    by : (b : Bool) → ltb seen n ≡ b → cond {A = Signal} b (record { seen = n; status = bitOr status bit })
+        (record { seen = seen; status = status }) .seen ≡ n
     by true e = refl
     by false e = let l : n ≤ seen = ltb-false seen n e in omega arith
 
@@ -41,7 +42,8 @@ second-limit game g = div-pow game 0 31 (lit< tt) g
 pub second-exact : (game : Float) → AtMost game (2 ^ 31) → WholePart (second game) (toUnsigned 64 (second game))
 second-exact game g = whole-part (second game) (2 ^ 31) (lit< tt) (second-limit game g)
 
-pub ticks-seconds : (fired status : ℕ) (game later : Float) → SecondsSeen fired game → AtMost game (2 ^ 31) → AtMost later (2 ^ 31)
+pub ticks-seconds : (fired status : ℕ) (game later : Float) → SecondsSeen fired game → AtMost game (2 ^ 31)
+    → AtMost later (2 ^ 31)
     → T (le game later) → SecondsSeen (tickOf fired later status .seen) later
 unfolding ofBits
 ticks-seconds fired status game later h g k l =
@@ -62,7 +64,8 @@ sixtieth-limit now g = mul-at-most now (fin false 15 (pos 2)) 21 6 (lit< tt) (go
 pub sixtieth-exact : (now : Float) → T (goodTime now) → WholePart (sixtieth now) (toUnsigned 64 (sixtieth now))
 sixtieth-exact now g = whole-part (sixtieth now) (2 ^ 27) (lit< tt) (sixtieth-limit now g)
 
-pub vsyncs-seen : (last status : ℕ) (now later : Float) → SyncsSeen last now → T (goodTime now) → T (goodTime later) → T (le now later)
+pub vsyncs-seen : (last status : ℕ) (now later : Float) → SyncsSeen last now → T (goodTime now) → T (goodTime later)
+    → T (le now later)
     → SyncsSeen (vsyncOf last later status .seen) later
 unfolding ofBits
 vsyncs-seen last status now later h g k l =

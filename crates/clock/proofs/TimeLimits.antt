@@ -10,7 +10,8 @@ use Rattle.whole.specs.Bounds.{AtMost}
 use Rattle.whole.specs.Limits.{goodTime, goodTurbo}
 use Rattle.whole.proofs.Clear.{at-most-clear}
 use Rattle.whole.proofs.Round.{mul-at-most, add-at-most, sub-at-most, good-at-most, turbo-at-most}
-use Rattle.whole.proofs.Order.{good-clear, grows, le-trans-clear, le-refl-clear, le-of-not-lt, at-most-of-not-lt, zero-least}
+use Rattle.whole.proofs.Order.{good-clear, grows, le-trans-clear, le-refl-clear, le-of-not-lt, at-most-of-not-lt}
+use Rattle.whole.proofs.Order.{zero-least}
 use Rattle.clock.specs.declared.Times.{Times}
 use Rattle.clock.specs.declared.Moved.the-variants.{To, BadTime}
 use Rattle.clock.specs.declared.Paced.the-variants.{By, BadTurbo}
@@ -36,13 +37,15 @@ module _ (s : Times) (to : Float) (v : Within s) (g : T (goodTime to)) (l : lt t
   sum-limit = add-at-most (s .game) passed 31 (lit< tt) (v .game-limit) passed-limit
 
   goes-on : lt (ofBits binary64 0x41E0_0000_0000_0000) (gameAfter s to) ≡ false
-      → Within (record { now = to; game = gameAfter s to; turbo = s .turbo }) × Later s (record { now = to; game = gameAfter s to; turbo = s .turbo })
+      → Within (record { now = to; game = gameAfter s to; turbo = s .turbo }) × Later s
+      (record { now = to; game = gameAfter s to; turbo = s .turbo })
   unfolding ofBits
   goes-on h = (
     record {
       now-good = g;
       turbo-good = v .turbo-good;
-      game-limit = at-most-of-not-lt (gameAfter s to) (2 ^ 31) 31 refl (at-most-clear (gameAfter s to) (2 ^ 32) sum-limit) h;
+      game-limit = at-most-of-not-lt (gameAfter s to) (2 ^ 31) 31 refl (at-most-clear (gameAfter s to) (2 ^ 32)
+          sum-limit) h;
       game-fits = add-fits binary64 (s .game) passed;
     },
     record {
@@ -55,13 +58,16 @@ module _ (s : Times) (to : Float) (v : Within s) (g : T (goodTime to)) (l : lt t
 -- AN ADVANCE KEEPS THE LIMITS, and neither time goes back
 pub moves-within : (s t : Times) (to : Float) → Within s → movedOf s to ≡ To t → Within t × Later s t
 unfolding movedOf
-moves-within s t to v e = by (goodTime to) refl (lt to (s .now)) refl (lt (ofBits binary64 0x41E0_0000_0000_0000) (gameAfter s to)) refl e
+moves-within s t to v e = by (goodTime to) refl (lt to (s .now)) refl (lt (ofBits binary64 0x41E0_0000_0000_0000)
+    (gameAfter s to)) refl e
   where
     never : (t : Times) → BadTime ≡ To t → ⊥
     never t e = let z : _≡_ {A = ℕ} 0 1 = cc in omega arith
 
-    by : (a : Bool) → goodTime to ≡ a → (b : Bool) → lt to (s .now) ≡ b → (c : Bool) → lt (ofBits binary64 0x41E0_0000_0000_0000) (gameAfter s to) ≡ c
-        → cond a (cond b BadTime (cond c BadTime (To (record { now = to; game = gameAfter s to; turbo = s .turbo })))) BadTime ≡ To t → Within t × Later s t
+    by : (a : Bool) → goodTime to ≡ a → (b : Bool) → lt to (s .now) ≡ b → (c : Bool)
+        → lt (ofBits binary64 0x41E0_0000_0000_0000) (gameAfter s to) ≡ c
+        → cond a (cond b BadTime (cond c BadTime (To (record { now = to; game = gameAfter s to; turbo = s .turbo }))))
+        BadTime ≡ To t → Within t × Later s t
     by true p false q false r e =
         let same : record { now = to; game = gameAfter s to; turbo = s .turbo } ≡ t = cc in
         subst (λ (u : Times). Within u × Later s u) same (goes-on s to v (subst T (sym p) tt) q r)
@@ -70,19 +76,30 @@ moves-within s t to v e = by (goodTime to) refl (lt to (s .now)) refl (lt (ofBit
     by true p false q true r e = absurd (never t e)
 
 -- another turbo keeps them too
-pub paces-within : (s t : Times) (to : Float) → Within s → pacedOf s to ≡ By t → Within t × (t .now ≡ s .now) × (t .game ≡ s .game)
+pub paces-within : (s t : Times) (to : Float) → Within s → pacedOf s to ≡ By t
+    → Within t × (t .now ≡ s .now) × (t .game ≡ s .game)
 unfolding pacedOf
 paces-within s t to v e = by (goodTurbo to) refl e
   where
     never : (t : Times) → BadTurbo ≡ By t → ⊥
     never t e = let z : _≡_ {A = ℕ} 0 1 = cc in omega arith
 
-    by : (a : Bool) → goodTurbo to ≡ a → cond a (By (record { now = s .now; game = s .game; turbo = to })) BadTurbo ≡ By t
+    by : (a : Bool) → goodTurbo to ≡ a → cond a (By (record { now = s .now; game = s .game; turbo = to })) BadTurbo ≡
+        By t
         → Within t × (t .now ≡ s .now) × (t .game ≡ s .game)
     by true p e =
         let same : record { now = s .now; game = s .game; turbo = to } ≡ t = cc in
-        subst (λ (u : Times). Within u × (u .now ≡ s .now) × (u .game ≡ s .game)) same
-        (record { now-good = v .now-good; turbo-good = subst T (sym p) tt; game-limit = v .game-limit; game-fits = v .game-fits }, refl, refl)
+        subst (λ (u : Times). Within u × (u .now ≡ s .now) × (u .game ≡ s .game)) same (
+          record {
+            now-good = v .now-good;
+            turbo-good = subst T (sym p) tt;
+            game-limit = v .game-limit;
+            game-fits =
+                v .game-fits;
+          },
+          refl,
+          refl,
+        )
     by false p e = absurd (never t e)
 
 pub fresh-within : Within freshTimes
@@ -90,11 +107,13 @@ unfolding ofBits fits
 fresh-within = record { now-good = tt; turbo-good = tt; game-limit = lit≤ tt; game-fits = tt }
 
 -- what has been stays so
-pub past-later : (then game later : Float) → AtMost game (2 ^ 31) → AtMost later (2 ^ 31) → T (le game later) → Past then game → Past then later
+pub past-later : (then game later : Float) → AtMost game (2 ^ 31) → AtMost later (2 ^ 31) → T (le game later)
+    → Past then game → Past then later
 past-later then game later g k l p = record {
   limit = p .limit;
   before =
-      le-trans-clear then game later (at-most-clear then (2 ^ 31) (p .limit)) (at-most-clear game (2 ^ 31) g) (at-most-clear later (2 ^ 31) k)
+      le-trans-clear then game later (at-most-clear then (2 ^ 31) (p .limit)) (at-most-clear game (2 ^ 31) g)
+      (at-most-clear later (2 ^ 31) k)
       (p .before) l;
 }
 

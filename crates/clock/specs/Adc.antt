@@ -12,7 +12,8 @@ freshAdc = record { converting = false; control = 0; result = 0 }
 -- `new & !0x80B0`; a bit 15 that was set and is not written keeps bits 15 and 7
 unfoldable pub storedOf : ℕ → ℕ → ℕ
 storedOf new old =
-    cond (has old 0x8000 && lacks new 0x8000) (bitOr (bitAnd new 0xFFFF_7F4F) (bitAnd old 0x8080)) (bitAnd new 0xFFFF_7F4F)
+    cond (has old 0x8000 && lacks new 0x8000) (bitOr (bitAnd new 0xFFFF_7F4F) (bitAnd old 0x8080))
+    (bitAnd new 0xFFFF_7F4F)
 
 -- a bit 14 that was clear and is set starts a conversion
 abbrev pub writtenOf : Adc → ℕ → Adc
@@ -24,7 +25,8 @@ writtenOf adc new = record {
 
 -- its result is 0xC000, the battery's
 unfoldable pub convertedOf : Adc → Adc
-convertedOf adc = cond (adc .converting) (record { converting = false; control = bitOr (adc .control) 0x8080; result = 0xC000 }) adc
+convertedOf adc = cond (adc .converting)
+    (record { converting = false; control = bitOr (adc .control) 0x8080; result = 0xC000 }) adc
 
 abbrev pub lineOf : ℕ → Bool
 lineOf control = eqb (bitAnd control 0x8040) 0x8040

@@ -16,7 +16,8 @@ use Rattle.clock.specs.declared.Alarm.the-variants.{Off, At}
 -- (game - since) * 32768.0, cut, on top of the base
 unfoldable pub ticksOf : Latch → Float → ℕ
 ticksOf latch game =
-    (latch .base + twos (toSigned 63 (mul binary64 (sub binary64 game (latch .since)) (ofBits binary64 0x40E0_0000_0000_0000)))) % 2 ^ 64
+    (latch .base + twos (toSigned 63 (mul binary64 (sub binary64 game (latch .since))
+    (ofBits binary64 0x40E0_0000_0000_0000)))) % 2 ^ 64
 
 -- six bytes from a place: `(0..6).map(|i| (regs[from + i] as i64) << (8 * i)).sum()`
 abbrev pub joinedOf : ℕ → ℕ → ℕ → ℕ → ℕ → ℕ → ℕ
@@ -24,7 +25,8 @@ joinedOf a b c d e f = a + b * 2 ^ 8 + c * 2 ^ 16 + d * 2 ^ 24 + e * 2 ^ 32 + f 
 
 unfoldable pub sixBytes : List ℕ → ℕ → ℕ
 sixBytes regs from =
-    joinedOf (getD regs from 0) (getD regs (from + 1) 0) (getD regs (from + 2) 0) (getD regs (from + 3) 0) (getD regs (from + 4) 0) (getD regs (from + 5) 0)
+    joinedOf (getD regs from 0) (getD regs (from + 1) 0) (getD regs (from + 2) 0) (getD regs (from + 3) 0)
+    (getD regs (from + 4) 0) (getD regs (from + 5) 0)
 
 unfoldable pub alarmOf : List ℕ → Alarm
 alarmOf regs = cond (lacks (getD regs 0x40 0) 6) Off (At (sixBytes regs 0x20))
@@ -63,4 +65,5 @@ askedOf rtc game at =
 -- bit 0 writes, else bit 1 reads
 unfoldable pub commandedOf : Rtc → Float → ℕ → ℕ → ℕ → Rtc
 commandedOf rtc game address word cmd =
-    cond (has cmd 1) (putOf rtc game (address % 256) (word % 256)) (cond (has cmd 2) (askedOf rtc game (address % 256)) rtc)
+    cond (has cmd 1) (putOf rtc game (address % 0x100) (word % 0x100))
+    (cond (has cmd 2) (askedOf rtc game (address % 0x100)) rtc)

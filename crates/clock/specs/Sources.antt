@@ -10,15 +10,18 @@ use Rattle.clock.specs.declared.Ticked.{Ticked}
 
 -- more whole periods than were seen set a bit of the status
 unfoldable pub signalOf : ℕ → ℕ → ℕ → ℕ → Signal
-signalOf n seen status bit = cond (ltb seen n) (record { seen = n; status = bitOr status bit }) (record { seen = seen; status = status })
+signalOf n seen status bit = cond (ltb seen n) (record { seen = n; status = bitOr status bit })
+    (record { seen = seen; status = status })
 
 -- (now * 60.0) as u64
 abbrev pub vsyncOf : ℕ → Float → ℕ → Signal
-vsyncOf last now status = signalOf (toUnsigned 64 (mul binary64 now (ofBits binary64 0x404E_0000_0000_0000))) last status 0x2000
+vsyncOf last now status = signalOf (toUnsigned 64 (mul binary64 now (ofBits binary64 0x404E_0000_0000_0000))) last
+    status 0x2000
 
 -- (game / 1.0) as u64
 abbrev pub tickOf : ℕ → Float → ℕ → Signal
-tickOf fired game status = signalOf (toUnsigned 64 (div binary64 game (ofBits binary64 0x3FF0_0000_0000_0000))) fired status 2
+tickOf fired game status = signalOf (toUnsigned 64 (div binary64 game (ofBits binary64 0x3FF0_0000_0000_0000))) fired
+    status 2
 
 abbrev pub tickedOf : RtcIrq → Float → ℕ → Ticked
 tickedOf irq game status = record {

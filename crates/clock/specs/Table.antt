@@ -21,7 +21,7 @@ staged = writes (writes (writes (writes (writes freshRtc 0x10 0x01) 0x11 0) 0x12
 
 abbrev pub table : List Example
 table =
-    record { given = fieldOf (todOf (setOf freshIrq start 2 25) start) 2 ∷ []; said = 1 ∷ [] }
-    ∷ record { given = staged .latch .base ∷ []; said = 0 ∷ [] }
-    ∷ record { given = writes staged 0x15 0x80 .latch .base ∷ []; said = 140737488355329 ∷ [] }
+    record { given = fieldOf (todOf (setOf freshIrq start 2 25) start) 2 ∷ []; expected = 1 ∷ [] }
+    ∷ record { given = staged .latch .base ∷ []; expected = 0 ∷ [] }
+    ∷ record { given = writes staged 0x15 0x80 .latch .base ∷ []; expected = 140737488355329 ∷ [] }
     ∷ []

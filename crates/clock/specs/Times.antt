@@ -2,6 +2,7 @@
 use mathlib.Core.Bool.{cond}
 use Prim.Native.Nat.{ℕ}
 use lib.Ieee.{Float, binary64, ofBits, add, sub, mul, lt}
+use Rattle.map.specs.Numbers.{DONE, BAD-TIME, BAD-TURBO}
 use Rattle.whole.specs.Limits.{goodTime, goodTurbo}
 use Rattle.clock.specs.declared.Times.{Times}
 use Rattle.clock.specs.declared.Moved.{Moved}
@@ -30,9 +31,9 @@ pacedOf s to = cond (goodTurbo to) (By (record { now = s .now; game = s .game; t
 
 -- the numbers of the refusals
 abbrev pub movedRefusal : Moved → ℕ
-movedRefusal (To s) = 0
-movedRefusal BadTime = 1
+movedRefusal (To s) = DONE
+movedRefusal BadTime = BAD-TIME
 
 abbrev pub pacedRefusal : Paced → ℕ
-pacedRefusal (By s) = 0
-pacedRefusal BadTurbo = 2
+pacedRefusal (By s) = DONE
+pacedRefusal BadTurbo = BAD-TURBO

@@ -2,7 +2,8 @@
 ghost use mathlib.Core.Path.{_≡_};
 ghost use Prim.Native.Nat.{_+_, _<_};
 ghost use lib.ListN.{getD};
-ghost use Rattle.clock.specs.Rtc.{freshRtc, ticksOf, joinedOf, sixBytes, alarmOf, rtcOf, latchedOf, outputOf, commandedOf};
+ghost use Rattle.clock.specs.Rtc.{freshRtc, ticksOf, joinedOf, sixBytes, alarmOf, rtcOf, latchedOf, outputOf};
+ghost use Rattle.clock.specs.Rtc.{commandedOf};
 use crate::Alarm;
 use crate::Latch;
 use crate::Rtc;
@@ -108,7 +109,8 @@ pub fn rtc_command(
     word: u32,
     cmd: u32,
 ) -> Latch
-    ensures { λ r. ⌜ rtcOf (now (regs .exit)) r ≡ commandedOf (rtcOf (now (regs .entry)) latch) game address word cmd ⌝ }
+    ensures { λ r. ⌜ rtcOf (now (regs .exit)) r ≡ commandedOf (rtcOf (now (regs .entry)) latch) game address word cmd
+        ⌝ }
 {
     let at = (address % 256) as usize;
     if cmd & 1 != 0 {

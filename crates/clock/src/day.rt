@@ -1,8 +1,8 @@
 // The time of day of the SoC's clock.
 ghost use mathlib.Core.Path.{_≡_};
-ghost use mathlib.Core.Bool.{cond};
 ghost use Rattle.clock.specs.Day.{freshIrq, todOf, fieldOf, setOf};
 use crate::RtcIrq;
+use whole::forms::choose_wide;
 
 // The clock as it is after a wipe.
 pub fn fresh() -> RtcIrq
@@ -40,21 +40,15 @@ pub fn tod_read(irq: RtcIrq, game: f64, field: u32) -> u64
     t / 3600
 }
 
-fn keep(here: bool, a: u64, b: u64) -> u64
-    ensures { λ r. ⌜ r ≡ cond here a b ⌝ }
-{
-    if here { a } else { b }
-}
-
 // The other two fields stay as they are now.
 pub fn tod_write(irq: RtcIrq, game: f64, field: u32, value: u32) -> RtcIrq
     ensures { λ r. ⌜ r ≡ setOf irq game field value ⌝ }
 {
     let t = tod(irq, game);
     let v = value as u64;
-    let seconds = keep(field == 0, v, t % 60) % 60;
-    let minutes = keep(field == 1, v, t / 60 % 60) % 60;
-    let hours = keep(field > 1, v, t / 3600) % 24;
+    let seconds = choose_wide(field == 0, v, t % 60) % 60;
+    let minutes = choose_wide(field == 1, v, t / 60 % 60) % 60;
+    let hours = choose_wide(field > 1, v, t / 3600) % 24;
     RtcIrq {
         fired: irq.fired,
         base: (hours * 3600 + minutes * 60 + seconds) as u32,

@@ -1,10 +1,11 @@
-// Time and game time, and the devices that count them: the RTC chip, the time of day, the periodic sources and the ADC.
-// Their registers belong to the bus, which hands in the words that a function reads and stores those that it gives back.
+// Time and game time, and the devices that count them: the RTC chip, the time of day, the periodic sources and the
+// ADC. Their registers belong to the bus, which hands in the words that a function reads and stores those that it
+// gives back.
 pub mod chip;
 pub mod convert;
 pub mod day;
+pub mod pace;
 pub mod sources;
-pub mod time;
 
 // Emulated time, game time, and how much faster game time goes.
 pub struct Times {
@@ -25,8 +26,8 @@ pub enum Paced {
     BadTurbo,
 }
 
-// What the RTC chip holds beside its registers: the ticks that were latched, the game time at which they were, and what it put
-// out. The ticks are the 64 bits of the Rust's i64.
+// What the RTC chip holds beside its registers: the ticks that were latched, the game time at which they were, and
+// what it put out. The ticks are the 64 bits of the Rust's i64.
 pub struct Latch {
     pub base: u64,
     pub since: f64,

@@ -22,20 +22,23 @@ or-case true b e f g = f refl
 or-case false b e f g = g e
 
 -- a size is 2^16, .. or 2^23
-by-size : (P : ℕ → Type 0) → P (2 ^ 16) → P (2 ^ 17) → P (2 ^ 18) → P (2 ^ 19) → P (2 ^ 20) → P (2 ^ 21) → P (2 ^ 22) → P (2 ^ 23) → (n : ℕ) → goodSize n ≡ true → P n
+by-size : (P : ℕ → Type 0) → P (2 ^ 16) → P (2 ^ 17) → P (2 ^ 18) → P (2 ^ 19) → P (2 ^ 20) → P (2 ^ 21) → P (2 ^ 22)
+    → P (2 ^ 23) → (n : ℕ) → goodSize n ≡ true → P n
 by-size P p16 p17 p18 p19 p20 p21 p22 p23 n e =
-    or-case _ _ e (is 65536 p16) λ e.
-    or-case _ _ e (is 131072 p17) λ e.
-    or-case _ _ e (is 262144 p18) λ e.
-    or-case _ _ e (is 524288 p19) λ e.
-    or-case _ _ e (is 1048576 p20) λ e.
-    or-case _ _ e (is 2097152 p21) λ e. or-case _ _ e (is 4194304 p22) (is 8388608 p23)
+    or-case _ _ e (is 0x1_0000 p16) λ e.
+    or-case _ _ e (is 0x2_0000 p17) λ e.
+    or-case _ _ e (is 0x4_0000 p18) λ e.
+    or-case _ _ e (is 0x8_0000 p19) λ e.
+    or-case _ _ e (is 0x10_0000 p20) λ e.
+    or-case _ _ e (is 0x20_0000 p21) λ e. or-case _ _ e (is 0x40_0000 p22) (is 0x80_0000 p23)
   where
     is : (k : ℕ) → P k → eqb n k ≡ true → P n
     is k p e = subst P (sym (eqb-true n k e)) p
 
 pub good-sized : (n : ℕ) → goodSize n ≡ true → Sized n
-good-sized = by-size Sized (omega arith) (omega arith) (omega arith) (omega arith) (omega arith) (omega arith) (omega arith) (omega arith)
+good-sized =
+    by-size Sized (omega arith) (omega arith) (omega arith) (omega arith) (omega arith) (omega arith) (omega arith)
+    (omega arith)
 
 -- after the test of the code
 pub tested-sized : (n : ℕ) (g : Bool) → g ≡ goodSize n → not g ≡ false → Sized n
@@ -47,8 +50,10 @@ powered k l h = record { exponent = k; least = l; most = h; power = refl }
 -- the sizes that are not refused are the powers of two from 65,536 to 8,388,608
 pub sizes : (n : ℕ) → (goodSize n ≡ true → Power n) × (Power n → goodSize n ≡ true)
 sizes n = (
-  by-size Power (powered 16 (omega arith) (omega arith)) (powered 17 (omega arith) (omega arith)) (powered 18 (omega arith) (omega arith)) (powered 19 (omega arith) (omega arith))
-      (powered 20 (omega arith) (omega arith)) (powered 21 (omega arith) (omega arith)) (powered 22 (omega arith) (omega arith)) (powered 23 (omega arith) (omega arith)) n,
+  by-size Power (powered 16 (omega arith) (omega arith)) (powered 17 (omega arith) (omega arith))
+      (powered 18 (omega arith) (omega arith)) (powered 19 (omega arith) (omega arith))
+      (powered 20 (omega arith) (omega arith)) (powered 21 (omega arith) (omega arith))
+      (powered 22 (omega arith) (omega arith)) (powered 23 (omega arith) (omega arith)) n,
   λ p. rw (p .power) (tested 8 refl (p .exponent) (p .least) (omega (arith, p .most))),
 )
   where
@@ -63,7 +68,8 @@ sizes n = (
         let p = both-parts (goodSize (2 ^ (16 + j))) (goods j) h in
         last (eqb k (16 + j)) refl (p .0) (tested j (p .1) k l)
       where
-        last : (t : Bool) → eqb k (16 + j) ≡ t → goodSize (2 ^ (16 + j)) ≡ true → (k < 16 + j → goodSize (2 ^ k) ≡ true) → goodSize (2 ^ k) ≡ true
+        last : (t : Bool) → eqb k (16 + j) ≡ t → goodSize (2 ^ (16 + j)) ≡ true → (k < 16 + j → goodSize (2 ^ k) ≡ true)
+            → goodSize (2 ^ k) ≡ true
         last true e g f = rw (eqb-true k (16 + j) e) g
         last false e g f = let n : k ≡ 16 + j → ⊥ = eqb-false k (16 + j) e in f (omega arith)
 

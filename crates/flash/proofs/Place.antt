@@ -2,7 +2,8 @@
 use mathlib.Core.Path.{_≡_, refl, sym, ap, _∙_}
 use mathlib.Core.Bool.{Bool, true, false}
 use Prim.Native.Nat.{ℕ, suc, _+_, _-_, _%_, _≤_, _<_}
-use native.Mathlib.Nat.{mod-lt, mod-self, zero-mod, mod-eq-of-lt, suc-mod, add-mod-mod, mod-mod-of-dvd, dvd-of-mod-eq-zero}
+use native.Mathlib.Nat.{mod-lt, mod-self, zero-mod, mod-eq-of-lt, suc-mod, add-mod-mod, mod-mod-of-dvd}
+use native.Mathlib.Nat.{dvd-of-mod-eq-zero}
 use native.Mathlib.Omega.{arith}
 use lib.Dec.{eqb, leb, ltb}
 use borrow.Author.Tests.{ne-eqb, lt-ltb, le-ltb, le-leb, lt-leb, ltb-true, ltb-false}
@@ -61,7 +62,9 @@ long-place n k s =
         whole k h = omega arith
 
     same : (k : ℕ) → leb 260 k ≡ ltb 260 (k + 1)
-    same k = split k 260 (λ l. lt-leb 260 k l ∙ sym (le-ltb 260 (k + 1) (omega arith))) (λ l. le-leb 260 k l ∙ sym (lt-ltb 260 (k + 1) (omega arith)))
+    same k =
+        split k 260 (λ l. lt-leb 260 k l ∙ sym (le-ltb 260 (k + 1) (omega arith)))
+        (λ l. le-leb 260 k l ∙ sym (lt-ltb 260 (k + 1) (omega arith)))
 
 -- one more byte
 pub next-place : (n k : ℕ) → Sized n → nextPos n (place n k) ≡ place n (k + 1)
@@ -85,21 +88,32 @@ next-place n k s = split k 5 short round
     short : k < 5 → nextPos n (place n k) ≡ place n (k + 1)
     short l =
         rw (place-lt n k l, lt-leb (4 + n) k (omega arith))
-        (split (k + 1) 5 (λ h. sym (place-lt n (k + 1) h)) (λ h. sym (place-ge n (k + 1) h ∙ rw (none k l, zero-mod n) (five k l h))))
+        (split (k + 1) 5 (λ h. sym (place-lt n (k + 1) h))
+        (λ h. sym (place-ge n (k + 1) h ∙ rw (none k l, zero-mod n) (five k l h))))
 
     round : 5 ≤ k → nextPos n (place n k) ≡ place n (k + 1)
     round l =
         rw (place-ge n k l, place-ge n (k + 1) (omega arith), more k l, suc-mod (k - 5) n)
         (split (suc ((k - 5) % n)) n
         (λ h. rw (lt-leb (4 + n) (5 + (k - 5) % n) (omega arith), mod-eq-of-lt h) (up ((k - 5) % n)))
-        (λ h. rw (le-leb (4 + n) (5 + (k - 5) % n) (omega arith), full ((k - 5) % n) n (mod-lt (k - 5) (omega arith)) h, mod-self n)))
+        (λ h. rw (
+          le-leb (4 + n) (5 + (k - 5) % n) (omega arith),
+          full ((k - 5) % n) n (mod-lt (k - 5) (omega arith)) h,
+          mod-self n,
+        )))
 
 -- how far a position is past the header, modulo what divides the size
 pub far-place : (d n k c : ℕ) → n % d ≡ 0 → c ≤ 5 → c ≤ k → (place n k - c) % d ≡ (k - c) % d
 far-place d n k c h f l =
     split k 5
     (λ u. rw (place-lt n k u))
-    (λ u. rw (place-ge n k u, start ((k - 5) % n) c f, ← add-mod-mod, mod-mod-of-dvd d (k - 5) (dvd-of-mod-eq-zero d h), add-mod-mod) (ap (_% d) (back k c u f)))
+    (λ u. rw (
+      place-ge n k u,
+      start ((k - 5) % n) c f,
+      ← add-mod-mod,
+      mod-mod-of-dvd d (k - 5) (dvd-of-mod-eq-zero d h),
+      add-mod-mod,
+    ) (ap (_% d) (back k c u f)))
   where
     start : (r c : ℕ) → c ≤ 5 → 5 + r - c ≡ 5 - c + r
     start r c f = omega arith

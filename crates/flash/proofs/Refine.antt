@@ -1,52 +1,37 @@
--- The compact state refines the list of bytes: what the Rust does to the whole list, the chip does to its view.
+-- The compact state refines the list of bytes: what a step does to the list, the chip does to the list's compact state;
+-- and a position that goes round answers and acts as the length does.
 use mathlib.Core.Path.{_≡_, refl, sym, ap, ap₂, _∙_}
-use mathlib.Core.Bool.{Bool, true, false, not}
+use mathlib.Core.Bool.{Bool, true, false}
 use mathlib.Core.List.{List, [], _∷_, _++_}
-use Prim.Native.Nat.{ℕ, suc, _+_, _-_, _*_, _%_, _≤_, _<_}
-use native.Mathlib.Nat.{mod-lt, mod-add-mod, add-mod-mod, mod-mod-of-dvd, dvd-of-mod-eq-zero, le-of-lt, mod-self}
+use Prim.Native.Nat.{ℕ, zero, suc, _+_, _-_, _%_, _≤_, _<_}
+use native.Mathlib.Nat.{not-suc-le-zero, mod-lt, mod-add-mod, add-mod-mod, le-of-lt, mod-self}
 use native.Mathlib.Omega.{arith}
-use lib.ListN.{length, drop, set, getD, length-append, length-drop, drop-of-length-le, List·getD-append, List·getD-eq-default}
-use lib.Seq.{drop-append-le, getD-append-seam}
-use lib.Dec.{eqb, leb, ltb}
+use lib.ListN.{length, take, drop, set, getD, length-append, length-drop, drop-of-length-le, List·getD-append}
+use lib.ListN.{List·getD-eq-default}
+use lib.Seq.{length-take-le, getD-take, drop-append-le, getD-append-seam}
+use lib.Dec.{eqb, ltb}
 use lib.Bits.{bitAnd}
-use borrow.Author.Tests.{ne-eqb, eq-eqb, lt-ltb, le-ltb, le-leb, lt-leb}
+use borrow.Author.Tests.{ne-eqb, eq-eqb, lt-ltb, le-ltb}
 use Rattle.flash.specs.Pick.{pick}
-use Rattle.flash.specs.Run.{Bytes}
-use Rattle.flash.specs.Board.{Sized, board, Board}
-use Rattle.flash.specs.Buf.{blank, slot, gathered, pushed, fresh}
+use Rattle.flash.specs.Board.{Sized, board}
+use Rattle.flash.specs.Buf.{blank, slot, gathered, pushed, addrOf}
 use Rattle.flash.specs.Xfer.{jedec, makerOf, readOf, kindOf, replyTo, answerOf}
-use Rattle.flash.specs.Finish.{actOf, arrayAfter, stateAfter}
-use Rattle.flash.specs.Flash.{withCs, selectBoard, sentBoard}
-use Rattle.flash.proofs.Whole.{
-  Whole,
-  at,
-  place,
-  andsFrom,
-  viewT,
-  viewP,
-  view,
-  addrW,
-  replyW,
-  answerW,
-  xferW,
-  programW,
-  actW,
-  finishArrayW,
-  welAfter,
-  writesAfter,
-  selectW,
-  selectArrayW,
-  viewB,
-}
+use Rattle.flash.specs.Finish.{orderOf, guardOf, actOf, arrayAfter, welAfter, writesAfter}
+use Rattle.flash.specs.Flash.{selectBoard, replied, sentBoard}
+use Rattle.flash.specs.Steps.{cs, byte}
+use Rattle.flash.specs.Rust.{Sys}
+use Rattle.flash.proofs.Whole.{at, transAt, place, exactTrans, roundedTrans, andsFrom, pageOf, compactBoard}
+use Rattle.flash.proofs.Whole.{listAfter}
 use Rattle.flash.specs.declared.Mode.{Mode}
 use Rattle.flash.specs.declared.Kind.{Kind}
-use Rattle.flash.specs.declared.Kind.the-variants.{Identity, Maker, Device, Status, Zero, Read, FastRead, Unique, Other}
+use Rattle.flash.specs.declared.Kind.the-variants.{Identity, Maker, Device, Status, Zero, Read, FastRead, Unique}
+use Rattle.flash.specs.declared.Kind.the-variants.{Other}
 use Rattle.flash.specs.declared.Act.{Act}
 use Rattle.flash.specs.declared.Act.the-variants.{Nothing, Enable, Disable, Program, Erase, EraseAll}
 use Rattle.flash.specs.declared.Chip.{Chip}
 use Rattle.flash.specs.declared.Trans.{Trans}
-use Rattle.flash.proofs.Page.{program-is}
-use Rattle.flash.proofs.Laws.{page-in, size-2, size-256, regroup}
+use Rattle.flash.proofs.Long.{act-long}
+use Rattle.flash.proofs.Laws.{size-2, size-256}
 use Rattle.flash.proofs.Place.{split, eqb-place, ltb-place, leb-place, long-place, next-place, far-place}
 
 -- ---- one more byte
@@ -58,8 +43,10 @@ at-snoc b x k =
     split k (length b)
     (λ l. rw (ne-eqb (length b) k (λ e. omega arith)) (sym (List·getD-append b (x ∷ []) 0 k l)))
     (λ l. split (length b) k
-    (λ h. rw (ne-eqb (length b) k (λ e. omega arith)) (List·getD-eq-default b 0 l ∙ sym (List·getD-eq-default (b ++ x ∷ []) 0 (rw length-snoc (omega arith)))))
-    (λ h. let e : k ≡ length b = omega arith in rw (e, eq-eqb (length b) (length b) refl) (sym (getD-append-seam b x [] 0))))
+    (λ h. rw (ne-eqb (length b) k (λ e. omega arith))
+    (List·getD-eq-default b 0 l ∙ sym (List·getD-eq-default (b ++ x ∷ []) 0 (rw length-snoc (omega arith)))))
+    (λ h. let e : k ≡ length b = omega arith in rw (e, eq-eqb (length b) (length b) refl)
+    (sym (getD-append-seam b x [] 0))))
 
 first-snoc : (n : ℕ) (b : List ℕ) (x k : ℕ) → k < 5 → pick (eqb (place n (length b)) k) x (at b k) ≡ at (b ++ x ∷ []) k
 first-snoc n b x k h = rw (eqb-place n (length b) k h) (at-snoc b x k)
@@ -69,14 +56,19 @@ one-on : (a k : ℕ) → a + 1 + k ≡ a + suc k
 one-on a k = omega arith
 
 ands-snoc : (bs : List ℕ) (p : List ℕ) (off x : ℕ) → off < 256
-    → andsFrom p off (bs ++ x ∷ []) ≡ set (andsFrom p off bs) ((off + length bs) % 256) (bitAnd (getD (andsFrom p off bs) ((off + length bs) % 256) 0) x)
+    → andsFrom p off (bs ++ x ∷ []) ≡ set (andsFrom p off bs) ((off + length bs) % 256)
+    (bitAnd (getD (andsFrom p off bs) ((off + length bs) % 256) 0) x)
 ands-snoc [] p off x h = let e : (off + 0) % 256 ≡ off = omega arith in rw e
 ands-snoc (b ∷ bs) p off x h =
     let q : List ℕ = set p off (bitAnd (getD p off 0) b) in
-    let e : ((off + 1) % 256 + length bs) % 256 ≡ (off + suc (length bs)) % 256 = mod-add-mod (off + 1) 256 (length bs) ∙ ap (_% 256) (one-on off (length bs)) in
-    ands-snoc bs q ((off + 1) % 256) x (mod-lt (off + 1) (omega arith)) ∙ ap (λ (k : ℕ). set (andsFrom q ((off + 1) % 256) bs) k (bitAnd (getD (andsFrom q ((off + 1) % 256) bs) k 0) x)) e
+    let e : ((off + 1) % 256 + length bs) % 256 ≡ (off + suc (length bs)) % 256 = mod-add-mod (off + 1) 256 (length bs)
+    ∙ ap (_% 256) (one-on off (length bs)) in
+    ands-snoc bs q ((off + 1) % 256) x (mod-lt (off + 1) (omega arith))
+    ∙ ap (λ (k : ℕ). set (andsFrom q ((off + 1) % 256) bs) k
+    (bitAnd (getD (andsFrom q ((off + 1) % 256) bs) k 0) x)) e
 
-slot-is : (n : ℕ) (b : List ℕ) → Sized n → 4 ≤ length b → slot (viewT n b) ≡ (at b 3 % 256 + length (drop 4 b)) % 256
+slot-is : (n : ℕ) (b : List ℕ) → Sized n → 4 ≤ length b → slot (roundedTrans n b)
+    ≡ (at b 3 % 256 + length (drop 4 b)) % 256
 slot-is n b s h =
     ap (λ (k : ℕ). (at b 3 + k) % 256) (far-place 256 n (length b) 4 (size-256 n s) (omega arith) h)
     ∙ add-mod-mod (at b 3) (length b - 4) 256
@@ -87,14 +79,17 @@ short : (b : List ℕ) (x : ℕ) → length b < 4 → length (b ++ x ∷ []) ≤
 short b x l = rw length-snoc (omega arith)
 
 page-more : (n : ℕ) (b : List ℕ) (x : ℕ) → Sized n → 4 ≤ length b
-    → set (andsFrom blank (at b 3 % 256) (drop 4 b)) (slot (viewT n b)) (bitAnd (getD (andsFrom blank (at b 3 % 256) (drop 4 b)) (slot (viewT n b)) 0) x)
-    ≡ viewP (b ++ x ∷ [])
+    → set (andsFrom blank (at b 3 % 256) (drop 4 b)) (slot (roundedTrans n b))
+    (bitAnd (getD (andsFrom blank (at b 3 % 256) (drop 4 b)) (slot (roundedTrans n b)) 0) x)
+    ≡ pageOf (b ++ x ∷ [])
 page-more n b x s l =
-    ap (λ (k : ℕ). set (andsFrom blank (at b 3 % 256) (drop 4 b)) k (bitAnd (getD (andsFrom blank (at b 3 % 256) (drop 4 b)) k 0) x)) (slot-is n b s l)
+    ap (λ (k : ℕ). set (andsFrom blank (at b 3 % 256) (drop 4 b)) k
+    (bitAnd (getD (andsFrom blank (at b 3 % 256) (drop 4 b)) k 0) x)) (slot-is n b s l)
     ∙ sym (ands-snoc (drop 4 b) blank (at b 3 % 256) x (mod-lt (at b 3) (omega arith)))
-    ∙ ap₂ (λ (k : ℕ) (r : List ℕ). andsFrom blank (k % 256) r) (sym (List·getD-append b (x ∷ []) 0 3 l)) (sym (drop-append-le 4 b (x ∷ []) l))
+    ∙ ap₂ (λ (k : ℕ) (r : List ℕ). andsFrom blank (k % 256) r) (sym (List·getD-append b (x ∷ []) 0 3 l))
+    (sym (drop-append-le 4 b (x ∷ []) l))
 
-page-snoc : (n : ℕ) (b : List ℕ) (x : ℕ) → Sized n → gathered (viewT n b) (viewP b) x ≡ viewP (b ++ x ∷ [])
+page-snoc : (n : ℕ) (b : List ℕ) (x : ℕ) → Sized n → gathered (roundedTrans n b) (pageOf b) x ≡ pageOf (b ++ x ∷ [])
 unfolding gathered
 page-snoc n b x s =
     split (length b) 4
@@ -103,10 +98,11 @@ page-snoc n b x s =
     (λ l. rw (ltb-place n (length b) 4 (omega arith), le-ltb (length b) 4 l) (page-more n b x s l))
 
 trans-is : {c c′ a a′ d d′ f f′ p p′ : ℕ} {l l′ : Bool} → c ≡ c′ → a ≡ a′ → d ≡ d′ → f ≡ f′ → p ≡ p′ → l ≡ l′
-    → _≡_ {A = Trans} (record { cmd = c; a1 = a; a2 = d; a3 = f; pos = p; long = l }) (record { cmd = c′; a1 = a′; a2 = d′; a3 = f′; pos = p′; long = l′ })
+    → _≡_ {A = Trans} (record { cmd = c; a1 = a; a2 = d; a3 = f; pos = p; long = l })
+    (record { cmd = c′; a1 = a′; a2 = d′; a3 = f′; pos = p′; long = l′ })
 trans-is h1 h2 h3 h4 h5 h6 = rw (h1, h2, h3, h4, h5, h6)
 
-pub push-view : (n : ℕ) (b : List ℕ) (x : ℕ) → Sized n → pushed (viewT n b) n x ≡ viewT n (b ++ x ∷ [])
+push-view : (n : ℕ) (b : List ℕ) (x : ℕ) → Sized n → pushed (roundedTrans n b) n x ≡ roundedTrans n (b ++ x ∷ [])
 push-view n b x s =
     trans-is
     (first-snoc n b x 0 (omega arith))
@@ -116,140 +112,130 @@ push-view n b x s =
     (next-place n (length b) s ∙ ap (place n) (sym (length-snoc b x)))
     (long-place n (length b) s ∙ ap (ltb 260) (sym (length-snoc b x)))
 
--- ---- the answer
--- the bytes of the header are there once the position is past them
-at-more : (b : List ℕ) (x k : ℕ) → k < length b → at (b ++ x ∷ []) k ≡ at b k
-at-more b x k l = List·getD-append b (x ∷ []) 0 k l
-
-addr-more : (b : List ℕ) (x n : ℕ) → 4 ≤ length b → addrW (b ++ x ∷ []) n ≡ addrW b n
-addr-more b x n l = rw (at-more b x 1 (omega arith), at-more b x 2 (omega arith), at-more b x 3 l)
-
-jedec-is : (i : ℕ) → 1 ≤ i → jedec i ≡ getD (239 ∷ 64 ∷ 23 ∷ []) (i - 1) 255
-jedec-is i h =
-    split i 2 (λ l. let e : i ≡ 1 = omega arith in rw e) λ l₂.
-    split i 3 (λ l. let e : i ≡ 2 = omega arith in rw e) λ l₃.
-    split i 4 (λ l. let e : i ≡ 3 = omega arith in rw e) λ l.
-    rw (ne-eqb i 1 (λ e. omega arith), ne-eqb i 2 (λ e. omega arith), ne-eqb i 3 (λ e. omega arith))
-    (sym (List·getD-eq-default (239 ∷ 64 ∷ 23 ∷ []) 255 (three i l)))
-  where
-    three : (i : ℕ) → 4 ≤ i → 3 ≤ i - 1
-    three i l = omega arith
-
-jedec-place : (n i : ℕ) → jedec (place n i) ≡ jedec i
-jedec-place n i = rw (eqb-place n i 1 (omega arith), eqb-place n i 2 (omega arith), eqb-place n i 3 (omega arith))
-
--- a test of the position picks as the test of the length does
-guard : (n i c : ℕ) {u v : ℕ} → c ≤ 5 → (c ≤ i → u ≡ v) → pick (ltb (place n i) c) 255 u ≡ pick (ltb i c) 255 v
-guard n i c {u} {v} h f =
-    ap (λ (t : Bool). pick t 255 u) (ltb-place n i c h)
-    ∙ split i c (λ l. rw (lt-ltb i c l)) (λ l. rw (le-ltb i c l) (f l))
-
-read-view : (c : ℕ) (b : List ℕ) (x : ℕ) (m : List ℕ) → Sized (length m) → 4 ≤ c → c ≤ 5 → c ≤ length b
-    → readOf (viewT (length m) b) (place (length m) (length b) - c) m ≡ getD m ((addrW (b ++ x ∷ []) (length m) + length b - c) % length m) 0
-unfolding readOf
-read-view c b x m s h f l =
-    let n = length m in
-    let i = length b in
-    ap (λ (k : ℕ). getD m k 0)
-    (ap (λ (k : ℕ). (addrW b n + k) % n) (far-place n n i c (mod-self n) f l)
-    ∙ add-mod-mod (addrW b n) (i - c) n
-    ∙ ap (λ (k : ℕ). k % n) (sym (regroup (addrW b n) i c l))
-    ∙ ap (λ (a : ℕ). (a + i - c) % n) (sym (addr-more b x n (omega arith))))
-
-maker-is : (e : Mode) (b : List ℕ) (x n : ℕ) → Sized n → 4 ≤ length b → makerOf e (at b 3) (place n (length b)) ≡ makerOf e (at (b ++ x ∷ []) 3) (length b)
-maker-is e b x n s l = rw (far-place 2 n (length b) 4 (size-2 n s) (omega arith) l, at-more b x 3 l)
-
-reply-view : (k : Kind) (w : Whole) (x : ℕ) (m : List ℕ) → Sized (length m) → 1 ≤ length (w .buf)
-    → replyTo k (w .mode) (w .wel) (viewT (length m) (w .buf)) m ≡ replyW k (w .mode) (w .wel) (w .buf ++ x ∷ []) (length (w .buf)) m
-reply-view Identity w x m s l = jedec-place (length m) (length (w .buf)) ∙ jedec-is (length (w .buf)) l
-reply-view Maker w x m s l = guard (length m) (length (w .buf)) 4 (omega arith) (λ h. maker-is (w .mode) (w .buf) x (length m) s h)
-reply-view Device w x m s l = guard (length m) (length (w .buf)) 4 (omega arith) (λ h. refl)
-reply-view Status w x m s l = refl
-reply-view Zero w x m s l = refl
-reply-view Read w x m s l = guard (length m) (length (w .buf)) 4 (omega arith) (λ h. read-view 4 (w .buf) x m s (omega arith) (omega arith) h)
-reply-view FastRead w x m s l = guard (length m) (length (w .buf)) 5 (omega arith) (λ h. read-view 5 (w .buf) x m s (omega arith) (omega arith) h)
-reply-view Unique w x m s l = guard (length m) (length (w .buf)) 5 (omega arith) (λ h. refl)
-reply-view Other w x m s l = refl
-
-last-snoc : (b : List ℕ) (x : ℕ) → length (b ++ x ∷ []) - 1 ≡ length b
-last-snoc b x = rw length-snoc (omega arith)
-
-pub answer-view : (w : Whole) (x : ℕ) (m : List ℕ) → Sized (length m) → answerOf (w .mode) (w .wel) (viewT (length m) (w .buf)) m ≡ answerW (w .mode) (w .wel) (w .buf ++ x ∷ []) m
-unfolding answerOf
-answer-view w x m s =
-    let b = w .buf in
-    let n = length m in
-    ap (λ (t : Bool). pick t 255 (replyTo (kindOf (at b 0)) (w .mode) (w .wel) (viewT n b) m)) (eqb-place n (length b) 0 (omega arith))
-    ∙ split (length b) 1
-    (λ l. rw (eq-eqb (length b) 0 (omega arith)))
-    (λ l. rw (ne-eqb (length b) 0 (λ e. omega arith)) (reply-view (kindOf (at b 0)) w x m s l ∙ ap (λ (c : ℕ). replyW (kindOf c) (w .mode) (w .wel) (b ++ x ∷ []) (length b) m) (sym (at-more b x 0 l))))
-    ∙ ap (λ (i : ℕ). pick (eqb i 0) 255 (replyW (kindOf (at (b ++ x ∷ []) 0)) (w .mode) (w .wel) (b ++ x ∷ []) i m)) (sym (last-snoc b x))
-
--- ---- a byte sent
-pub xfer-view : (w : Whole) (x : ℕ) (m : List ℕ) → Sized (length m) → sentBoard (viewB (record { chip = w; array = m })) x ≡ viewB (record { chip = xferW w m x; array = m })
-xfer-view w x m s =
-    ap₂ (λ (r : ℕ) (t : Trans). board (record { mode = w .mode; cs = w .cs; wel = w .wel; writes = w .writes; rx = r; tx = t }) (gathered (viewT (length m) (w .buf)) (viewP (w .buf)) x) m)
-    (answer-view w x m s) (push-view (length m) (w .buf) x s)
-    ∙ ap (λ (p : List ℕ). board (view (length m) (xferW w m x)) p m) (page-snoc (length m) (w .buf) x s)
-
--- ---- a deselect
-long-not : (k : ℕ) → not (ltb 260 k) ≡ leb k 260
-long-not k = split 260 k (λ l. rw (lt-ltb 260 k l, lt-leb k 260 l)) (λ l. rw (le-ltb 260 k l, le-leb k 260 l))
-
-pub act-view : (n : ℕ) (w : Whole) → actOf (w .mode) (w .wel) (viewT n (w .buf)) ≡ actW w
-unfolding actOf
-act-view n w =
-    let k = length (w .buf) in
-    rw (eqb-place n k 0 (omega arith), leb-place n k 5 (omega arith), leb-place n k 4 (omega arith), eqb-place n k 4 (omega arith), eqb-place n k 1 (omega arith), long-not k)
-
-low-byte : (a b c : ℕ) → (a * 65536 + b * 256 + c) % 256 ≡ c % 256
-low-byte a b c = omega arith
-
-addr-low : (b : List ℕ) (n : ℕ) → Sized n → addrW b n % 256 ≡ at b 3 % 256
-addr-low b n s = mod-mod-of-dvd 256 (at b 1 * 65536 + at b 2 * 256 + at b 3) (dvd-of-mod-eq-zero 256 (size-256 n s)) ∙ low-byte (at b 1) (at b 2) (at b 3)
-
-pub array-view : (a : Act) (b m : List ℕ) → Sized (length m) → Bytes m → arrayAfter a (viewT (length m) b) (viewP b) m ≡ finishArrayW a b m
-array-view Nothing b m s y = refl
-array-view Enable b m s y = refl
-array-view Disable b m s y = refl
-array-view Program b m s y =
-    let n = length m in
-    sym (ap (λ (o : ℕ). programW m (addrW b n - addrW b n % 256) o (drop 4 b)) (addr-low b n s)
-    ∙ program-is (drop 4 b) m (addrW b n - addrW b n % 256) (at b 3 % 256) (page-in n (addrW b n) s (mod-lt _ (omega arith))) (mod-lt (at b 3) (omega arith)) y)
-array-view (Erase k) b m s y = refl
-array-view EraseAll b m s y = refl
-
-after-view : (a : Act) (n : ℕ) (w : Whole) → withCs (stateAfter a (view n w)) false
-    ≡ record { mode = w .mode; cs = false; wel = welAfter a (w .wel); writes = writesAfter a (w .writes); rx = w .rx; tx = viewT n (w .buf) }
-after-view Nothing n w = refl
-after-view Enable n w = refl
-after-view Disable n w = refl
-after-view Program n w = refl
-after-view (Erase k) n w = refl
-after-view EraseAll n w = refl
+-- ---- a byte, a select, a deselect
+abbrev sys : Bool → List ℕ → ℕ → Bool → ℕ → List ℕ → Sys
+sys c b r w n m = record { cs = c; buf = b; rx = r; wel = w; writes = n; ram = m }
 
 abbrev chip : Mode → Bool → Bool → ℕ → ℕ → Trans → Chip
 chip e c w n r t = record { mode = e; cs = c; wel = w; writes = n; rx = r; tx = t }
 
-pick-on : (c : Bool) (e : Mode) (w : Bool) (k r n : ℕ) (b m : List ℕ)
-    → pick c (board (chip e c w k r (viewT n b)) (viewP b) m) (board (chip e true w k r fresh) blank m) ≡ board (chip e true w k r (viewT n (pick c b []))) (viewP (pick c b [])) m
-pick-on true e w k r n b m = refl
-pick-on false e w k r n b m = refl
+pub byte-view : (e : Mode) (s : Sys) (x : ℕ) → Sized (length (s .ram)) → sentBoard (compactBoard e s) x
+    ≡ compactBoard e (listAfter e s (byte x))
+byte-view e s x z =
+    ap₂ (λ (t : Trans) (p : List ℕ). board (chip e (s .cs) (s .wel) (s .writes) (replied (compactBoard e s)) t) p
+    (s .ram))
+    (push-view (length (s .ram)) (s .buf) x z)
+    (page-snoc (length (s .ram)) (s .buf) x z)
 
-pick-off : (c : Bool) (e : Mode) (wa wb : Bool) (na nb r : ℕ) (t : Trans) (p m m′ : List ℕ)
-    → pick c (board (chip e false wa na r t) p m′) (board (chip e c wb nb r t) p m) ≡ board (chip e false (pick c wa wb) (pick c na nb) r t) p (pick c m′ m)
-pick-off true e wa wb na nb r t p m m′ = refl
-pick-off false e wa wb na nb r t p m m′ = refl
+pub on-view : (e : Mode) (s : Sys) → selectBoard (compactBoard e s) true ≡ compactBoard e (listAfter e s (cs true))
+on-view e s = go (s .cs) (s .buf) (s .rx) (s .wel) (s .writes) (s .ram)
+  where
+    go : (c : Bool) (b : List ℕ) (r : ℕ) (w : Bool) (n : ℕ) (m : List ℕ)
+        → selectBoard (compactBoard e (sys c b r w n m)) true ≡ compactBoard e (listAfter e (sys c b r w n m) (cs true))
+    go true b r w n m = refl
+    go false b r w n m = refl
 
--- a select or a deselect, the position still over the array's old length
-pub select-view : (w : Whole) (on : Bool) (m : List ℕ) → Sized (length m) → Bytes m
-    → selectBoard (viewB (record { chip = w; array = m })) on ≡ board (view (length m) (selectW w on)) (viewP (selectW w on .buf)) (selectArrayW w on m)
-select-view w true m s y = pick-on (w .cs) (w .mode) (w .wel) (w .writes) (w .rx) (length m) (w .buf) m
-select-view w false m s y =
-    let n = length m in
-    let t = viewT n (w .buf) in
-    let p = viewP (w .buf) in
-    let v : Board = viewB (record { chip = w; array = m }) in
-    ap (λ (a : Act). pick (w .cs) (board (withCs (stateAfter a (view n w)) false) p (arrayAfter a t p m)) v) (act-view n w)
-    ∙ ap₂ (λ (z : Chip) (l : List ℕ). pick (w .cs) (board z p l) v) (after-view (actW w) n w) (array-view (actW w) (w .buf) m s y)
-    ∙ pick-off (w .cs) (w .mode) (welAfter (actW w) (w .wel)) (w .wel) (writesAfter (actW w) (w .writes)) (w .writes) (w .rx) t p m (finishArrayW (actW w) (w .buf) m)
+pub off-view : (e : Mode) (s : Sys) → Sized (length (s .ram)) → selectBoard (compactBoard e s) false
+    ≡ compactBoard e (listAfter e s (cs false))
+off-view e s = go (s .cs) (s .buf) (s .rx) (s .wel) (s .writes) (s .ram)
+  where
+    go : (c : Bool) (b : List ℕ) (r : ℕ) (w : Bool) (n : ℕ) (m : List ℕ) → Sized (length m)
+        → selectBoard (compactBoard e (sys c b r w n m)) false
+        ≡ compactBoard e (listAfter e (sys c b r w n m) (cs false))
+    go true b r w n m z =
+        let t : Trans = roundedTrans (length m) b in
+        let a : Act = actOf e w t in
+        let l : List ℕ = arrayAfter a t (pageOf b) m in
+        ap (λ (k : ℕ). board (chip e false (welAfter a w) (writesAfter a n) r (roundedTrans k b)) (pageOf b) l)
+        (sym (act-long a t (pageOf b) m z))
+    go false b r w n m z = refl
+
+-- ---- the position as the length
+jedec-place : (n i : ℕ) → jedec (place n i) ≡ jedec i
+jedec-place n i = rw (eqb-place n i 1 (omega arith), eqb-place n i 2 (omega arith), eqb-place n i 3 (omega arith))
+
+-- a test of the position picks as the test of the length does
+ltb-pick : (n i c : ℕ) {u v : ℕ} → c ≤ 5 → (c ≤ i → u ≡ v) → pick (ltb (place n i) c) 0xFF u ≡ pick (ltb i c) 0xFF v
+ltb-pick n i c {u} {v} h f =
+    ap (λ (t : Bool). pick t 0xFF u) (ltb-place n i c h)
+    ∙ split i c (λ l. rw (lt-ltb i c l)) (λ l. rw (le-ltb i c l) (f l))
+
+read-exact : (c : ℕ) (b m : List ℕ) → c ≤ 5 → c ≤ length b
+    → readOf (roundedTrans (length m) b) (place (length m) (length b) - c) m ≡ readOf (exactTrans b) (length b - c) m
+unfolding readOf
+read-exact c b m f l =
+    ap (λ (k : ℕ). getD m ((addrOf (exactTrans b) (length m) + k) % length m) 0)
+    (far-place (length m) (length m) (length b) c (mod-self (length m)) f l)
+
+maker-exact : (e : Mode) (a n k : ℕ) → Sized n → 4 ≤ k → makerOf e a (place n k) ≡ makerOf e a k
+maker-exact e a n k s l = rw (far-place 2 n k 4 (size-2 n s) (omega arith) l)
+
+reply-exact : (k : Kind) (e : Mode) (w : Bool) (b m : List ℕ) → Sized (length m)
+    → replyTo k e w (roundedTrans (length m) b) m ≡ replyTo k e w (exactTrans b) m
+reply-exact Identity e w b m s = jedec-place (length m) (length b)
+reply-exact Maker e w b m s =
+    ltb-pick (length m) (length b) 4 (omega arith) (λ h. maker-exact e (at b 3) (length m) (length b) s h)
+reply-exact Device e w b m s = ltb-pick (length m) (length b) 4 (omega arith) (λ h. refl)
+reply-exact Status e w b m s = refl
+reply-exact Zero e w b m s = refl
+reply-exact Read e w b m s = ltb-pick (length m) (length b) 4 (omega arith) (λ h. read-exact 4 b m (omega arith) h)
+reply-exact FastRead e w b m s = ltb-pick (length m) (length b) 5 (omega arith) (λ h. read-exact 5 b m (omega arith) h)
+reply-exact Unique e w b m s = ltb-pick (length m) (length b) 5 (omega arith) (λ h. refl)
+reply-exact Other e w b m s = refl
+
+pub answer-exact : (e : Mode) (w : Bool) (b m : List ℕ) → Sized (length m) → answerOf e w (roundedTrans (length m) b) m
+    ≡ answerOf e w (exactTrans b) m
+unfolding answerOf
+answer-exact e w b m s =
+    ap₂ (λ (t : Bool) (r : ℕ). pick t 0xFF r) (eqb-place (length m) (length b) 0 (omega arith))
+    (reply-exact (kindOf (at b 0)) e w b m s)
+
+guard-exact : (a : Act) (e : Mode) (w : Bool) (n : ℕ) (b : List ℕ) → guardOf a e w (roundedTrans n b)
+    ≡ guardOf a e w (exactTrans b)
+guard-exact Nothing e w n b = refl
+guard-exact Enable e w n b = refl
+guard-exact Disable e w n b = refl
+guard-exact Program e w n b = rw (leb-place n (length b) 5 (omega arith))
+guard-exact (Erase k) e w n b = rw (leb-place n (length b) 4 (omega arith), eqb-place n (length b) 4 (omega arith))
+guard-exact EraseAll e w n b = rw (eqb-place n (length b) 1 (omega arith))
+
+pub act-exact : (e : Mode) (w : Bool) (n : ℕ) (b : List ℕ) → actOf e w (roundedTrans n b) ≡ actOf e w (exactTrans b)
+unfolding actOf
+act-exact e w n b = rw (eqb-place n (length b) 0 (omega arith), guard-exact (orderOf (at b 0)) e w n b)
+
+-- ---- an answer looks at those bytes of the header alone that are in, so the rest of the list may be there as well
+past : (i c : ℕ) {u v : ℕ} → (c ≤ i → u ≡ v) → pick (ltb i c) 0xFF u ≡ pick (ltb i c) 0xFF v
+past i c f = split i c (λ l. rw (lt-ltb i c l)) (λ l. rw (le-ltb i c l) (f l))
+
+read-ahead : (b m : List ℕ) (i far : ℕ) (l : Bool) → 4 ≤ i
+    → readOf (record {
+      cmd = at (take i b) 0;
+      a1 = at (take i b) 1;
+      a2 = at (take i b) 2;
+      a3 = at (take i b) 3;
+      pos = i;
+      long = l;
+    }) far m ≡ readOf (transAt b i) far m
+unfolding readOf
+read-ahead b m i far l h = rw (getD-take i b 1 0 (omega arith), getD-take i b 2 0 (omega arith), getD-take i b 3 0 h)
+
+reply-ahead : (k : Kind) (e : Mode) (w : Bool) (b m : List ℕ) (i : ℕ) → i ≤ length b
+    → replyTo k e w (exactTrans (take i b)) m ≡ replyTo k e w (transAt b i) m
+reply-ahead Identity e w b m i l = rw (length-take-le i b l)
+reply-ahead Maker e w b m i l = rw (length-take-le i b l) (past i 4 (λ h. rw (getD-take i b 3 0 h)))
+reply-ahead Device e w b m i l = rw (length-take-le i b l)
+reply-ahead Status e w b m i l = refl
+reply-ahead Zero e w b m i l = refl
+reply-ahead Read e w b m i l = rw (length-take-le i b l) (past i 4 (λ h. read-ahead b m i (i - 4) _ h))
+reply-ahead FastRead e w b m i l = rw (length-take-le i b l) (past i 5 (λ h. read-ahead b m i (i - 5) _ (omega arith)))
+reply-ahead Unique e w b m i l = rw (length-take-le i b l)
+reply-ahead Other e w b m i l = refl
+
+pub answer-ahead : (e : Mode) (w : Bool) (b m : List ℕ) (i : ℕ) → i ≤ length b → answerOf e w (exactTrans (take i b)) m
+    ≡ answerOf e w (transAt b i) m
+unfolding answerOf
+answer-ahead e w b m zero l = refl
+answer-ahead e w [] m (suc i) l = absurd (not-suc-le-zero l)
+answer-ahead e w (c ∷ b) m (suc i) l =
+    ap₂ (λ (t : Bool) (r : ℕ). pick t 0xFF r) (ap (λ (k : ℕ). eqb k 0) (length-take-le (suc i) (c ∷ b) l))
+    (reply-ahead (kindOf c) e w (c ∷ b) m (suc i) l)

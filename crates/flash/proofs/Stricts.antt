@@ -12,6 +12,7 @@ use Rattle.flash.specs.Pick.{pick, both}
 use Rattle.flash.specs.Board.{Board}
 use Rattle.flash.specs.Run.{Good}
 use Rattle.flash.specs.Xfer.{kindOf}
+use Rattle.flash.specs.Finish.{actOf, writesAfter}
 use Rattle.flash.specs.Sheet.{member, code}
 use Rattle.flash.specs.Departures.{answerAt}
 use Rattle.flash.specs.Strict.{Idles, Strictly}
@@ -22,8 +23,8 @@ use Rattle.flash.specs.declared.Act.the-variants.{Nothing, Erase, EraseA
 use Rattle.flash.specs.declared.Block.the-variants.{Sector, Half, Full}
 use Rattle.flash.proofs.Bools.{no-way}
 use Rattle.flash.proofs.Laws.{or-case}
-use Rattle.flash.proofs.Whole.{actW, writesAfter}
-use Rattle.flash.proofs.Conform.{done, whole, act-cons, mayErase, mayWipe, at-header, ends-whole, writes-whole}
+use Rattle.flash.proofs.Whole.{exactTrans}
+use Rattle.flash.proofs.Conform.{stateAfterAct, act-cons, mayErase, mayWipe, ends-whole, writes-whole}
 use Rattle.flash.proofs.Differ.{kind-at, strict-long}
 
 -- a test that fails allows nothing
@@ -33,15 +34,16 @@ forbidden false u a h = refl
 
 module _ (w : Board) (g : Good (w .array)) (s : w .chip .cs ≡ false) (r : w .chip .mode ≡ Strict) where
   -- an order that is none
-  idle : (bs : List ℕ) → actW (whole Strict (w .chip .wel) bs) ≡ Nothing → Idles w bs
+  idle : (bs : List ℕ) → actOf Strict (w .chip .wel) (exactTrans bs) ≡ Nothing → Idles w bs
   idle bs h =
-      let e : actW (whole (w .chip .mode) (w .chip .wel) bs) ≡ Nothing = rw r h in
+      let e : actOf (w .chip .mode) (w .chip .wel) (exactTrans bs) ≡ Nothing = rw r h in
       record {
-        ends = ends-whole w bs g s ∙ ap (done (w .chip .wel) (w .array) bs) e;
+        ends = ends-whole w bs g s ∙ ap (stateAfterAct (w .chip .wel) (w .array) bs) e;
         writes = writes-whole w bs g s ∙ ap (λ (a : Act). writesAfter a (w .chip .writes)) e;
       }
 
-  at-code : (c k : ℕ) (bs : List ℕ) → eqb c k ≡ true → actW (whole Strict (w .chip .wel) (k ∷ bs)) ≡ Nothing → Idles w (c ∷ bs)
+  at-code : (c k : ℕ) (bs : List ℕ) → eqb c k ≡ true → actOf Strict (w .chip .wel) (exactTrans (k ∷ bs)) ≡ Nothing
+      → Idles w (c ∷ bs)
   at-code c k bs e h = idle (c ∷ bs) (rw (eqb-true c k e) h)
 
   erases : (bs : List ℕ) → member (code bs) (0x20 ∷ 0x52 ∷ 0xD8 ∷ []) ≡ true → (length bs ≡ 4 → ⊥) → Idles w bs
@@ -52,19 +54,22 @@ module _ (w : Board) (g : Good (w .array)) (s : w .chip .cs ≡ false) (r : w .c
       λ a. forbidden (both e (leb 4 (suc (length bs)))) (eqb (suc (length bs)) 4) a (ne-eqb (suc (length bs)) 4 h) in
       or-case (eqb c 0x20) _ m (λ k. at-code c 0x20 bs k (act-cons Strict e 0x20 bs ∙ stop (Erase Sector))) λ m.
       or-case (eqb c 0x52) _ m (λ k. at-code c 0x52 bs k (act-cons Strict e 0x52 bs ∙ stop (Erase Half))) λ m.
-      or-case (eqb c 0xD8) _ m (λ k. at-code c 0xD8 bs k (act-cons Strict e 0xD8 bs ∙ stop (Erase Full))) λ m. absurd (no-way m)
+      or-case (eqb c 0xD8) _ m (λ k. at-code c 0xD8 bs k (act-cons Strict e 0xD8 bs ∙ stop (Erase Full))) λ m. absurd
+      (no-way m)
 
   wipes : (bs : List ℕ) → member (code bs) (0xC7 ∷ 0x60 ∷ []) ≡ true → (length bs ≡ 1 → ⊥) → Idles w bs
   wipes [] m h = absurd (no-way m)
   wipes (c ∷ bs) m h =
       let e : Bool = w .chip .wel in
-      let stop : pick (mayWipe Strict e (suc (length bs))) EraseAll Nothing ≡ Nothing = forbidden e (eqb (suc (length bs)) 1) EraseAll (ne-eqb (suc (length bs)) 1 h) in
+      let stop : pick (mayWipe Strict e (suc (length bs))) EraseAll Nothing
+      ≡ Nothing = forbidden e (eqb (suc (length bs)) 1) EraseAll (ne-eqb (suc (length bs)) 1 h) in
       or-case (eqb c 0xC7) _ m (λ k. at-code c 0xC7 bs k (act-cons Strict e 0xC7 bs ∙ stop)) λ m.
       or-case (eqb c 0x60) _ m (λ k. at-code c 0x60 bs k (act-cons Strict e 0x60 bs ∙ stop)) λ m. absurd (no-way m)
 
-  maker : (bs : List ℕ) (i : ℕ) → 4 ≤ i → i ≤ length bs → getD (0x90 ∷ bs) 3 0 % 2 ≡ 1 → answerAt w (0x90 ∷ bs) i ≡ pick (eqb ((i - 4) % 2) 1) 0xEF 0x16
+  maker : (bs : List ℕ) (i : ℕ) → 4 ≤ i → i ≤ length bs → getD (0x90 ∷ bs) 3 0 % 2 ≡ 1
+      → answerAt w (0x90 ∷ bs) i ≡ pick (eqb ((i - 4) % 2) 1) 0xEF 0x16
   unfolding kindOf
-  maker bs i l h o = kind-at w 0x90 bs i Maker refl g s (omega arith) h ∙ rw (r, le-ltb i 4 l, at-header 0x90 bs i 2 (omega arith), o)
+  maker bs i l h o = kind-at w 0x90 bs i Maker refl g s (omega arith) h ∙ rw (r, le-ltb i 4 l, o)
 
   programs : (bs : List ℕ) → code bs ≡ 0x02 → 260 < length bs → Idles w bs
   programs [] m h = absurd (not-suc-le-zero h)

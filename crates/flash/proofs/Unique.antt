@@ -4,7 +4,7 @@ use mathlib.Core.Bool.{cond}
 use mathlib.Core.List.{List}
 use Prim.Native.Nat.{ℕ}
 use lib.Dec.{eqb}
-use Rattle.whole.proofs.Unique.{unique, told}
+use Rattle.whole.proofs.Unique.{unique, same-by-number}
 use Rattle.flash.specs.Board.{Outcome, numberOf, outcome}
 use Rattle.flash.specs.declared.Refusal.{Refusal}
 use Rattle.flash.specs.declared.Refusal.the-variants.{Done, BadMemory}
@@ -17,20 +17,23 @@ refusalOf n = cond (eqb n 0) Done BadMemory
 
 -- a refusal is known by its number
 number-tells : (a b : Refusal) → numberOf a ≡ numberOf b → a ≡ b
-number-tells = told numberOf refusalOf back
+number-tells = same-by-number numberOf refusalOf back
   where
     back : (r : Refusal) → refusalOf (numberOf r) ≡ r
     back Done = refl
     back BadMemory = refl
 
-reply-is : {a b : Refusal} {x y : ℕ} {c d : Chip} → a ≡ b → x ≡ y → c ≡ d → _≡_ {A = Reply} (record { refusal = a; answer = x; chip = c }) (record { refusal = b; answer = y; chip = d })
+reply-is : {a b : Refusal} {x y : ℕ} {c d : Chip} → a ≡ b → x ≡ y → c ≡ d
+    → _≡_ {A = Reply} (record { refusal = a; answer = x; chip = c }) (record { refusal = b; answer = y; chip = d })
 reply-is p q r = rw (p, q, r)
 
 -- of each step there is one answer, one later page and one later array
-pub one-outcome : (d : Outcome) (r s : Reply) (p q m n : List ℕ) → outcome r p m ≡ d → outcome s q n ≡ d → (r ≡ s) × (p ≡ q) × (m ≡ n)
+pub one-outcome : (d : Outcome) (r s : Reply) (p q m n : List ℕ) → outcome r p m ≡ d → outcome s q n ≡ d
+    → (r ≡ s) × (p ≡ q) × (m ≡ n)
 one-outcome d r s p q m n h k =
     let e : outcome r p m ≡ outcome s q n = unique h k in (
-      reply-is (number-tells (r .refusal) (s .refusal) (ap (λ (o : Outcome). o .refusal) e)) (ap (λ (o : Outcome). o .answer) e) (ap (λ (o : Outcome). o .board .chip) e),
+      reply-is (number-tells (r .refusal) (s .refusal) (ap (λ (o : Outcome). o .refusal) e))
+          (ap (λ (o : Outcome). o .answer) e) (ap (λ (o : Outcome). o .board .chip) e),
       ap (λ (o : Outcome). o .board .page) e,
       ap (λ (o : Outcome). o .board .array) e,
     )

@@ -5,9 +5,9 @@ use mathlib.Core.List.{List}
 use mathlib.Core.Path.{_≡_}
 use Rattle.flash.specs.Steps.{Step}
 use Rattle.flash.specs.Board.{Board}
-use Rattle.flash.specs.Run.{run, answers}
+use Rattle.flash.specs.Run.{afterSteps, answers}
 use Rattle.flash.specs.Table.{made}
-use Rattle.flash.specs.Rust.{Sys, ran, rxs, default}
+use Rattle.flash.specs.Rust.{Sys, rustAfterSteps, rxs, default}
 
 -- what can be seen of either
 pub record Seen : Type 0 where
@@ -26,4 +26,4 @@ seen w = record { cs = w .chip .cs; rx = w .chip .rx; wel = w .chip .wel; writes
 -- a chip made in the Rust's mode answers as sys.rs does, whatever reaches it, and leaves what sys.rs leaves
 pub record AsRust (m : List ℕ) (xs : List Step) : Type 0 where
   pub answered : answers (made m) xs ≡ rxs (default m) xs
-  pub left : seen (run (made m) xs) ≡ seenOf (ran (default m) xs)
+  pub left : seen (afterSteps (made m) xs) ≡ seenOf (rustAfterSteps (default m) xs)

@@ -1,4 +1,5 @@
--- `flash.buf`, compact: the first bytes of a transaction, its position, and the running AND of the page that it programs.
+-- `flash.buf`, compact: the first bytes of a transaction, its position, and the running AND of the page that it
+-- programs.
 use Prim.Native.Nat.{ℕ, _+_, _-_, _*_, _%_}
 use mathlib.Core.Bool.{false}
 use mathlib.Core.List.{List}
@@ -10,7 +11,7 @@ use Rattle.flash.specs.declared.Trans.{Trans}
 
 -- the page's running AND over no byte
 unfoldable pub blank : List ℕ
-blank = replicate 256 255
+blank = replicate 256 0xFF
 
 abbrev pub fresh : Trans
 fresh = record { cmd = 0; a1 = 0; a2 = 0; a3 = 0; pos = 0; long = false }
@@ -27,7 +28,8 @@ slot t = (t .a3 + (t .pos - 4) % 256) % 256
 unfoldable pub gathered : Trans → List ℕ → ℕ → List ℕ
 gathered t p b = pick (ltb (t .pos) 4) p (set p (slot t) (bitAnd (getD p (slot t) 0) b))
 
--- `long` marks a transaction of more than 260 bytes, the header and 256 of data, for good
+-- the next byte goes to its place in the header, if it is one of the first four; `long` marks a transaction of more
+-- than 260 bytes, the header and 256 of data, for good
 abbrev pub pushed : Trans → ℕ → ℕ → Trans
 pushed t n b =
     record {

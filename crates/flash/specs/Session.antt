@@ -31,4 +31,5 @@ Follows notHere f = ⊥
 -- the sheet's chip is in state s, ours on the board w
 abbrev pub Session : Board → State → List (List ℕ) → Type 0
 Session w s [] = (w .array ≡ s .array) × (w .chip .wel ≡ s .wel)
-Session w s (bs ∷ bss) = SameReplies w s bs × Follows (afterwards s bs) (λ (t : State). Session (transaction w bs) t bss)
+Session w s (bs ∷ bss) =
+    SameReplies w s bs × Follows (afterwards s bs) (λ (t : State). Session (transaction w bs) t bss)

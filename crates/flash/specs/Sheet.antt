@@ -1,6 +1,7 @@
 -- The W25Q64FV data sheet (SPI mode), from its facts alone: nothing here looks at document 000 or at the chip's code.
--- An instruction is the list of bytes that go in between the falling and the rising edge of /CS, its code first. It finds the chip
--- idle: powered up and not busy. The array's length is the part's size, so that the parts of one family share this page.
+-- An instruction is the list of bytes that go in between the falling and the rising edge of /CS, its code first. It
+-- finds the chip idle: powered up and not busy. The array's length is the part's size, so that the parts of one family
+-- share this page.
 use Prim.Native.Nat.{ℕ, _+_, _-_, _*_, _%_}
 use mathlib.Core.Bool.{Bool, true, false}
 use mathlib.Core.List.{List, [], _∷_, _++_}
@@ -69,9 +70,9 @@ table =
     -- Page Program: 3 address, 1 to 256 data
     ∷ row 0x02 pageProgram
     -- Sector Erase, Block Erase: 3 address
-    ∷ row 0x20 (erase 4096)
-    ∷ row 0x52 (erase 32768)
-    ∷ row 0xD8 (erase 65536)
+    ∷ row 0x20 (erase 0x1000)
+    ∷ row 0x52 (erase 0x8000)
+    ∷ row 0xD8 (erase 0x10000)
     -- Chip Erase
     ∷ row 0xC7 chipErase
     ∷ row 0x60 chipErase
@@ -116,7 +117,8 @@ instruction c = lookup c table (pick (member c others) undescribed noInstruction
 -- ---- what the chip drives on DO
 pub data Says : Type 0 where
   drives : ℕ → Says
-  -- DO is not driven, or the sheet does not say: at the code, the address and the dummies, past the end of what is asked for
+  -- DO is not driven, or the sheet does not say: at the code, the address and the dummies, past the end of what is
+  -- asked for
   unsaid : Says
 
 abbrev pub nth : List ℕ → ℕ → Says
@@ -139,7 +141,8 @@ answer memory p s bs j = nth (s .array) (address bs (length (s .array)) + j)
 answer jedecId p s bs j = nth (p .identity) j
 -- from address 0 the maker and the device by turns, from address 1 the device and the maker
 answer manufacturerDevice p s bs j =
-    pick (ltb (address bs (length (s .array))) 2) (drives (pick (eqb ((address bs (length (s .array)) + j) % 2) 0) 0xEF (p .device))) unsaid
+    pick (ltb (address bs (length (s .array))) 2)
+    (drives (pick (eqb ((address bs (length (s .array)) + j) % 2) 0) 0xEF (p .device))) unsaid
 answer deviceId p s bs j = drives (p .device)
 answer uniqueId p s bs j = nth (p .unique) j
 
@@ -177,14 +180,16 @@ burnt (x ∷ xs) [] = x ∷ xs
 burnt (x ∷ xs) (y ∷ ys) = bitAnd x y ∷ burnt xs ys
 
 unfoldable pub ones : List ℕ
-ones = replicate 256 255
+ones = replicate 256 0xFF
 
-abbrev pub programmed : List ℕ → ℕ → List ℕ → List ℕ
-programmed m a bs = take (a - a % 256) m ++ (burnt (take 256 (drop (a - a % 256) m)) (latched ones (a % 256) bs) ++ drop (a - a % 256 + 256) m)
+abbrev pub arrayAfterProgram : List ℕ → ℕ → List ℕ → List ℕ
+arrayAfterProgram m a bs =
+    take (a - a % 256) m ++ (burnt (take 256 (drop (a - a % 256) m)) (latched ones (a % 256) bs)
+    ++ drop (a - a % 256 + 256) m)
 
 -- the aligned block of k bytes that holds the address
-abbrev pub erased : List ℕ → ℕ → ℕ → List ℕ
-erased m a k = take (a - a % k) m ++ (replicate k 255 ++ drop (a - a % k + k) m)
+abbrev pub arrayAfterErase : List ℕ → ℕ → ℕ → List ℕ
+arrayAfterErase m a k = take (a - a % k) m ++ (replicate k 0xFF ++ drop (a - a % k + k) m)
 
 -- a program or an erase that is executed clears WEL; one that is not leaves all
 abbrev pub executed : Bool → List ℕ → State → After
@@ -194,9 +199,12 @@ abbrev pub afterOf : Instruction → State → List ℕ → After
 afterOf writeEnable s bs = pick (eqb (length bs) 1) (leaves (record { array = s .array; wel = true })) notSaid
 afterOf writeDisable s bs = pick (eqb (length bs) 1) (leaves (record { array = s .array; wel = false })) notSaid
 afterOf (answering h a) s bs = leaves s
-afterOf pageProgram s bs = executed (both (s .wel) (leb 5 (length bs))) (programmed (s .array) (address bs (length (s .array))) (drop 4 bs)) s
-afterOf (erase k) s bs = executed (both (s .wel) (eqb (length bs) 4)) (erased (s .array) (address bs (length (s .array))) k) s
-afterOf chipErase s bs = executed (both (s .wel) (eqb (length bs) 1)) (replicate (length (s .array)) 255) s
+afterOf pageProgram s bs =
+    executed (both (s .wel) (leb 5 (length bs)))
+    (arrayAfterProgram (s .array) (address bs (length (s .array))) (drop 4 bs)) s
+afterOf (erase k) s bs =
+    executed (both (s .wel) (eqb (length bs) 4)) (arrayAfterErase (s .array) (address bs (length (s .array))) k) s
+afterOf chipErase s bs = executed (both (s .wel) (eqb (length bs) 1)) (replicate (length (s .array)) 0xFF) s
 afterOf undescribed s bs = notHere
 afterOf noInstruction s bs = notSaid
 

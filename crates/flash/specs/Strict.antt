@@ -23,6 +23,7 @@ pub record Strictly (w : Board) : Type 0 where
   -- 0xC7 and 0x60 only with one
   pub wipes : (bs : List ℕ) → member (code bs) (0xC7 ∷ 0x60 ∷ []) ≡ true → (length bs ≡ 1 → ⊥) → Idles w bs
   -- 0x90 with address bit 0 set answers 0x16 first, and then by turns
-  pub maker : (bs : List ℕ) (i : ℕ) → 4 ≤ i → i ≤ length bs → getD (0x90 ∷ bs) 3 0 % 2 ≡ 1 → answerAt w (0x90 ∷ bs) i ≡ pick (eqb ((i - 4) % 2) 1) 0xEF 0x16
+  pub maker : (bs : List ℕ) (i : ℕ) → 4 ≤ i → i ≤ length bs → getD (0x90 ∷ bs) 3 0 % 2 ≡ 1
+      → answerAt w (0x90 ∷ bs) i ≡ pick (eqb ((i - 4) % 2) 1) 0xEF 0x16
   -- a program with more than 256 data bytes does nothing and keeps write enable
   pub programs : (bs : List ℕ) → code bs ≡ 0x02 → 260 < length bs → Idles w bs

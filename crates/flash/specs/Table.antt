@@ -26,6 +26,6 @@ maker = 0x90 ∷ 0 ∷ 0 ∷ 0 ∷ 0 ∷ 0 ∷ 0 ∷ []
 -- over this array
 abbrev pub table : List ℕ → List Example
 table m =
-    record { given = answers (made m) (steps identity); said = 0xFF ∷ 0xEF ∷ 0x40 ∷ 0x17 ∷ 0xFF ∷ [] }
-    ∷ record { given = answers (made m) (steps maker); said = 0xFF ∷ 0xFF ∷ 0xFF ∷ 0xFF ∷ 0xEF ∷ 0x16 ∷ 0xEF ∷ [] }
+    record { given = answers (made m) (steps identity); expected = 0xFF ∷ 0xEF ∷ 0x40 ∷ 0x17 ∷ 0xFF ∷ [] }
+    ∷ record { given = answers (made m) (steps maker); expected = 0xFF ∷ 0xFF ∷ 0xFF ∷ 0xFF ∷ 0xEF ∷ 0x16 ∷ 0xEF ∷ [] }
     ∷ []

@@ -12,13 +12,6 @@ pub(crate) fn wide(x: u8) -> usize
     x as usize
 }
 
-// The byte where the test holds, else the old one.
-pub(crate) fn keep(here: bool, byte: u8, old: u8) -> u8
-    ensures { λ r. ⌜ r ≡ pick here byte old ⌝ }
-{
-    if here { byte } else { old }
-}
-
 pub(crate) fn start() -> Trans
     ensures { λ r. ⌜ r ≡ fresh ⌝ }
 {
@@ -40,7 +33,7 @@ pub(crate) fn clear(page: &mut [u8; 256])
 }
 
 fn next(pos: usize, n: usize) -> usize
-    requires { ⌜ n ≤ 8388608 ⌝ }
+    requires { ⌜ n ≤ 0x80_0000 ⌝ }
     ensures { λ r. ⌜ r ≡ nextPos n pos ⌝ }
 {
     if 4 + n <= pos { 5 } else { pos + 1 }
@@ -64,16 +57,24 @@ pub(crate) fn gather(t: Trans, page: &mut [u8; 256], byte: u8)
     page[k] = page[k] & byte;
 }
 
+// The byte where it belongs here, else the one that is there.
+fn byte_if(here: bool, byte: u8, old: u8) -> u8
+    ensures { λ r. ⌜ r ≡ pick here byte old ⌝ }
+{
+    if here { byte } else { old }
+}
+
+// Four choices without a branch: a match on the position would branch at every byte that is sent.
 pub(crate) fn push(t: Trans, n: usize, byte: u8) -> Trans
-    requires { ⌜ n ≤ 8388608 ⌝ }
+    requires { ⌜ n ≤ 0x80_0000 ⌝ }
     ensures { λ r. ⌜ r ≡ pushed t n byte ⌝ }
 {
     let pos = t.pos;
     Trans {
-        cmd: keep(pos == 0, byte, t.cmd),
-        a1: keep(pos == 1, byte, t.a1),
-        a2: keep(pos == 2, byte, t.a2),
-        a3: keep(pos == 3, byte, t.a3),
+        cmd: byte_if(pos == 0, byte, t.cmd),
+        a1: byte_if(pos == 1, byte, t.a1),
+        a2: byte_if(pos == 2, byte, t.a2),
+        a3: byte_if(pos == 3, byte, t.a3),
         pos: next(pos, n),
         long: mark(t.long, pos),
     }

@@ -1,9 +1,11 @@
 // flash_finish: what a deselect does.
 ghost use mathlib.Core.Path.{_≡_};
+ghost use mathlib.Core.Bool.{false};
+ghost use Prim.Native.Nat.{_+_, _%_, _^_};
 ghost use lib.ListN.{length};
-ghost use Rattle.flash.specs.Pick.{pick};
-ghost use Rattle.flash.specs.Board.{Sized};
-ghost use Rattle.flash.specs.Finish.{blockSize, orderOf, actOf, withWel, written, stateAfter, arrayAfter};
+ghost use Rattle.flash.specs.Board.{Sized, withEnable};
+ghost use Rattle.flash.specs.Flash.{deselectAct};
+ghost use Rattle.flash.specs.Finish.{blockSize, orderOf, guardOf, stateAfter, arrayAfter};
 use crate::Act;
 use crate::Block;
 use crate::Chip;
@@ -17,50 +19,63 @@ fn size_of(block: Block) -> usize
     ensures { λ r. ⌜ r ≡ blockSize block ⌝ }
 {
     match block {
-        Block::Sector => 4096,
-        Block::Half => 32768,
-        Block::Full => 65536,
+        Block::Sector => 0x1000,
+        Block::Half => 0x8000,
+        Block::Full => 0x10000,
     }
 }
 
-fn allow(ok: bool, act: Act) -> Act
-    ensures { λ r. ⌜ r ≡ pick ok act Act.Nothing ⌝ }
-{
-    if ok { act } else { Act::Nothing }
-}
-
-fn order(cmd: u8, program: bool, erase: bool, all: bool) -> Act
-    ensures { λ r. ⌜ r ≡ orderOf cmd program erase all ⌝ }
+fn order(cmd: u8) -> Act
+    ensures { λ r. ⌜ r ≡ orderOf cmd ⌝ }
 {
     match cmd {
         0x06 => Act::Enable,
         0x04 => Act::Disable,
-        0x02 => allow(program, Act::Program),
-        0x20 => allow(erase, Act::Erase(Block::Sector)),
-        0x52 => allow(erase, Act::Erase(Block::Half)),
-        0xD8 => allow(erase, Act::Erase(Block::Full)),
-        0xC7 => allow(all, Act::EraseAll),
-        0x60 => allow(all, Act::EraseAll),
+        0x02 => Act::Program,
+        0x20 => Act::Erase(Block::Sector),
+        0x52 => Act::Erase(Block::Half),
+        0xD8 => Act::Erase(Block::Full),
+        0xC7 => Act::EraseAll,
+        0x60 => Act::EraseAll,
         _ => Act::Nothing,
     }
 }
 
-fn decide(chip: Chip) -> Act
-    ensures { λ r. ⌜ r ≡ actOf (chip .mode) (chip .wel) (chip .tx) ⌝ }
+// The guards of the Rust's match, and what strict mode asks for besides.
+fn guard(act: Act, chip: Chip) -> bool
+    ensures { λ r. ⌜ r ≡ guardOf act (chip .mode) (chip .wel) (chip .tx) ⌝ }
 {
     let t = chip.tx;
     let mode = chip.mode;
-    let p = t.pos;
+    let len = t.pos;
     let exact = strict(mode);
-    let program = chip.wel & (5 <= p) & (!exact | !t.long);
-    let erase = chip.wel & (4 <= p) & (!exact | (p == 4));
-    let all = chip.wel & (!exact | (p == 1));
-    let ordered = order(t.cmd, program, erase, all);
-    allow(p != 0, ordered)
+    match act {
+        Act::Nothing => true,
+        Act::Enable => true,
+        Act::Disable => true,
+        Act::Program => chip.wel & (4 < len) & (!exact | !t.long),
+        Act::Erase(_) => chip.wel & (4 <= len) & (!exact | (len == 4)),
+        Act::EraseAll => chip.wel & (!exact | (len == 1)),
+    }
+}
+
+fn decide(chip: Chip) -> Act
+    ensures { λ r. ⌜ r ≡ deselectAct chip ⌝ }
+{
+    let t = chip.tx;
+    let act = order(t.cmd);
+    let ok = guard(act, chip);
+    if t.pos == 0 {
+        return Act::Nothing;
+    }
+    if ok {
+        return act;
+    }
+    Act::Nothing
 }
 
 fn with_wel(chip: Chip, on: bool) -> Chip
-    ensures { λ r. ⌜ r ≡ withWel chip on ⌝ }
+    ensures { λ r. ⌜ r ≡ withEnable chip on (chip .writes) ⌝ }
 {
     let mut next = chip;
     next.wel = on;
@@ -68,7 +83,7 @@ fn with_wel(chip: Chip, on: bool) -> Chip
 }
 
 fn wrote(chip: Chip) -> Chip
-    ensures { λ r. ⌜ r ≡ written chip ⌝ }
+    ensures { λ r. ⌜ r ≡ withEnable chip false ((chip .writes + 1) % 2 ^ 64) ⌝ }
 {
     let mut next = chip;
     next.wel = false;
@@ -78,7 +93,8 @@ fn wrote(chip: Chip) -> Chip
 
 pub(crate) fn finish(chip: Chip, page: &[u8; 256], array: &mut [u8]) -> Chip
     requires { ⌜ Sized (length (now array)) ⌝ }
-    ensures { λ r. ⌜ (r ≡ stateAfter (actOf (chip .mode) (chip .wel) (chip .tx)) chip) × (now (array .exit) ≡ arrayAfter (actOf (chip .mode) (chip .wel) (chip .tx)) (chip .tx) (now (page .entry)) (now (array .entry))) ⌝ }
+    ensures { λ r. ⌜ (r ≡ stateAfter (deselectAct chip) chip) × (now (array .exit) ≡ arrayAfter (deselectAct chip)
+        (chip .tx) (now (page .entry)) (now (array .entry))) ⌝ }
 {
     let t = chip.tx;
     let at = address(t, array.len());

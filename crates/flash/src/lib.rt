@@ -1,15 +1,15 @@
 // The SPI NOR flash: `SpiFlash` of core/src/sys.rs, in its own mode and in the data sheet's.
 //
-// The array is lent. `select` and `transfer` also take the page's running AND as lent memory beside a small struct of scalars,
-// so that a caller that steps often moves few bytes; `SpiFlash` has both in one value.
+// The array is lent. `select` and `transfer` also take the page's running AND as lent memory beside a small struct of
+// scalars, so that a caller that steps often moves few bytes; `SpiFlash` has both in one value.
 mod array;
 mod buf;
 mod finish;
 mod xfer;
 
 ghost use mathlib.Core.Path.{_≡_};
-ghost use Rattle.flash.specs.Board.{board, outcome, served, held, goodSize, refusing, giving};
-ghost use Rattle.flash.specs.Flash.{withCs, begun, selected, transferred, madeIn};
+ghost use Rattle.flash.specs.Board.{board, outcome, served, chipWithPage, withCs, goodSize, refusing, giving};
+ghost use Rattle.flash.specs.Flash.{begun, selected, transferred, madeIn};
 
 // Whose rules hold: document 000's alone, or also those that are named for strict mode.
 pub enum Mode {
@@ -22,8 +22,8 @@ pub enum Refusal {
     BadMemory,
 }
 
-// A transaction: its first four bytes, its position, and whether it has more than 260 bytes. The position is exact through the
-// header and then goes round modulo the array's length, so `long` is a mark of its own.
+// A transaction: its first four bytes, its position, and whether it has more than 260 bytes. The position is exact
+// through the header and then goes round modulo the array's length, so `long` is a mark of its own.
 pub struct Trans {
     pub cmd: u8,
     pub a1: u8,
@@ -82,11 +82,12 @@ pub(crate) enum Block {
 fn good(n: usize) -> bool
     ensures { λ r. ⌜ r ≡ goodSize n ⌝ }
 {
-    (n == 65536)
-        | ((n == 131072)
-            | ((n == 262144)
-                | ((n == 524288)
-                    | ((n == 1048576) | ((n == 2097152) | ((n == 4194304) | (n == 8388608)))))))
+    (n == 0x1_0000)
+        | ((n == 0x2_0000)
+            | ((n == 0x4_0000)
+                | ((n == 0x8_0000)
+                    | ((n == 0x10_0000)
+                        | ((n == 0x20_0000) | ((n == 0x40_0000) | (n == 0x80_0000)))))))
 }
 
 fn refuse(chip: Chip) -> Reply
@@ -130,7 +131,8 @@ fn begin(chip: Chip) -> Chip
 
 // flash_select. A second select is no boundary, and a deselect of the chip that is not selected does nothing.
 pub fn select(chip: Chip, page: &mut [u8; 256], array: &mut [u8], on: bool) -> Reply
-    ensures { λ r. ⌜ outcome r (now (page .exit)) (now (array .exit)) ≡ selected (board chip (now (page .entry)) (now (array .entry))) on ⌝ }
+    ensures { λ r. ⌜ outcome r (now (page .exit)) (now (array .exit)) ≡ selected
+        (board chip (now (page .entry)) (now (array .entry))) on ⌝ }
 {
     let ok = good(array.len());
     let cs = chip.cs;
@@ -153,7 +155,8 @@ pub fn select(chip: Chip, page: &mut [u8; 256], array: &mut [u8], on: bool) -> R
 
 // flash_xfer. It looks at no select: a transfer while unselected counts and answers.
 pub fn transfer(chip: Chip, page: &mut [u8; 256], array: &[u8], byte: u8) -> Reply
-    ensures { λ r. ⌜ outcome r (now (page .exit)) (now (array .entry)) ≡ transferred (board chip (now (page .entry)) (now (array .entry))) byte ⌝ }
+    ensures { λ r. ⌜ outcome r (now (page .exit)) (now (array .entry)) ≡ transferred
+        (board chip (now (page .entry)) (now (array .entry))) byte ⌝ }
 {
     let n = array.len();
     let ok = good(n);
@@ -171,7 +174,7 @@ pub fn transfer(chip: Chip, page: &mut [u8; 256], array: &[u8], byte: u8) -> Rep
 
 // A chip as it is made, in a named mode, and its page.
 pub fn made(mode: Mode, page: &mut [u8; 256]) -> Chip
-    ensures { λ r. ⌜ held r (now (page .exit)) ≡ madeIn mode ⌝ }
+    ensures { λ r. ⌜ chipWithPage r (now (page .exit)) ≡ madeIn mode ⌝ }
 {
     let t = buf::start();
     buf::clear(page);
@@ -216,7 +219,8 @@ impl SpiFlash {
     }
 
     pub fn select(self, array: &mut [u8], on: bool) -> Served
-        ensures { λ r. ⌜ served r (now (array .exit)) ≡ selected (board (self .chip) (self .page) (now (array .entry))) on ⌝ }
+        ensures { λ r. ⌜ served r (now (array .exit)) ≡ selected
+            (board (self .chip) (self .page) (now (array .entry))) on ⌝ }
     {
         let mut page = self.page;
         let chip = self.chip;
@@ -231,7 +235,8 @@ impl SpiFlash {
     }
 
     pub fn transfer(self, array: &[u8], byte: u8) -> Served
-        ensures { λ r. ⌜ served r (now (array .entry)) ≡ transferred (board (self .chip) (self .page) (now (array .entry))) byte ⌝ }
+        ensures { λ r. ⌜ served r (now (array .entry)) ≡ transferred
+            (board (self .chip) (self .page) (now (array .entry))) byte ⌝ }
     {
         let mut page = self.page;
         let chip = self.chip;

@@ -9,7 +9,6 @@ use crate::Kind;
 use crate::Mode;
 use crate::Trans;
 use crate::buf::address;
-use crate::buf::keep;
 
 pub(crate) fn strict(mode: Mode) -> bool
     ensures { λ r. ⌜ r ≡ isStrict mode ⌝ }
@@ -23,7 +22,12 @@ pub(crate) fn strict(mode: Mode) -> bool
 fn identity(i: usize) -> u8
     ensures { λ r. ⌜ r ≡ jedec i ⌝ }
 {
-    keep(i == 1, 0xEF, keep(i == 2, 0x40, keep(i == 3, 0x17, 0xFF)))
+    match i {
+        1 => 0xEF,
+        2 => 0x40,
+        3 => 0x17,
+        _ => 0xFF,
+    }
 }
 
 // The maker's byte and the device's by turns; in strict mode an odd address begins with the device's.
@@ -33,13 +37,22 @@ fn maker(mode: Mode, a3: u8, i: usize) -> u8
 {
     let odd = strict(mode) & (a3 % 2 == 1);
     let second = (i - 4) % 2 == 1;
-    keep(odd, keep(second, 0xEF, 0x16), keep(second, 0x16, 0xEF))
+    if odd {
+        if second {
+            return 0xEF;
+        }
+        return 0x16;
+    }
+    if second {
+        return 0x16;
+    }
+    0xEF
 }
 
 // The byte that is so far on from the address, going round.
 fn read(t: Trans, far: usize, array: &[u8]) -> u8
     requires { ⌜ 0 < length (now array) ⌝ }
-    requires { ⌜ length (now array) ≤ 8388608 ⌝ }
+    requires { ⌜ length (now array) ≤ 0x80_0000 ⌝ }
     ensures { λ r. ⌜ r ≡ readOf t far (now (array .entry)) ⌝ }
 {
     let n = array.len();
@@ -66,7 +79,7 @@ fn decode(cmd: u8) -> Kind
 
 fn respond(kind: Kind, chip: Chip, array: &[u8]) -> u8
     requires { ⌜ 0 < length (now array) ⌝ }
-    requires { ⌜ length (now array) ≤ 8388608 ⌝ }
+    requires { ⌜ length (now array) ≤ 0x80_0000 ⌝ }
     ensures { λ r. ⌜ r ≡ replyTo kind (chip .mode) (chip .wel) (chip .tx) (now (array .entry)) ⌝ }
 {
     let t = chip.tx;
@@ -80,8 +93,18 @@ fn respond(kind: Kind, chip: Chip, array: &[u8]) -> u8
             }
             maker(mode, t.a3, i)
         }
-        Kind::Device => keep(i < 4, 0xFF, 0x16),
-        Kind::Status => keep(chip.wel, 0x02, 0),
+        Kind::Device => {
+            if i < 4 {
+                return 0xFF;
+            }
+            0x16
+        }
+        Kind::Status => {
+            if chip.wel {
+                return 0x02;
+            }
+            0
+        }
         Kind::Zero => 0,
         Kind::Read => {
             if i < 4 {
@@ -95,18 +118,25 @@ fn respond(kind: Kind, chip: Chip, array: &[u8]) -> u8
             }
             read(t, i - 5, array)
         }
-        Kind::Unique => keep(i < 5, 0xFF, 0x5A),
+        Kind::Unique => {
+            if i < 5 {
+                return 0xFF;
+            }
+            0x5A
+        }
         Kind::Other => 0xFF,
     }
 }
 
 pub(crate) fn answer(chip: Chip, array: &[u8]) -> u8
     requires { ⌜ 0 < length (now array) ⌝ }
-    requires { ⌜ length (now array) ≤ 8388608 ⌝ }
+    requires { ⌜ length (now array) ≤ 0x80_0000 ⌝ }
     ensures { λ r. ⌜ r ≡ answerOf (chip .mode) (chip .wel) (chip .tx) (now (array .entry)) ⌝ }
 {
     let t = chip.tx;
+    if t.pos == 0 {
+        return 0xFF;
+    }
     let kind = decode(t.cmd);
-    let r = respond(kind, chip, array);
-    keep(t.pos == 0, 0xFF, r)
+    respond(kind, chip, array)
 }

@@ -22,9 +22,11 @@ use Rattle.keys.specs.declared.Keys.{Keys}
 use Rattle.keys.specs.declared.Tap.{Tap}
 use Rattle.keys.specs.declared.Tap.the-variants.{Until, Refused}
 use Rattle.keys.specs.declared.Refusal.the-variants.{Done, BadKey, BadTime, KeysFull}
-use Rattle.keys.specs.Script.{placesOf, waits, freeFrom, freeOf, countedOf, Script, script, Outcome, outcome, placed, putOf, pressOf}
+use Rattle.keys.specs.Script.{placesOf, waits, freeFrom, freeOf, countedOf, Script, script, Outcome, outcome}
+use Rattle.keys.specs.Script.{placed, putOf, pressOf}
 use Rattle.keys.specs.Live as live
-use Rattle.keys.specs.Live.{heldWith, holdsWith, withLive, withHolds, keyRefusal, liveOf, tapOf, tapPut, holdOf, downOf, also, heldFrom, heldOf, tapped}
+use Rattle.keys.specs.Live.{heldWith, holdsWith, withLive, withHolds, keyRefusal, liveOf, tapOf, tapPut, holdOf}
+use Rattle.keys.specs.Live.{downOf, also, heldFrom, heldOf, tapped}
 use Rattle.keys.specs.Lines.{wanted, driven, lines, syncOf}
 use Rattle.keys.specs.Edges.{edgesOf, edgesFrom, pressEdges}
 
@@ -65,7 +67,8 @@ module _ (times : List Float) (count : ℕ) (now : Float) (n : ℕ) where
   unfolding freeOf
   free-start e = rw (sub-zero, e)
 
-  module _ (i : ℕ) (x : Bool) (l : i < n) (e : freeOf times count now ≡ freeFrom (n - i) i times now) (w : x ≡ not (waits (getD times i nan) now)) where
+  module _ (i : ℕ) (x : Bool) (l : i < n) (e : freeOf times count now ≡ freeFrom (n - i) i times now)
+      (w : x ≡ not (waits (getD times i nan) now)) where
     step : freeOf times count now ≡ freeFrom (suc (n - (i + 1))) i times now
     step = let z : n - i ≡ suc (n - (i + 1)) = omega arith in rw z at e
 
@@ -80,8 +83,10 @@ module _ (times : List Float) (count : ℕ) (now : Float) (n : ℕ) where
   free-none i h e = let z : n - i ≡ 0 = omega arith in sym (e ∙ ap (λ (k : ℕ). freeFrom k i times now) z)
 
 -- ---- press
-module _ (times : List Float) (codes : List ℕ) (count code : ℕ) (at now : Float) (p : ℕ) (e : p ≡ freeOf times count now) where
-  pub put-in : (n : ℕ) → p < 64 → n ≡ countedOf p count → outcome Done (script (set times p at) (set codes p code) n) ≡ putOf (script times codes count) code at now
+module _ (times : List Float) (codes : List ℕ) (count code : ℕ) (at now : Float) (p : ℕ)
+    (e : p ≡ freeOf times count now) where
+  pub put-in : (n : ℕ) → p < 64 → n ≡ countedOf p count → outcome Done (script (set times p at) (set codes p code) n)
+      ≡ putOf (script times codes count) code at now
   unfolding putOf placed
   put-in n l k = rw (← e, lt-ltb _ _ l, k)
 
@@ -104,13 +109,16 @@ module _ (s : Script) (key : ℕ) (at now : Float) where
 
   -- what holds after each answer holds after a press
   pub press-each : (P : Outcome → Type 0) → P (outcome BadKey s) → P (outcome BadTime s) → P (outcome KeysFull s)
-      → (key ≤ 2 → T (goodTime at) → freeOf (s .times) (s .count) now < 64 → P (outcome Done (placed s (freeOf (s .times) (s .count) now) key at)))
+      → (key ≤ 2 → T (goodTime at) → freeOf (s .times) (s .count) now < 64
+      → P (outcome Done (placed s (freeOf (s .times) (s .count) now) key at)))
       → P (pressOf s key at now)
   unfolding pressOf putOf
   press-each P k t f d = by (leb key 2) refl (goodTime at) refl (ltb (freeOf (s .times) (s .count) now) 64) refl
     where
-      by : (a : Bool) → leb key 2 ≡ a → (b : Bool) → goodTime at ≡ b → (c : Bool) → ltb (freeOf (s .times) (s .count) now) 64 ≡ c
-          → P (cond a (cond b (cond c (outcome Done (placed s (freeOf (s .times) (s .count) now) key at)) (outcome KeysFull s)) (outcome BadTime s)) (outcome BadKey s))
+      by : (a : Bool) → leb key 2 ≡ a → (b : Bool) → goodTime at ≡ b → (c : Bool)
+          → ltb (freeOf (s .times) (s .count) now) 64 ≡ c
+          → P (cond a (cond b (cond c (outcome Done (placed s (freeOf (s .times) (s .count) now) key at))
+          (outcome KeysFull s)) (outcome BadTime s)) (outcome BadKey s))
       by false p b q c r = k
       by true p false q c r = t
       by true p true q false r = f
@@ -123,23 +131,27 @@ module _ (bits : ℕ) (t : Checked) (h : t ≡ timeOf bits) where
 
   pub tap-good : (key : ℕ) (x : Float) → key ≤ 2 → t ≡ Good x → Until x ≡ tapOf key (ofBits binary64 bits)
   unfolding tapOf
-  tap-good key x l e = rw (le-leb _ _ l) (checked-then (goodTime (ofBits binary64 bits)) bits Until (Refused BadTime) x (sym e ∙ h))
+  tap-good key x l e = rw (le-leb _ _ l) (checked-then (goodTime (ofBits binary64 bits)) bits Until (Refused BadTime)
+      x (sym e ∙ h))
 
   pub bits-bad : t ≡ Bad → goodTime (ofBits binary64 bits) ≡ false
   bits-bad e = checked-bad (goodTime (ofBits binary64 bits)) bits (sym e ∙ h)
 
-  pub press-from : (s : Script) (key : ℕ) (x now : Float) (o : Outcome) → t ≡ Good x → o ≡ pressOf s key x now → o ≡ pressOf s key (ofBits binary64 bits) now
+  pub press-from : (s : Script) (key : ℕ) (x now : Float) (o : Outcome) → t ≡ Good x → o ≡ pressOf s key x now
+      → o ≡ pressOf s key (ofBits binary64 bits) now
   press-from s key x now o e k = rw (← bits-good x e) k
 
 -- ---- live keys and taps
 module _ (k : Keys) (key : ℕ) where
   -- a key past the three changes nothing
-  pub live-by : (down : Bool) → live.outcome (keyRefusal key) (withLive k (heldWith (k .live) key down)) ≡ liveOf k key down
+  pub live-by : (down : Bool) → live.outcome (keyRefusal key) (withLive k (heldWith (k .live) key down)) ≡ liveOf k
+      key down
   unfolding keyRefusal liveOf
   live-by down = by (leb key 2) refl
     where
       by : (b : Bool) → leb key 2 ≡ b
-          → live.outcome (cond b Done BadKey) (withLive k (heldWith (k .live) key down)) ≡ cond b (live.outcome Done (withLive k (heldWith (k .live) key down))) (live.outcome BadKey k)
+          → live.outcome (cond b Done BadKey) (withLive k (heldWith (k .live) key down)) ≡ cond b
+          (live.outcome Done (withLive k (heldWith (k .live) key down))) (live.outcome BadKey k)
       by true e = refl
       by false e =
           let h : 2 < key = leb-false key 2 e in
@@ -150,7 +162,8 @@ module _ (k : Keys) (key : ℕ) where
   hold-by until e = rw e (by (leb key 2) (goodTime until))
     where
       by : (b g : Bool) → tapPut k key (cond b (cond g (Until until) (Refused BadTime)) (Refused BadKey))
-          ≡ cond b (cond g (live.outcome Done (withHolds k (holdsWith (k .holds) key until))) (live.outcome BadTime k)) (live.outcome BadKey k)
+          ≡ cond b (cond g (live.outcome Done (withHolds k (holdsWith (k .holds) key until)))
+          (live.outcome BadTime k)) (live.outcome BadKey k)
       by false g = refl
       by true false = refl
       by true true = refl
@@ -212,11 +225,13 @@ module _ (times : List Float) (now t : Float) where
   unfolding edgesFrom
   edges-none = refl
 
-  pub edges-more : (r : Float) (i : ℕ) → r ≡ edgesFrom times now t i → edgesOf (getD times i nan) now r ≡ edgesFrom times now t (i + 1)
+  pub edges-more : (r : Float) (i : ℕ) → r ≡ edgesFrom times now t i → edgesOf (getD times i nan) now r ≡ edgesFrom
+      times now t (i + 1)
   unfolding edgesFrom
   edges-more r i e = rw (add-one, e)
 
-  pub edges-all : (count n i : ℕ) (r : Float) → n ≡ placesOf count → i ≤ n → n ≤ i → r ≡ edgesFrom times now t i → r ≡ pressEdges times count now t
+  pub edges-all : (count n i : ℕ) (r : Float) → n ≡ placesOf count → i ≤ n → n ≤ i → r ≡ edgesFrom times now t i
+      → r ≡ pressEdges times count now t
   unfolding pressEdges
   edges-all count n i r p a b e = let z : i ≡ n = omega arith in e ∙ rw (z, p)
 
@@ -226,7 +241,8 @@ module _ (gpio : List ℕ) (applied : ℕ) (h : Held) (w : ℕ) (e : w ≡ wante
   unfolding syncOf
   sync-same s = rw (← e, eq-eqb _ _ s)
 
-  pub sync-new : (word d : ℕ) (out : List ℕ) → w ≢ applied → word ≡ loaded gpio 0x20 4 → d ≡ driven word applied w → out ≡ storedAt gpio 0x20 4 d
+  pub sync-new : (word d : ℕ) (out : List ℕ) → w ≢ applied → word ≡ loaded gpio 0x20 4 → d ≡ driven word applied w
+      → out ≡ storedAt gpio 0x20 4 d
       → lines out w ≡ syncOf gpio applied h
   unfolding syncOf
   sync-new word d out s p q r = rw (← e, ne-eqb _ _ s, r, q, p)

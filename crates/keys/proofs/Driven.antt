@@ -6,7 +6,8 @@ use mathlib.Core.List.{List}
 use mathlib.Core.Logic.{_≢_}
 use native.Mathlib.Nat.{mod-eq-of-lt, mod-mod, mod-lt}
 use native.Mathlib.Omega.{arith}
-use lib.Bits.{bitAnd, bitOr, or-lt, and-le-l, and-le-r, and-shr, or-shr, and-mod, or-mod, and-mask, and-zero-r, or-zero-r}
+use lib.Bits.{bitAnd, bitOr, or-lt, and-le-l, and-le-r, and-shr, or-shr, and-mod, or-mod, and-mask, and-zero-r}
+use lib.Bits.{or-zero-r}
 use lib.Dec.{eqb, lit<, lit≤}
 use lib.ListN.{length, getD}
 use borrow.Author.Tests.{ne-eqb}
@@ -44,10 +45,12 @@ bits h = by (h .a) (h .b) (h .c)
 driven-fits : (w applied : ℕ) (h : Held) → w < 2 ^ 32 → driven w applied (wanted h) < 2 ^ 32
 unfolding driven
 driven-fits w applied h l =
-    or-lt 32 (bitAnd w (0xFFFFFFFF - applied)) (wanted h) (omega (arith, and-le-l w (0xFFFFFFFF - applied))) (omega (arith, bits h .high))
+    or-lt 32 (bitAnd w (0xFFFFFFFF - applied)) (wanted h) (omega (arith, and-le-l w (0xFFFFFFFF - applied)))
+    (omega (arith, bits h .high))
 
 -- the lines change
-driven-word : (gpio : List ℕ) (applied : ℕ) (h : Held) → 36 ≤ length gpio → loaded (storedAt gpio 0x20 4 (driven (word gpio) applied (wanted h))) 0x20 4
+driven-word : (gpio : List ℕ) (applied : ℕ) (h : Held) → 36 ≤ length gpio
+    → loaded (storedAt gpio 0x20 4 (driven (word gpio) applied (wanted h))) 0x20 4
     ≡ driven (word gpio) applied (wanted h)
 driven-word gpio applied h l =
     load-store gpio 0x20 4 (driven (word gpio) applied (wanted h)) (lit≤ tt) l
@@ -61,7 +64,8 @@ high-kept w applied h l a =
     let s : w / 2 ^ 8 < 2 ^ 24 = omega arith in
     rw (or-shr, and-shr, m, bits h .high, or-zero-r) (and-mask (w / 2 ^ 8) 24 ∙ mod-eq-of-lt s)
 
-low-kept : (w applied : ℕ) (h : Held) → applied ≤ 0xE0 → applied % 32 ≡ 0 → driven w applied (wanted h) % 2 ^ 5 ≡ w % 2 ^ 5
+low-kept : (w applied : ℕ) (h : Held) → applied ≤ 0xE0 → applied % 32 ≡ 0 → driven w applied (wanted h) % 2 ^ 5 ≡ w %
+    2 ^ 5
 unfolding driven
 low-kept w applied h a z =
     let m : (0xFFFFFFFF - applied) % 2 ^ 5 ≡ 2 ^ 5 - 1 = omega arith in
@@ -81,17 +85,20 @@ line (suc (suc x)) y on h k = absurd (let z : ⊥ = omega arith in z)
 line zero (suc (suc y)) on h k = absurd (let z : ⊥ = omega arith in z)
 line (suc zero) (suc (suc y)) on h k = absurd (let z : ⊥ = omega arith in z)
 
-line-driven : (k w applied want : ℕ) (on : Bool) → (0xFFFFFFFF - applied) / 2 ^ k % 2 ^ 1 ≡ 1 - applied / 2 ^ k % 2 → want / 2 ^ k % 2 ^ 1 ≡ cond on 1 0
+line-driven : (k w applied want : ℕ) (on : Bool) → (0xFFFFFFFF - applied) / 2 ^ k % 2 ^ 1 ≡ 1 - applied / 2 ^ k % 2
+    → want / 2 ^ k % 2 ^ 1 ≡ cond on 1 0
     → driven w applied want / 2 ^ k % 2 ^ 1 ≡ lineOf on (applied / 2 ^ k % 2) (w / 2 ^ k % 2)
 unfolding driven
 line-driven k w applied want on m e =
-    rw (or-shr, or-mod, and-shr, and-mod, m, e) (line (w / 2 ^ k % 2) (applied / 2 ^ k % 2) on (mod-lt (w / 2 ^ k) (lit< tt)) (mod-lt (applied / 2 ^ k) (lit< tt)))
+    rw (or-shr, or-mod, and-shr, and-mod, m, e) (line (w / 2 ^ k % 2) (applied / 2 ^ k % 2) on
+    (mod-lt (w / 2 ^ k) (lit< tt)) (mod-lt (applied / 2 ^ k) (lit< tt)))
 
 -- ---- the memory after the lines are driven
 module _ (gpio : List ℕ) (applied : ℕ) (h : Held) where
   -- bits but 5, 6 and 7 of the word stay
   pub other-bits-kept : 36 ≤ length gpio → bitAnd applied 0xE0 ≡ applied
-      → (word (syncOf gpio applied h .gpio) / 256 ≡ word gpio / 256) × (word (syncOf gpio applied h .gpio) % 32 ≡ word gpio % 32)
+      → (word (syncOf gpio applied h .gpio) / 256 ≡ word gpio / 256) × (word (syncOf gpio applied h .gpio) % 32 ≡ word
+      gpio % 32)
   unfolding syncOf
   other-bits-kept l a = by (eqb (wanted h) applied)
     where
@@ -101,15 +108,18 @@ module _ (gpio : List ℕ) (applied : ℕ) (h : Held) where
       none : applied % 32 ≡ 0
       none = let z : bitAnd applied 0xE0 % 2 ^ 5 ≡ 0 = rw and-mod (and-zero-r (applied % 2 ^ 5)) in rw a at z
 
-      by : (t : Bool) → let m = cond t (lines gpio applied) (lines (storedAt gpio 0x20 4 (driven (word gpio) applied (wanted h))) (wanted h)) .gpio in
+      by : (t : Bool) → let m = cond t (lines gpio applied)
+          (lines (storedAt gpio 0x20 4 (driven (word gpio) applied (wanted h))) (wanted h)) .gpio in
           (word m / 256 ≡ word gpio / 256) × (word m % 32 ≡ word gpio % 32)
       by true = (refl, refl)
       by false = (
-        ap (λ (w : ℕ). w / 256) (driven-word gpio applied h l) ∙ high-kept (word gpio) applied h (load-fits gpio 0x20 4) most,
+        ap (λ (w : ℕ). w / 256) (driven-word gpio applied h l) ∙ high-kept (word gpio) applied h
+            (load-fits gpio 0x20 4) most,
         ap (λ (w : ℕ). w % 32) (driven-word gpio applied h l) ∙ low-kept (word gpio) applied h most none,
       )
 
-  -- where what is wanted changed, each line is up if it is wanted, down if it was applied and is wanted no more, and else as it was
+  -- where what is wanted changed, each line is up if it is wanted, down if it was applied and is wanted no more, and
+  -- else as it was
   pub lines-driven : 36 ≤ length gpio → applied < 2 ^ 32 → wanted h ≢ applied
       → (word (syncOf gpio applied h .gpio) / 0x20 % 2 ≡ lineOf (h .a) (applied / 0x20 % 2) (word gpio / 0x20 % 2))
       × (word (syncOf gpio applied h .gpio) / 0x40 % 2 ≡ lineOf (h .b) (applied / 0x40 % 2) (word gpio / 0x40 % 2))
@@ -127,6 +137,7 @@ module _ (gpio : List ℕ) (applied : ℕ) (h : Held) where
   unfolding syncOf
   other-bytes-kept p o = by (eqb (wanted h) applied)
     where
-      by : (t : Bool) → getD (cond t (lines gpio applied) (lines (storedAt gpio 0x20 4 (driven (word gpio) applied (wanted h))) (wanted h)) .gpio) p 0 ≡ getD gpio p 0
+      by : (t : Bool) → getD (cond t (lines gpio applied)
+          (lines (storedAt gpio 0x20 4 (driven (word gpio) applied (wanted h))) (wanted h)) .gpio) p 0 ≡ getD gpio p 0
       by true = refl
       by false = byte-other gpio 0x20 4 (driven (word gpio) applied (wanted h)) p o

@@ -1,5 +1,5 @@
--- A press that has expired says nothing any more, so its place can be given to another: no key is down for it, no edge of it is
--- ahead, and it stays so. And a press is seen: its time lies before its end.
+-- A press that has expired says nothing any more, so its place can be given to another: no key is down for it, no
+-- edge of it is ahead, and it stays so. And a press is seen: its time lies before its end.
 use Prim.Native.Nat.{ℕ, _*_, _^_}
 use mathlib.Core.Path.{_≡_, refl, ap, _∙_}
 use mathlib.Core.Bool.{Bool, true, false, _&&_, and-false}
@@ -24,13 +24,15 @@ use Rattle.keys.proofs.Cases.{up-still}
 not-lt-of-le : (x y : Float) → Clear x → Clear y → T (le x y) → lt y x ≡ false
 unfolding lt
 not-lt-of-le x y p q h =
-    any2 (λ (x y : Float). T (le x y) → lt y x ≡ false) (λ m e n d h. le-ltb (n * up d * down e) (m * up e * down d) (cross m e n d h)) x y p q h
+    any2 (λ (x y : Float). T (le x y) → lt y x ≡ false) (λ m e n d h. le-ltb (n * up d * down e) (m * up e * down d)
+    (cross m e n d h)) x y p q h
 
 pub le-of-before : (x y : Float) → Clear x → Clear y → lt x y ≡ true → T (le x y)
 unfolding lt
 le-of-before x y p q h =
     any2 (λ (x y : Float). lt x y ≡ true → T (le x y))
-    (λ m e n d h. le-of-values (fin false m e) (fin false n d) (m * up e) (down e) (n * up d) (down d) (down-pos e) (down-pos d) (refl, refl) (refl, refl)
+    (λ m e n d h. le-of-values (fin false m e) (fin false n d) (m * up e) (down e) (n * up d) (down d) (down-pos e)
+    (down-pos d) (refl, refl) (refl, refl)
     (le-of-lt (ltb-true (m * up e * down d) (n * up d * down e) h)))
     x y p q h
 
@@ -70,7 +72,8 @@ module _ (t now : Float) (good : T (goodTime t)) (time : T (goodTime now)) where
   -- it began before
   pub expired-began : waits t now ≡ false → lt now t ≡ false
   expired-began w =
-      let end : T (le t (endOf t)) = le-of-before t (endOf t) (good-clear t good) (end-clear t good) (before-end t good) in
+      let end : T (le t (endOf t)) = le-of-before t (endOf t) (good-clear t good) (end-clear t good)
+      (before-end t good) in
       not-lt-of-le t now (good-clear t good) (good-clear now time)
       (le-trans-clear t (endOf t) now (good-clear t good) (end-clear t good) (good-clear now time) end (past w))
 
@@ -80,7 +83,8 @@ module _ (t now : Float) (good : T (goodTime t)) (time : T (goodTime now)) where
   expired-past so w = rw (w, expired-began w)
 
   -- and at no later time does it wait again
-  pub expired-stays : (later : Float) → T (goodTime later) → T (le now later) → waits t now ≡ false → waits t later ≡ false
+  pub expired-stays : (later : Float) → T (goodTime later) → T (le now later) → waits t now ≡ false
+      → waits t later ≡ false
   expired-stays later g l w =
       not-lt-of-le (endOf t) later (end-clear t good) (good-clear later g)
       (le-trans-clear (endOf t) now later (end-clear t good) (good-clear now time) (good-clear later g) (past w) l)

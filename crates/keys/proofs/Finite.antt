@@ -1,4 +1,5 @@
--- Within the limits the next edge is finite with a clear sign, if the time so far is: `min` meets no NaN and no negative zero.
+-- Within the limits the next edge is finite with a clear sign, if the time so far is: `min` meets no NaN and no
+-- negative zero.
 use Prim.Native.Nat.{ℕ, zero, suc, _^_, _≤_, _<_}
 use mathlib.Core.Bool.{Bool, true, false, cond}
 use mathlib.Core.List.{List}
@@ -36,7 +37,8 @@ module _ (n : ℕ) (room : 2 ^ 22 ≤ n) (now : Float) where
   good : (k : Float) → T (goodTime k) → AtMost k n
   good k g = weaken k (2 ^ 21) n (le-trans (lit≤ tt) room) (good-at-most k g)
 
-  pub edges-at-most : (times : List Float) (t : Float) (m : ℕ) → ((i : ℕ) → i < m → T (goodTime (getD times i nan))) → AtMost t n → AtMost (edgesFrom times now t m) n
+  pub edges-at-most : (times : List Float) (t : Float) (m : ℕ) → ((i : ℕ) → i < m → T (goodTime (getD times i nan)))
+      → AtMost t n → AtMost (edgesFrom times now t m) n
   unfolding edgesFrom
   edges-at-most times t zero g p = p
   edges-at-most times t (suc m) g p =
@@ -52,6 +54,7 @@ module _ (n : ℕ) (room : 2 ^ 22 ≤ n) (now : Float) where
       let e = edgesFrom (b .times) now t (placesOf (b .keys .count)) in
       after-at-most (afterOf now (afterOf now e (h .a)) (h .b)) (h .c)
       (after-at-most (afterOf now e (h .a)) (h .b)
-      (after-at-most e (h .a) (edges-at-most (b .times) t (placesOf (b .keys .count)) (λ i l. w .presses i l .time) p) (good (h .a) (w .hold-a)))
+      (after-at-most e (h .a) (edges-at-most (b .times) t (placesOf (b .keys .count)) (λ i l. w .presses i l .time) p)
+      (good (h .a) (w .hold-a)))
       (good (h .b) (w .hold-b)))
       (good (h .c) (w .hold-c))

@@ -9,17 +9,11 @@ use lib.Dec.{ltb, leb, eqb}
 use lib.ListN.{getD}
 use lib.Ieee.{Float, nan}
 use borrow.Author.Tests.{ltb-true, ltb-false, eq-eqb, ne-eqb}
+use Rattle.whole.proofs.Choice.{le-or-lt}
 use Rattle.whole.specs.Limits.{goodTime}
 use Rattle.keys.specs.Script.{placesOf, waits, waitingIn, freeFrom, freeOf, Script, outcome, putOf, pressOf}
 use Rattle.keys.specs.declared.Refusal.the-variants.{Done, BadKey, BadTime, KeysFull}
 use Rattle.keys.proofs.Cases.{places-most, from-waits, from-expired}
-
-pub le-or-lt : (a b : ℕ) → (a ≤ b) ⊎ (b < a)
-le-or-lt a b = by (ltb b a) refl
-  where
-    by : (t : Bool) → ltb b a ≡ t → (a ≤ b) ⊎ (b < a)
-    by true h = inr (ltb-true b a h)
-    by false h = inl (ltb-false b a h)
 
 module _ (times : List Float) (now : Float) where
   abbrev waitsAt : ℕ → Bool
@@ -47,10 +41,12 @@ module _ (times : List Float) (now : Float) where
   free-before zero i j l m = absurd (let z : ⊥ = omega arith in z)
   free-before (suc n) i j l m = by (waitsAt i) refl (free-before n (i + 1) j) (le-or-lt (i + 1) j)
     where
-      by : (b : Bool) → waitsAt i ≡ b → (i + 1 ≤ j → j < found n (i + 1) → waitsAt j ≡ true) → (i + 1 ≤ j) ⊎ (j < i + 1) → waitsAt j ≡ true
+      by : (b : Bool) → waitsAt i ≡ b → (i + 1 ≤ j → j < found n (i + 1) → waitsAt j ≡ true)
+          → (i + 1 ≤ j) ⊎ (j < i + 1) → waitsAt j ≡ true
       by true h r (inl k) = let e : found (suc n) i ≡ found n (i + 1) = from-waits times now n i h in r k (omega arith)
       by true h r (inr k) = let e : j ≡ i = omega arith in ap waitsAt e ∙ h
-      by false h r k = let e : found (suc n) i ≡ i = from-expired times now n i h in absurd (let z : ⊥ = omega arith in z)
+      by false h r k = let e : found (suc n) i ≡ i = from-expired times now n i h in absurd
+          (let z : ⊥ = omega arith in z)
 
   -- and the press at the place that is found has expired
   pub free-at : (n i : ℕ) → found n i < i + n → waitsAt (found n i) ≡ false
@@ -58,8 +54,10 @@ module _ (times : List Float) (now : Float) where
   free-at zero i l = absurd (let z : ⊥ = omega arith in z)
   free-at (suc n) i l = by (waitsAt i) refl (free-at n (i + 1))
     where
-      by : (b : Bool) → waitsAt i ≡ b → (found n (i + 1) < (i + 1) + n → waitsAt (found n (i + 1)) ≡ false) → waitsAt (found (suc n) i) ≡ false
-      by true h r = let e : found (suc n) i ≡ found n (i + 1) = from-waits times now n i h in ap waitsAt e ∙ r (omega arith)
+      by : (b : Bool) → waitsAt i ≡ b → (found n (i + 1) < (i + 1) + n → waitsAt (found n (i + 1)) ≡ false)
+          → waitsAt (found (suc n) i) ≡ false
+      by true h r = let e : found (suc n) i ≡ found n (i + 1) = from-waits times now n i h in ap waitsAt e ∙ r
+          (omega arith)
       by false h r = ap waitsAt (from-expired times now n i h) ∙ h
 
   -- ---- the count of those that wait
@@ -112,7 +110,8 @@ module _ (times : List Float) (now : Float) where
           let f : found n 0 < 64 = ltb-true (found n 0) 64 h in
           let w : found n 0 ≤ 0 + n = free-between n 0 .1 in
           let m : many n ≤ n = many-most n in
-          rw (ne-eqb (many n) 64 (λ e. let q : found n 0 < n = omega arith in let r : many n < n = many-lack n (found n 0) q (free-at n 0 (omega arith)) in omega arith))
+          rw (ne-eqb (many n) 64 (λ e. let q : found n 0 < n = omega arith in let r : many n < n = many-lack n
+          (found n 0) q (free-at n 0 (omega arith)) in omega arith))
       by false h =
           let f : 64 ≤ found n 0 = ltb-false (found n 0) 64 h in
           let w : found n 0 ≤ 0 + n = free-between n 0 .1 in
@@ -121,7 +120,8 @@ module _ (times : List Float) (now : Float) where
 
 -- 8, 1, 3: KeysFull exactly where 64 presses have time + 0.15 > now
 pub keys-full : (s : Script) (key : ℕ) (at now : Float)
-    → pressOf s key at now .refusal ≡ cond (leb key 2) (cond (goodTime at) (cond (eqb (waitingIn (s .times) now (placesOf (s .count))) 64) 3 0) 1) 8
+    → pressOf s key at now .refusal ≡ cond (leb key 2)
+    (cond (goodTime at) (cond (eqb (waitingIn (s .times) now (placesOf (s .count))) 64) 3 0) 1) 8
 unfolding pressOf putOf freeOf
 keys-full s key at now = by (leb key 2) (goodTime at)
   where
@@ -133,4 +133,5 @@ keys-full s key at now = by (leb key 2) (goodTime at)
         ≡ cond a (cond b (cond (eqb (waitingIn (s .times) now (placesOf (s .count))) 64) 3 0) 1) 8
     by false b = refl
     by true false = refl
-    by true true = put (ltb (freeOf (s .times) (s .count) now) 64) _ ∙ full (s .times) now (placesOf (s .count)) (places-most (s .count))
+    by true true = put (ltb (freeOf (s .times) (s .count) now) 64) _ ∙ full (s .times) now (placesOf (s .count))
+        (places-most (s .count))

@@ -18,7 +18,8 @@ use Rattle.keys.specs.Script.{placesOf, waits, freeFrom, freeOf, counted
 use Rattle.keys.specs.Live.{downOf, also, tapped, heldFrom, heldOf}
 use Rattle.keys.specs.Within.{Press, Within, scriptOf, withCount, withScript, isDown, NoneLost}
 use Rattle.keys.proofs.Cases.{places-most, counted-in, counted-after, press-each}
-use Rattle.keys.proofs.Full.{le-or-lt, free-between, free-at}
+use Rattle.keys.proofs.Full.{free-between, free-at}
+use Rattle.whole.proofs.Choice.{le-or-lt}
 use Rattle.keys.proofs.Expired.{down-at-once}
 
 -- ---- the count
@@ -39,7 +40,8 @@ pub record Grown (p count : ℕ) : Type 0 where
 pub grown : (p count : ℕ) → p ≤ placesOf count → p < 64 → Grown p count
 grown p count h l = by (ltb p (placesOf count)) refl
   where
-    from : (c : ℕ) → c ≡ countedOf p count → c ≤ 64 → p < c → placesOf count ≤ c → ((i : ℕ) → i < c → i ≢ p → i < placesOf count) → Grown p count
+    from : (c : ℕ) → c ≡ countedOf p count → c ≤ 64 → p < c → placesOf count ≤ c
+        → ((i : ℕ) → i < c → i ≢ p → i < placesOf count) → Grown p count
     from c e m a b o =
         let q : placesOf (countedOf p count) ≡ c = ap placesOf (sym e) ∙ places-is c m in
         record { most = omega arith; here = omega arith; kept = omega arith; only = λ i k d. o i (omega arith) d }
@@ -47,17 +49,21 @@ grown p count h l = by (ltb p (placesOf count)) refl
     by : (b : Bool) → ltb p (placesOf count) ≡ b → Grown p count
     by true t =
         let a : p < placesOf count = ltb-true p (placesOf count) t in
-        from (placesOf count) (counted-in p count (placesOf count) refl a) (places-most count) a (omega arith) (λ i k d. k)
+        from (placesOf count) (counted-in p count (placesOf count) refl a) (places-most count) a (omega arith)
+        (λ i k d. k)
     by false t =
         let a : placesOf count ≤ p = ltb-false p (placesOf count) t in
-        from (p + 1) (counted-after p count (placesOf count) refl a) (omega arith) (omega arith) (omega arith) (λ i k d. omega arith)
+        from (p + 1) (counted-after p count (placesOf count) refl a) (omega arith) (omega arith) (omega arith)
+        (λ i k d. omega arith)
 
 -- the place of a press, among those that it finds
 pub place-most : (times : List Float) (count : ℕ) (now : Float) → freeOf times count now ≤ placesOf count
 unfolding freeOf
-place-most times count now = let l : freeFrom (placesOf count) 0 times now ≤ 0 + placesOf count = free-between times now (placesOf count) 0 .1 in omega arith
+place-most times count now = let l : freeFrom (placesOf count) 0 times now ≤ 0 + placesOf count = free-between times
+    now (placesOf count) 0 .1 in omega arith
 
-place-expired : (times : List Float) (count : ℕ) (now : Float) → freeOf times count now < placesOf count → waits (getD times (freeOf times count now) nan) now ≡ false
+place-expired : (times : List Float) (count : ℕ) (now : Float) → freeOf times count now < placesOf count
+    → waits (getD times (freeOf times count now) nan) now ≡ false
 unfolding freeOf
 place-expired times count now l = free-at times now (placesOf count) 0 (omega arith)
 
@@ -67,9 +73,11 @@ pub put-keeps : (s : Script) (key : ℕ) (at now : Float) → freeOf (s .times) 
 unfolding placed
 put-keeps s key at now l i m w =
     let p = freeOf (s .times) (s .count) now in
-    let g : placesOf (s .count) ≤ placesOf (countedOf p (s .count)) = grown p (s .count) (place-most (s .times) (s .count) now) l .kept in
+    let g : placesOf (s .count) ≤ placesOf (countedOf p (s .count)) = grown p (s .count)
+    (place-most (s .times) (s .count) now) l .kept in
     let apart : i ≢ p =
-    λ e. true≢false (sym w ∙ ap (λ (j : ℕ). waits (getD (s .times) j nan) now) e ∙ place-expired (s .times) (s .count) now (omega arith)) in
+    λ e. true≢false (sym w ∙ ap (λ (j : ℕ). waits (getD (s .times) j nan) now) e ∙ place-expired (s .times) (s .count)
+    now (omega arith)) in
     record {
       place = omega arith;
       time = getD-set-other (s .times) p i at nan apart;
@@ -77,13 +85,15 @@ put-keeps s key at now l i m w =
     }
 
 pub none-lost : (s : Script) (key : ℕ) (at now : Float) → NoneLost s (pressOf s key at now .script) now
-none-lost s key at now = press-each s key at now (λ (o : Outcome). NoneLost s (o .script) now) same same same (λ k g l. put-keeps s key at now l)
+none-lost s key at now = press-each s key at now (λ (o : Outcome). NoneLost s (o .script) now) same same same
+    (λ k g l. put-keeps s key at now l)
   where
     same : NoneLost s s now
     same i l w = record { place = l; time = refl; code = refl }
 
 -- ---- an accepted press is down at its time
-pub stays : (h : Held) (t : Float) (code : ℕ) (now : Float) (key : ℕ) → key ≤ 2 → isDown h key ≡ true → isDown (also h t code now) key ≡ true
+pub stays : (h : Held) (t : Float) (code : ℕ) (now : Float) (key : ℕ) → key ≤ 2 → isDown h key ≡ true
+    → isDown (also h t code now) key ≡ true
 stays h t code now zero k d = rw d
 stays h t code now (suc zero) k d = rw d
 stays h t code now (suc (suc zero)) k d = rw d
@@ -95,11 +105,13 @@ lands h t now (suc zero) k d = rw (d, or-true (h .b))
 lands h t now (suc (suc zero)) k d = rw (d, or-true (h .c))
 lands h t now (suc (suc (suc key))) k d = absurd (let z : ⊥ = omega arith in z)
 
-pub down-in : (times : List Float) (codes : List ℕ) (h : Held) (now : Float) (key n i : ℕ) → key ≤ 2 → i < n → downOf (getD times i nan) now ≡ true
+pub down-in : (times : List Float) (codes : List ℕ) (h : Held) (now : Float) (key n i : ℕ) → key ≤ 2 → i < n
+    → downOf (getD times i nan) now ≡ true
     → getD codes i 0 ≡ key → isDown (heldFrom times codes h now n) key ≡ true
 unfolding heldFrom
 down-in times codes h now key zero i k l d e = absurd (let z : ⊥ = omega arith in z)
-down-in times codes h now key (suc n) i k l d e = by (le-or-lt (i + 1) n) (λ m. down-in times codes h now key n i k m d e)
+down-in times codes h now key (suc n) i k l d e = by (le-or-lt (i + 1) n) (λ m. down-in times codes h now key n i k m
+    d e)
   where
     by : (i + 1 ≤ n) ⊎ (n < i + 1) → (i < n → isDown (heldFrom times codes h now n) key ≡ true)
         → isDown (also (heldFrom times codes h now n) (getD times n nan) (getD codes n 0) now) key ≡ true
@@ -108,36 +120,54 @@ down-in times codes h now key (suc n) i k l d e = by (le-or-lt (i + 1) n) (λ m.
         let z : i ≡ n = omega arith in
         rw (← z, e) (lands (heldFrom times codes h now i) (getD times i nan) now key k d)
 
-pub press-kept : (s : Script) (key : ℕ) (at now : Float) (k : Keys) → 64 ≤ length (s .times) → 64 ≤ length (s .codes) → pressOf s key at now .refusal ≡ 0
-    → isDown (heldOf (pressOf s key at now .script .times) (pressOf s key at now .script .codes) (withCount k (pressOf s key at now .script .count)) at) key ≡ true
+pub press-kept : (s : Script) (key : ℕ) (at now : Float) (k : Keys) → 64 ≤ length (s .times) → 64 ≤ length (s .codes)
+    → pressOf s key at now .refusal ≡ 0
+    → isDown (heldOf (pressOf s key at now .script .times) (pressOf s key at now .script .codes)
+    (withCount k (pressOf s key at now .script .count)) at) key ≡ true
 unfolding placed heldOf
 press-kept s key at now k a b z =
     press-each s key at now
-    (λ (o : Outcome). o .refusal ≡ 0 → isDown (heldOf (o .script .times) (o .script .codes) (withCount k (o .script .count)) at) key ≡ true)
-    (λ z. absurd (let y : ⊥ = omega arith in y)) (λ z. absurd (let y : ⊥ = omega arith in y)) (λ z. absurd (let y : ⊥ = omega arith in y)) put z
+    (λ (o : Outcome). o .refusal ≡ 0 → isDown (heldOf (o .script .times) (o .script .codes)
+    (withCount k (o .script .count)) at) key ≡ true)
+    (λ z. absurd (let y : ⊥ = omega arith in y)) (λ z. absurd (let y : ⊥ = omega arith in y))
+    (λ z. absurd (let y : ⊥ = omega arith in y)) put z
   where
     put : key ≤ 2 → T (goodTime at) → freeOf (s .times) (s .count) now < 64 → _≡_ {A = ℕ} 0 0
-        → isDown (heldOf (placed s (freeOf (s .times) (s .count) now) key at .times) (placed s (freeOf (s .times) (s .count) now) key at .codes)
+        → isDown (heldOf (placed s (freeOf (s .times) (s .count) now) key at .times)
+        (placed s (freeOf (s .times) (s .count) now) key at .codes)
         (withCount k (placed s (freeOf (s .times) (s .count) now) key at .count)) at) key ≡ true
     put h g l z =
         let p = freeOf (s .times) (s .count) now in
         let t : getD (set (s .times) p at) p nan ≡ at = getD-set-same (s .times) p at nan (omega arith) in
-        down-in (set (s .times) p at) (set (s .codes) p key) (tapped (k .live) (k .holds) at) at key (placesOf (countedOf p (s .count))) p h
+        down-in (set (s .times) p at) (set (s .codes) p key) (tapped (k .live) (k .holds) at) at key
+        (placesOf (countedOf p (s .count))) p h
         (grown p (s .count) (place-most (s .times) (s .count) now) l .here) (rw t (down-at-once at g))
         (getD-set-same (s .codes) p key 0 (omega arith))
 
 -- ---- the limits
-pub laid : (P : Float → ℕ → Type 0) (times : List Float) (codes : List ℕ) (p key : ℕ) (at : Float) (i : ℕ) → p < length times → p < length codes → P at key
+pub laid : (P : Float → ℕ → Type 0) (times : List Float) (codes : List ℕ) (p key : ℕ) (at : Float) (i : ℕ)
+    → p < length times → p < length codes → P at key
     → (i ≢ p → P (getD times i nan) (getD codes i 0)) → P (getD (set times p at) i nan) (getD (set codes p key) i 0)
 laid P times codes p key at i a b new old = by (eqb i p) refl
   where
     by : (t : Bool) → eqb i p ≡ t → P (getD (set times p at) i nan) (getD (set codes p key) i 0)
-    by true e = let z : i ≡ p = eqb-true i p e in rw (z, getD-set-same times p at nan a, getD-set-same codes p key 0 b) new
-    by false e = let d : i ≢ p = eqb-false i p e in rw (getD-set-other times p i at nan d, getD-set-other codes p i key 0 d) (old d)
+    by true e = let z : i ≡ p = eqb-true i p e in rw (
+      z,
+      getD-set-same times p at nan a,
+      getD-set-same codes p key 0
+          b,
+    ) new
+    by false e = let d : i ≢ p = eqb-false i p e in rw (
+      getD-set-other times p i at nan d,
+      getD-set-other codes p i
+          key 0 d,
+    ) (old d)
 
-pub press-within : (b : Buttons) (key : ℕ) (at now : Float) → Within b → Within (withScript b (pressOf (scriptOf b) key at now .script))
+pub press-within : (b : Buttons) (key : ℕ) (at now : Float) → Within b
+    → Within (withScript b (pressOf (scriptOf b) key at now .script))
 unfolding placed
-press-within b key at now w = press-each (scriptOf b) key at now (λ (o : Outcome). Within (withScript b (o .script))) w w w put
+press-within b key at now w = press-each (scriptOf b) key at now (λ (o : Outcome). Within (withScript b (o .script)))
+    w w w put
   where
     put : key ≤ 2 → T (goodTime at) → freeOf (b .times) (b .keys .count) now < 64
         → Within (withScript b (placed (scriptOf b) (freeOf (b .times) (b .keys .count) now) key at))
@@ -148,7 +178,8 @@ press-within b key at now w = press-each (scriptOf b) key at now (λ (o : Outcom
           times = length-set (b .times) p at ∙ w .times;
           codes = length-set (b .codes) p key ∙ w .codes;
           count = c .most;
-          presses = λ i m. laid Press (b .times) (b .codes) p key at i (omega (arith, w .times)) (omega (arith, w .codes)) (record { time = g; key = h }) (λ d. w .presses i (c .only i m d));
+          presses = λ i m. laid Press (b .times) (b .codes) p key at i (omega (arith, w .times))
+              (omega (arith, w .codes)) (record { time = g; key = h }) (λ d. w .presses i (c .only i m d));
           hold-a = w .hold-a;
           hold-b = w .hold-b;
           hold-c = w .hold-c;

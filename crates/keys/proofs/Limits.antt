@@ -28,11 +28,13 @@ fresh-within = record {
   applied = refl;
 }
 
-pub live-within : (b : Buttons) (key : ℕ) (down : Bool) → Within b → Within (withKeys b (liveOf (b .keys) key down .keys))
+pub live-within : (b : Buttons) (key : ℕ) (down : Bool) → Within b
+    → Within (withKeys b (liveOf (b .keys) key down .keys))
 unfolding liveOf
 live-within b key down w = by (leb key 2)
   where
-    by : (t : Bool) → Within (withKeys b (cond t (outcome Done (withLive (b .keys) (heldWith (b .keys .live) key down))) (outcome BadKey (b .keys)) .keys))
+    by : (t : Bool) → Within (withKeys b (cond t
+        (outcome Done (withLive (b .keys) (heldWith (b .keys .live) key down))) (outcome BadKey (b .keys)) .keys))
     by false = w
     by true = record {
       times = w .times;
@@ -45,7 +47,8 @@ live-within b key down w = by (leb key 2)
       applied = w .applied;
     }
 
-pub hold-within : (b : Buttons) (key : ℕ) (until : Float) → Within b → Within (withKeys b (holdOf (b .keys) key until .keys))
+pub hold-within : (b : Buttons) (key : ℕ) (until : Float) → Within b
+    → Within (withKeys b (holdOf (b .keys) key until .keys))
 unfolding holdOf
 hold-within b key until w = by (leb key 2) (goodTime until) refl
   where
@@ -54,7 +57,9 @@ hold-within b key until w = by (leb key 2) (goodTime until) refl
     set false old g h = h
 
     by : (t u : Bool) → goodTime until ≡ u
-        → Within (withKeys b (cond t (cond u (outcome Done (withHolds (b .keys) (holdsWith (b .keys .holds) key until))) (outcome BadTime (b .keys))) (outcome BadKey (b .keys)) .keys))
+        → Within (withKeys b (cond t (cond u
+        (outcome Done (withHolds (b .keys) (holdsWith (b .keys .holds) key until))) (outcome BadTime (b .keys)))
+        (outcome BadKey (b .keys)) .keys))
     by false u e = w
     by true false e = w
     by true true e = record {
@@ -73,7 +78,8 @@ pub wanted-lines : (h : Held) → bitAnd (wanted h) 0xE0 ≡ wanted h
 unfolding wanted
 wanted-lines h = by (h .a) (h .b) (h .c)
   where
-    by : (a b c : Bool) → bitAnd (wanted (record { a = a; b = b; c = c })) 0xE0 ≡ wanted (record { a = a; b = b; c = c })
+    by : (a b c : Bool) → bitAnd (wanted (record { a = a; b = b; c = c })) 0xE0 ≡ wanted
+        (record { a = a; b = b; c = c })
     by true true true = refl
     by true true false = refl
     by true false true = refl
@@ -83,7 +89,8 @@ wanted-lines h = by (h .a) (h .b) (h .c)
     by false false true = refl
     by false false false = refl
 
-pub sync-within : (b : Buttons) (gpio : List ℕ) (h : Held) → Within b → Within (withKeys b (withApplied (b .keys) (syncOf gpio (b .keys .applied) h .applied)))
+pub sync-within : (b : Buttons) (gpio : List ℕ) (h : Held) → Within b
+    → Within (withKeys b (withApplied (b .keys) (syncOf gpio (b .keys .applied) h .applied)))
 unfolding syncOf
 sync-within b gpio h w = record {
   times = w .times;

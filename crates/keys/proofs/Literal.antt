@@ -15,12 +15,14 @@ use Rattle.keys.specs.Keys.{freshButtons}
 use Rattle.keys.specs.Script.{endOf, waits, placesOf, freeOf, countedOf, Outcome, placed}
 use Rattle.keys.specs.Live.{tapped, heldOf}
 use Rattle.keys.specs.Edges.{pressEdges, holdEdges, nextEdge}
-use Rattle.keys.specs.Rust.{push, rustHeld, rustEdge, Act, presses, goes, Sides, sides, freshSides, told, after, Onward, SameHeld, SameEdge, AsRust}
+use Rattle.keys.specs.Rust.{push, rustHeld, rustEdge, Act, presses, goes, Sides, sides, freshSides, sidesAfter}
+use Rattle.keys.specs.Rust.{after, Onward, SameHeld, SameEdge, AsRust}
 use Rattle.keys.proofs.Cases.{press-each}
-use Rattle.keys.proofs.Full.{le-or-lt}
+use Rattle.whole.proofs.Choice.{le-or-lt}
 use Rattle.keys.proofs.Expired.{expired-began, expired-stays}
 use Rattle.keys.proofs.Kept.{Grown, grown, place-most, put-keeps, laid}
-use Rattle.keys.proofs.SameKeys.{Found, both, same-keys}
+use Rattle.keys.proofs.SameKeys.{Found, same-keys}
+use Rattle.whole.proofs.Choice.{both}
 use Rattle.keys.proofs.SameEdges.{Edge, same-edges}
 
 -- ---- one element more
@@ -43,7 +45,8 @@ module _ (times : List Float) (codes : List ℕ) (even : length codes ≡ length
     place = f .place;
     below = let l : f .place < length times = f .below in omega (arith, longer);
     time = List·getD-append times (at ∷ []) nan (f .place) (f .below) ∙ f .time;
-    key = List·getD-append codes (key ∷ []) 0 (f .place) (let l : f .place < length times = f .below in omega arith) ∙ f .key;
+    key = List·getD-append codes (key ∷ []) 0 (f .place) (let l : f .place < length times = f .below in omega arith) ∙
+        f .key;
   }
 
   last : Found timesMore codesMore (length timesMore) at key
@@ -67,7 +70,8 @@ module _ (times : List Float) (codes : List ℕ) (even : length codes ≡ length
       by (inr m) =
           let z : j ≡ length times = omega (arith, longer) in
           let a : getD timesMore j nan ≡ at = ap (λ (n : ℕ). getD timesMore n nan) z ∙ getD-last times at nan in
-          let b : getD codesMore j 0 ≡ key = ap (λ (n : ℕ). getD codesMore n 0) (z ∙ sym even) ∙ getD-last codes key 0 in
+          let b : getD codesMore j 0 ≡ key = ap (λ (n : ℕ). getD codesMore n 0) (z ∙ sym even) ∙ getD-last codes key 0
+          in
           rw (a, b) new
 
 -- ---- the two sides
@@ -80,10 +84,12 @@ record Same (s : Sides) : Type 0 where
   pub float : (j : ℕ) → j < length (s .list .times) → T (fits binary64 (getD (s .list .times) j nan))
   -- every press at a place was pushed
   pub pushed : (i : ℕ) → i < placesOf (s .script .count)
-      → Found (s .list .times) (s .list .codes) (length (s .list .times)) (getD (s .script .times) i nan) (getD (s .script .codes) i 0)
+      → Found (s .list .times) (s .list .codes) (length (s .list .times)) (getD (s .script .times) i nan)
+      (getD (s .script .codes) i 0)
   -- and every press that waits is at a place
   pub waiting : (j : ℕ) → j < length (s .list .times) → waits (getD (s .list .times) j nan) (s .now) ≡ true
-      → Found (s .script .times) (s .script .codes) (placesOf (s .script .count)) (getD (s .list .times) j nan) (getD (s .list .codes) j 0)
+      → Found (s .script .times) (s .script .codes) (placesOf (s .script .count)) (getD (s .list .times) j nan)
+      (getD (s .list .codes) j 0)
 
 fresh-same : Same freshSides
 unfolding freshSides freshButtons ofBits
@@ -98,14 +104,16 @@ fresh-same = record {
   waiting = λ j l w. absurd (let z : ⊥ = omega arith in z);
 }
 
-press-same : (s : Sides) (key : ℕ) (at : Float) → T (fits binary64 at) → Same s → Same (told s (presses key at))
-unfolding told push placed
+press-same : (s : Sides) (key : ℕ) (at : Float) → T (fits binary64 at) → Same s → Same (sidesAfter s (presses key at))
+unfolding sidesAfter push placed
 press-same s key at f w =
     press-each (s .script) key at (s .now)
-    (λ (o : Outcome). Same (sides (o .script) (cond (eqb (o .refusal) 0) (push (s .list) at key) (s .list)) (s .now))) w w w put
+    (λ (o : Outcome). Same (sides (o .script) (cond (eqb (o .refusal) 0) (push (s .list) at key) (s .list)) (s .now)))
+    w w w put
   where
     put : key ≤ 2 → T (goodTime at) → freeOf (s .script .times) (s .script .count) (s .now) < 64
-        → Same (sides (placed (s .script) (freeOf (s .script .times) (s .script .count) (s .now)) key at) (push (s .list) at key) (s .now))
+        → Same (sides (placed (s .script) (freeOf (s .script .times) (s .script .count) (s .now)) key at)
+        (push (s .list) at key) (s .now))
     put k g l =
         let sc = s .script in
         let v = s .list in
@@ -121,24 +129,35 @@ press-same s key at f w =
           good = each (v .times) (v .codes) (w .even) at key (λ (t : Float) (n : ℕ). T (goodTime t)) (w .good) g;
           float = each (v .times) (v .codes) (w .even) at key (λ (t : Float) (n : ℕ). T (fits binary64 t)) (w .float) f;
           pushed = λ i m. laid
-              (λ (t : Float) (n : ℕ). Found (v .times ++ (at ∷ [])) (v .codes ++ (key ∷ [])) (length (v .times ++ (at ∷ []))) t n)
+              (λ (t : Float) (n : ℕ). Found (v .times ++ (at ∷ [])) (v .codes ++ (key ∷ []))
+              (length (v .times ++ (at ∷ []))) t n)
               (sc .times) (sc .codes) p key at i a b (last (v .times) (v .codes) (w .even) at key)
               (λ d. lift (v .times) (v .codes) (w .even) at key (w .pushed i (c .only i m d)));
           waiting = each (v .times) (v .codes) (w .even) at key
-              (λ (t : Float) (n : ℕ). waits t (s .now) ≡ true → Found (set (sc .times) p at) (set (sc .codes) p key) (placesOf (countedOf p (sc .count))) t n)
+              (λ (t : Float) (n : ℕ). waits t (s .now) ≡ true → Found (set (sc .times) p at) (set (sc .codes) p key)
+              (placesOf (countedOf p (sc .count))) t n)
               (λ j m h. stands l (w .waiting j m h) h)
-              (λ h. record { place = p; below = c .here; time = getD-set-same (sc .times) p at nan a; key = getD-set-same (sc .codes) p key 0 b });
+              (λ h. record {
+                place = p;
+                below = c .here;
+                time = getD-set-same (sc .times) p at nan a;
+                key =
+                    getD-set-same (sc .codes) p key 0 b;
+              });
         }
       where
         stands : {t : Float} {n : ℕ} → freeOf (s .script .times) (s .script .count) (s .now) < 64
             → Found (s .script .times) (s .script .codes) (placesOf (s .script .count)) t n → waits t (s .now) ≡ true
-            → let x = placed (s .script) (freeOf (s .script .times) (s .script .count) (s .now)) key at in Found (x .times) (x .codes) (placesOf (x .count)) t n
+            → let x = placed (s .script) (freeOf (s .script .times) (s .script .count) (s .now)) key at in Found
+            (x .times) (x .codes) (placesOf (x .count)) t n
         stands l q h =
-            let st = put-keeps (s .script) key at (s .now) l (q .place) (q .below) (ap (λ (t : Float). waits t (s .now)) (q .time) ∙ h) in
+            let st = put-keeps (s .script) key at (s .now) l (q .place) (q .below)
+            (ap (λ (t : Float). waits t (s .now)) (q .time) ∙ h) in
             record { place = q .place; below = st .place; time = st .time ∙ q .time; key = st .code ∙ q .key }
 
-goes-same : (s : Sides) (time : Float) → T (goodTime time) → T (le (s .now) time) → Same s → Same (told s (goes time))
-unfolding told
+goes-same : (s : Sides) (time : Float) → T (goodTime time) → T (le (s .now) time) → Same s
+    → Same (sidesAfter s (goes time))
+unfolding sidesAfter
 goes-same s time g l w = record {
   now = g;
   times = w .times;
@@ -147,35 +166,42 @@ goes-same s time g l w = record {
   good = w .good;
   float = w .float;
   pushed = w .pushed;
-  waiting = λ j m h. w .waiting j m (earlier (getD (s .list .times) j nan) (w .good j m) h (waits (getD (s .list .times) j nan) (s .now)) refl);
+  waiting = λ j m h. w .waiting j m (earlier (getD (s .list .times) j nan) (w .good j m) h
+      (waits (getD (s .list .times) j nan) (s .now)) refl);
 }
   where
-    earlier : (t : Float) → T (goodTime t) → waits t time ≡ true → (b : Bool) → waits t (s .now) ≡ b → waits t (s .now) ≡ true
+    earlier : (t : Float) → T (goodTime t) → waits t time ≡ true → (b : Bool) → waits t (s .now) ≡ b
+        → waits t (s .now) ≡ true
     earlier t a h true e = e
     earlier t a h false e = absurd (true≢false (sym h ∙ expired-stays t (s .now) a (w .now) time g l e))
 
 run-same : (acts : List Act) (s : Sides) → Same s → Onward (s .now) acts → Same (after s acts)
-unfolding after told
+unfolding after sidesAfter
 run-same [] s w o = w
-run-same (presses key at ∷ acts) s w o = run-same acts (told s (presses key at)) (press-same s key at (o .0) w) (o .1)
-run-same (goes time ∷ acts) s w o = run-same acts (told s (goes time)) (goes-same s time (o .0) (o .1) w) (o .2)
+run-same (presses key at ∷ acts) s w o = run-same acts (sidesAfter s (presses key at)) (press-same s key at (o .0) w)
+    (o .1)
+run-same (goes time ∷ acts) s w o = run-same acts (sidesAfter s (goes time)) (goes-same s time (o .0) (o .1) w) (o .2)
 
 -- ---- what is seen
 module _ (s : Sides) (w : Same s) (k : Keys) where
   held-same : SameHeld s k
   unfolding heldOf rustHeld
   held-same =
-      same-keys (s .script .times) (s .script .codes) (placesOf (s .script .count)) (s .list .times) (s .list .codes) (length (s .list .times))
+      same-keys (s .script .times) (s .script .codes) (placesOf (s .script .count)) (s .list .times) (s .list .codes)
+      (length (s .list .times))
       (tapped (k .live) (k .holds) (s .now)) (s .now) (λ i l d. w .pushed i l)
-      (λ j l d. w .waiting j l (both (le (getD (s .list .times) j nan) (s .now)) (waits (getD (s .list .times) j nan) (s .now)) d .1))
+      (λ j l d. w .waiting j l (both (le (getD (s .list .times) j nan) (s .now))
+      (waits (getD (s .list .times) j nan) (s .now)) d .1))
 
   -- an edge of a press is one of the same press elsewhere
-  moved : (times ts : List Float) (n m : ℕ) (e : Float) (x : Edge times n (s .now) e) (j : ℕ) → j < m → getD ts j nan ≡ getD times (x .place) nan
+  moved : (times ts : List Float) (n m : ℕ) (e : Float) (x : Edge times n (s .now) e) (j : ℕ) → j < m
+      → getD ts j nan ≡ getD times (x .place) nan
       → Edge ts m (s .now) e
   moved times ts n m e x j l q = record { place = j; below = l; side = rw q (x .side); ahead = x .ahead }
 
   -- a press with an edge ahead waits
-  ahead-waits : (e : Float) (x : Edge (s .list .times) (length (s .list .times)) (s .now) e) → waits (getD (s .list .times) (x .place) nan) (s .now) ≡ true
+  ahead-waits : (e : Float) (x : Edge (s .list .times) (length (s .list .times)) (s .now) e)
+      → waits (getD (s .list .times) (x .place) nan) (s .now) ≡ true
   ahead-waits e x = by (x .side) (waits t (s .now)) refl
     where
       t : Float
@@ -184,20 +210,26 @@ module _ (s : Sides) (w : Same s) (k : Keys) where
       by : (e ≡ t) ⊎ (e ≡ endOf t) → (b : Bool) → waits t (s .now) ≡ b → waits t (s .now) ≡ true
       by d true h = h
       by (inl d) false h =
-          absurd (true≢false (sym (x .ahead) ∙ ap (λ (e : Float). lt (s .now) e) d ∙ expired-began t (s .now) (w .good (x .place) (x .below)) (w .now) h))
+          absurd (true≢false (sym (x .ahead) ∙ ap (λ (e : Float). lt (s .now) e) d ∙ expired-began t (s .now)
+          (w .good (x .place) (x .below)) (w .now) h))
       by (inr d) false h = sym (ap (λ (e : Float). lt (s .now) e) d) ∙ x .ahead
 
   edge-same : SameEdge s k
   unfolding nextEdge pressEdges rustEdge
   edge-same t f c =
       ap (λ (e : Float). holdEdges (k .holds) (s .now) e)
-      (same-edges (s .script .times) (placesOf (s .script .count)) (s .list .times) (length (s .list .times)) (s .now) t c f
-      (λ i l. let q = w .pushed i l in subst (λ (t : Float). T (goodTime t)) (q .time) (w .good (q .place) (q .below))) (w .good)
-      (λ i l. let q = w .pushed i l in subst (λ (t : Float). T (fits binary64 t)) (q .time) (w .float (q .place) (q .below))) (w .float)
+      (same-edges (s .script .times) (placesOf (s .script .count)) (s .list .times) (length (s .list .times)) (s .now)
+      t c f
+      (λ i l. let q = w .pushed i l in subst (λ (t : Float). T (goodTime t)) (q .time)
+      (w .good (q .place) (q .below))) (w .good)
+      (λ i l. let q = w .pushed i l in subst (λ (t : Float). T (fits binary64 t)) (q .time)
+      (w .float (q .place) (q .below))) (w .float)
       (λ e x. let q = w .pushed (x .place) (x .below) in
-      moved (s .script .times) (s .list .times) (placesOf (s .script .count)) (length (s .list .times)) e x (q .place) (q .below) (q .time))
+      moved (s .script .times) (s .list .times) (placesOf (s .script .count)) (length (s .list .times)) e x (q .place)
+      (q .below) (q .time))
       (λ e x. let q = w .waiting (x .place) (x .below) (ahead-waits e x) in
-      moved (s .list .times) (s .script .times) (length (s .list .times)) (placesOf (s .script .count)) e x (q .place) (q .below) (q .time)))
+      moved (s .list .times) (s .script .times) (length (s .list .times)) (placesOf (s .script .count)) e x (q .place)
+      (q .below) (q .time)))
 
 pub as-rust : AsRust
 unfolding freshSides

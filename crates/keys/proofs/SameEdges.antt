@@ -1,4 +1,5 @@
--- The next edge is the least of the time so far and of the edges ahead, so two lists with the same edges ahead have the same next edge.
+-- The next edge is the least of the time so far and of the edges ahead, so two lists with the same edges ahead have
+-- the same next edge.
 use Prim.Native.Nat.{ℕ, zero, suc, _+_, _≤_, _<_}
 use mathlib.Core.Path.{_≡_, refl, ap, _∙_}
 use mathlib.Core.Bool.{Bool, true, false, cond}
@@ -16,11 +17,12 @@ use Rattle.keys.specs.Script.{endOf}
 use Rattle.keys.specs.Edges.{minOf, afterOf, edgesFrom}
 use Rattle.keys.proofs.Canonical.{one-number}
 use Rattle.keys.proofs.Expired.{le-of-before, end-clear}
-use Rattle.keys.proofs.Full.{le-or-lt}
+use Rattle.whole.proofs.Choice.{le-or-lt}
 
 -- ---- one edge
 module _ (now x edge : Float) (p : Clear x) (q : Clear edge) where
-  after-cases : (P : Float → Type 0) → (lt now edge ≡ true → T (le edge x) → P edge) → (lt now edge ≡ true → T (le x edge) → P x)
+  after-cases : (P : Float → Type 0) → (lt now edge ≡ true → T (le edge x) → P edge)
+      → (lt now edge ≡ true → T (le x edge) → P x)
       → (lt now edge ≡ false → P x) → P (afterOf now x edge)
   unfolding afterOf minOf
   after-cases P f g h = by (lt now edge) refl (lt edge x) refl
@@ -42,7 +44,8 @@ module _ (now x edge : Float) (p : Clear x) (q : Clear edge) where
       (λ a. absurd (let z : _≡_ {A = ℕ} 0 1 = cc in let y : ⊥ = omega arith in y))
 
   after-is : (afterOf now x edge ≡ x) ⊎ ((afterOf now x edge ≡ edge) × (lt now edge ≡ true))
-  after-is = after-cases (λ (r : Float). (r ≡ x) ⊎ ((r ≡ edge) × (lt now edge ≡ true))) (λ a l. inr (refl, a)) (λ a l. inl refl) (λ a. inl refl)
+  after-is = after-cases (λ (r : Float). (r ≡ x) ⊎ ((r ≡ edge) × (lt now edge ≡ true))) (λ a l. inr (refl, a))
+      (λ a l. inl refl) (λ a. inl refl)
 
 -- e is an edge, ahead, of one of the first n presses
 pub record Edge (times : List Float) (n : ℕ) (now e : Float) : Type 0 where
@@ -63,14 +66,17 @@ module _ (times : List Float) (now t : Float) (c : Clear t) where
       let k = getD times n nan in
       let s = edges-clear n (λ i l. g i (omega arith)) in
       after-clear now (afterOf now (edgesFrom times now t n) k) (endOf k)
-      (after-clear now (edgesFrom times now t n) k s (good-clear k (g n (omega arith)))) (end-clear k (g n (omega arith)))
+      (after-clear now (edgesFrom times now t n) k s (good-clear k (g n (omega arith))))
+      (end-clear k (g n (omega arith)))
 
   -- one press more makes it no later, and it is none of that press's edges ahead that is earlier
   record More (n : ℕ) : Type 0 where
     pub so-far : T (le (edgesFrom times now t (suc n)) (edgesFrom times now t n))
     pub begin : lt now (getD times n nan) ≡ true → T (le (edgesFrom times now t (suc n)) (getD times n nan))
-    pub end : lt now (endOf (getD times n nan)) ≡ true → T (le (edgesFrom times now t (suc n)) (endOf (getD times n nan)))
-    pub is : (edgesFrom times now t (suc n) ≡ edgesFrom times now t n) ⊎ Edge times (suc n) now (edgesFrom times now t (suc n))
+    pub end : lt now (endOf (getD times n nan)) ≡ true
+        → T (le (edgesFrom times now t (suc n)) (endOf (getD times n nan)))
+    pub is : (edgesFrom times now t (suc n) ≡ edgesFrom times now t n) ⊎ Edge times (suc n) now
+        (edgesFrom times now t (suc n))
 
   more : (n : ℕ) → Good (suc n) → More n
   unfolding edgesFrom
@@ -91,11 +97,19 @@ module _ (times : List Float) (now t : Float) (c : Clear t) where
         is = which (after-is now y (endOf k) s r) (after-is now x k p q);
       }
     where
-      which : let k = getD times n nan in let x = edgesFrom times now t n in let y = afterOf now x k in let e = afterOf now y (endOf k) in
-          (e ≡ y) ⊎ ((e ≡ endOf k) × (lt now (endOf k) ≡ true)) → (y ≡ x) ⊎ ((y ≡ k) × (lt now k ≡ true)) → (e ≡ x) ⊎ Edge times (suc n) now e
+      which : let k = getD times n nan in let x = edgesFrom times now t n in let y = afterOf now x k in let e =
+          afterOf now y (endOf k) in
+          (e ≡ y) ⊎ ((e ≡ endOf k) × (lt now (endOf k) ≡ true)) → (y ≡ x) ⊎ ((y ≡ k) × (lt now k ≡ true))
+          → (e ≡ x) ⊎ Edge times (suc n) now e
       which (inr a) b = inr (record { place = n; below = omega arith; side = inr (a .0); ahead = rw (a .0) (a .1) })
       which (inl a) (inl b) = inl (a ∙ b)
-      which (inl a) (inr b) = inr (record { place = n; below = omega arith; side = inl (a ∙ b .0); ahead = rw (a ∙ b .0) (b .1) })
+      which (inl a) (inr b) = inr (record {
+        place = n;
+        below = omega arith;
+        side = inl (a ∙ b .0);
+        ahead = rw
+            (a ∙ b .0) (b .1);
+      })
 
   -- no later than the time so far
   least-so-far : (n : ℕ) → Good n → T (le (edgesFrom times now t n) t)
@@ -103,7 +117,8 @@ module _ (times : List Float) (now t : Float) (c : Clear t) where
   least-so-far zero g = le-refl-clear t c
   least-so-far (suc n) g =
       let f : Good n = λ i l. g i (omega arith) in
-      le-trans-clear (edgesFrom times now t (suc n)) (edgesFrom times now t n) t (edges-clear (suc n) g) (edges-clear n f) c (more n g .so-far)
+      le-trans-clear (edgesFrom times now t (suc n)) (edgesFrom times now t n) t (edges-clear (suc n) g)
+      (edges-clear n f) c (more n g .so-far)
       (least-so-far n f)
 
   -- nor than any edge ahead
@@ -111,12 +126,15 @@ module _ (times : List Float) (now t : Float) (c : Clear t) where
   least zero g e d x = absurd (let l : x .place < 0 = x .below in let z : ⊥ = omega arith in z)
   least (suc n) g e d x =
       by (le-or-lt (x .place + 1) n) (x .side)
-      (λ l. least n (λ i m. g i (omega arith)) e d (record { place = x .place; below = l; side = x .side; ahead = x .ahead }))
+      (λ l. least n (λ i m. g i (omega arith)) e d
+      (record { place = x .place; below = l; side = x .side; ahead = x .ahead }))
     where
-      by : (x .place + 1 ≤ n) ⊎ (n < x .place + 1) → (e ≡ getD times (x .place) nan) ⊎ (e ≡ endOf (getD times (x .place) nan))
+      by : (x .place + 1 ≤ n) ⊎ (n < x .place + 1)
+          → (e ≡ getD times (x .place) nan) ⊎ (e ≡ endOf (getD times (x .place) nan))
           → (x .place < n → T (le (edgesFrom times now t n) e)) → T (le (edgesFrom times now t (suc n)) e)
       by (inl l) s r =
-          le-trans-clear (edgesFrom times now t (suc n)) (edgesFrom times now t n) e (edges-clear (suc n) g) (edges-clear n (λ i m. g i (omega arith))) d
+          le-trans-clear (edgesFrom times now t (suc n)) (edgesFrom times now t n) e (edges-clear (suc n) g)
+          (edges-clear n (λ i m. g i (omega arith))) d
           (more n g .so-far) (r (omega arith))
       by (inr l) (inl s) r =
           let z : x .place ≡ n = omega (arith, x .below) in
@@ -129,30 +147,40 @@ module _ (times : List Float) (now t : Float) (c : Clear t) where
 
   -- and it is one of them
   carried : (n : ℕ) (x y : Float) → x ≡ y → Edge times n now y → Edge times (suc n) now x
-  carried n x y e s = record { place = s .place; below = omega (arith, s .below); side = rw e (s .side); ahead = rw e (s .ahead) }
+  carried n x y e s = record {
+    place = s .place;
+    below = omega (arith, s .below);
+    side = rw e (s .side);
+    ahead = rw e
+        (s .ahead);
+  }
 
   is-one : (n : ℕ) → Good n → (edgesFrom times now t n ≡ t) ⊎ Edge times n now (edgesFrom times now t n)
   unfolding edgesFrom
   is-one zero g = inl refl
   is-one (suc n) g = by (more n g .is) (is-one n (λ i l. g i (omega arith)))
     where
-      by : (edgesFrom times now t (suc n) ≡ edgesFrom times now t n) ⊎ Edge times (suc n) now (edgesFrom times now t (suc n))
+      by : (edgesFrom times now t (suc n) ≡ edgesFrom times now t n) ⊎ Edge times (suc n) now
+          (edgesFrom times now t (suc n))
           → (edgesFrom times now t n ≡ t) ⊎ Edge times n now (edgesFrom times now t n)
           → (edgesFrom times now t (suc n) ≡ t) ⊎ Edge times (suc n) now (edgesFrom times now t (suc n))
       by (inr e) b = inr e
       by (inl a) (inl b) = inl (a ∙ b)
       by (inl a) (inr e) = inr (carried n (edgesFrom times now t (suc n)) (edgesFrom times now t n) a e)
 
-  edges-fits : (n : ℕ) → Good n → T (fits binary64 t) → ((i : ℕ) → i < n → T (fits binary64 (getD times i nan))) → T (fits binary64 (edgesFrom times now t n))
+  edges-fits : (n : ℕ) → Good n → T (fits binary64 t) → ((i : ℕ) → i < n → T (fits binary64 (getD times i nan)))
+      → T (fits binary64 (edgesFrom times now t n))
   edges-fits n g f h = by (is-one n g)
     where
       at : (x : Edge times n now (edgesFrom times now t n))
-          → (edgesFrom times now t n ≡ getD times (x .place) nan) ⊎ (edgesFrom times now t n ≡ endOf (getD times (x .place) nan))
+          → (edgesFrom times now t n ≡ getD times (x .place) nan) ⊎
+          (edgesFrom times now t n ≡ endOf (getD times (x .place) nan))
           → T (fits binary64 (edgesFrom times now t n))
       at x (inl s) = rw s (h (x .place) (x .below))
       at x (inr s) = rw s (add-fits binary64 (getD times (x .place) nan) _)
 
-      by : (edgesFrom times now t n ≡ t) ⊎ Edge times n now (edgesFrom times now t n) → T (fits binary64 (edgesFrom times now t n))
+      by : (edgesFrom times now t n ≡ t) ⊎ Edge times n now (edgesFrom times now t n)
+          → T (fits binary64 (edgesFrom times now t n))
       by (inl e) = rw e f
       by (inr x) = at x (x .side)
 
@@ -162,7 +190,8 @@ pub same-edges : (times : List Float) (n : ℕ) (ts : List Float) (m : ℕ) (now
     → ((e : Float) → Edge times n now e → Edge ts m now e) → ((e : Float) → Edge ts m now e → Edge times n now e)
     → edgesFrom times now t n ≡ edgesFrom ts now t m
 same-edges times n ts m now t c f g h p q there back =
-    one-number x y (edges-fits times now t c n g f p) (edges-fits ts now t c m h f q) cx cy (before (is-one ts now t c m h)) (behind (is-one times now t c n g))
+    one-number x y (edges-fits times now t c n g f p) (edges-fits ts now t c m h f q) cx cy
+    (before (is-one ts now t c m h)) (behind (is-one times now t c n g))
   where
     x : Float
     x = edgesFrom times now t n

@@ -1,7 +1,7 @@
 -- Two lists of presses, of which each has what is down in the other: the same keys are down.
 use Prim.Native.Nat.{ℕ, zero, suc, _≤_, _<_}
 use mathlib.Core.Path.{_≡_, refl, sym, ap, _∙_}
-use mathlib.Core.Bool.{Bool, true, false, _&&_, _||_, true≢false}
+use mathlib.Core.Bool.{Bool, true, false, _&&_, _||_}
 use mathlib.Core.List.{List}
 use mathlib.Core.Logic.{_⊎_, inl, inr}
 use native.Mathlib.Omega.{arith}
@@ -9,6 +9,7 @@ use lib.Dec.{eqb}
 use lib.ListN.{getD}
 use lib.Ieee.{Float, nan}
 use borrow.Author.Tests.{eqb-true}
+use Rattle.whole.proofs.Choice.{both}
 use Rattle.keys.specs.declared.Held.{Held}
 use Rattle.keys.specs.Live.{downOf, also, heldFrom}
 use Rattle.keys.specs.Within.{isDown}
@@ -25,22 +26,20 @@ pub or-split : (x y : Bool) → (x || y) ≡ true → (x ≡ true) ⊎ (y ≡ tr
 or-split true y h = inl refl
 or-split false y h = inr h
 
-pub both : (x y : Bool) → (x && y) ≡ true → (x ≡ true) × (y ≡ true)
-both true y h = (refl, h)
-both false y h = absurd (true≢false (sym h))
-
 -- a key is down for the press, or was before
 was : (h : Held) (t : Float) (code : ℕ) (now : Float) (key : ℕ) → key ≤ 2 → isDown (also h t code now) key ≡ true
     → (isDown h key ≡ true) ⊎ ((code ≡ key) × (downOf t now ≡ true))
 was h t code now key k d = by key k d
   where
-    new : (key : ℕ) (x : Bool) → (x || (eqb code key && downOf t now)) ≡ true → (x ≡ true) ⊎ ((code ≡ key) × (downOf t now ≡ true))
+    new : (key : ℕ) (x : Bool) → (x || (eqb code key && downOf t now)) ≡ true
+        → (x ≡ true) ⊎ ((code ≡ key) × (downOf t now ≡ true))
     new key x d = elim (or-split x (eqb code key && downOf t now) d) [
       | inl y ↦ inl y
       | inr y ↦ inr (let z = both (eqb code key) (downOf t now) y in (eqb-true code key (z .0), z .1))
     ]
 
-    by : (key : ℕ) → key ≤ 2 → isDown (also h t code now) key ≡ true → (isDown h key ≡ true) ⊎ ((code ≡ key) × (downOf t now ≡ true))
+    by : (key : ℕ) → key ≤ 2 → isDown (also h t code now) key ≡ true
+        → (isDown h key ≡ true) ⊎ ((code ≡ key) × (downOf t now ≡ true))
     by zero k d = new 0 (h .a) d
     by (suc zero) k d = new 1 (h .b) d
     by (suc (suc zero)) k d = new 2 (h .c) d
@@ -52,33 +51,41 @@ still : (times : List Float) (codes : List ℕ) (h : Held) (now : Float) (key n 
 unfolding heldFrom
 still times codes h now key zero k d = d
 still times codes h now key (suc n) k d =
-    stays (heldFrom times codes h now n) (getD times n nan) (getD codes n 0) now key k (still times codes h now key n k d)
+    stays (heldFrom times codes h now n) (getD times n nan) (getD codes n 0) now key k
+    (still times codes h now key n k d)
 
-module _ (times : List Float) (codes : List ℕ) (ts : List Float) (cs : List ℕ) (m : ℕ) (h : Held) (now : Float) (key : ℕ) (k : key ≤ 2) where
-  covered : (n : ℕ) → ((i : ℕ) → i < n → downOf (getD times i nan) now ≡ true → Found ts cs m (getD times i nan) (getD codes i 0))
+module _ (times : List Float) (codes : List ℕ) (ts : List Float) (cs : List ℕ) (m : ℕ) (h : Held) (now : Float)
+    (key : ℕ) (k : key ≤ 2) where
+  covered : (n : ℕ) → ((i : ℕ) → i < n → downOf (getD times i nan) now ≡ true
+      → Found ts cs m (getD times i nan) (getD codes i 0))
       → isDown (heldFrom times codes h now n) key ≡ true → isDown (heldFrom ts cs h now m) key ≡ true
   unfolding heldFrom
   covered zero f d = still ts cs h now key m k d
   covered (suc n) f d =
-      by (was (heldFrom times codes h now n) (getD times n nan) (getD codes n 0) now key k d) (covered n (λ i l. f i (omega arith)))
+      by (was (heldFrom times codes h now n) (getD times n nan) (getD codes n 0) now key k d)
+      (covered n (λ i l. f i (omega arith)))
     where
-      by : (isDown (heldFrom times codes h now n) key ≡ true) ⊎ ((getD codes n 0 ≡ key) × (downOf (getD times n nan) now ≡ true))
+      by : (isDown (heldFrom times codes h now n) key ≡ true) ⊎
+          ((getD codes n 0 ≡ key) × (downOf (getD times n nan) now ≡ true))
           → (isDown (heldFrom times codes h now n) key ≡ true → isDown (heldFrom ts cs h now m) key ≡ true)
           → isDown (heldFrom ts cs h now m) key ≡ true
       by (inl y) r = r y
       by (inr y) r =
           let g : Found ts cs m (getD times n nan) (getD codes n 0) = f n (omega arith) (y .1) in
-          down-in ts cs h now key m (g .place) k (g .below) (ap (λ (t : Float). downOf t now) (g .time) ∙ y .1) (g .key ∙ y .0)
+          down-in ts cs h now key m (g .place) k (g .below) (ap (λ (t : Float). downOf t now) (g .time) ∙ y .1)
+          (g .key ∙ y .0)
 
 same-bool : (x y : Bool) → (x ≡ true → y ≡ true) → (y ≡ true → x ≡ true) → x ≡ y
 same-bool true y f g = sym (f refl)
 same-bool false true f g = g refl
 same-bool false false f g = refl
 
-held-is : {a b c x y z : Bool} → a ≡ x → b ≡ y → c ≡ z → _≡_ {A = Held} (record { a = a; b = b; c = c }) (record { a = x; b = y; c = z })
+held-is : {a b c x y z : Bool} → a ≡ x → b ≡ y → c ≡ z → _≡_ {A = Held} (record { a = a; b = b; c = c })
+    (record { a = x; b = y; c = z })
 held-is e f g = rw (e, f, g)
 
-pub same-keys : (times : List Float) (codes : List ℕ) (n : ℕ) (ts : List Float) (cs : List ℕ) (m : ℕ) (h : Held) (now : Float)
+pub same-keys : (times : List Float) (codes : List ℕ) (n : ℕ) (ts : List Float) (cs : List ℕ) (m : ℕ) (h : Held)
+    (now : Float)
     → ((i : ℕ) → i < n → downOf (getD times i nan) now ≡ true → Found ts cs m (getD times i nan) (getD codes i 0))
     → ((i : ℕ) → i < m → downOf (getD ts i nan) now ≡ true → Found times codes n (getD ts i nan) (getD cs i 0))
     → heldFrom times codes h now n ≡ heldFrom ts cs h now m

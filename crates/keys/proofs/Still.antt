@@ -23,7 +23,8 @@ pub live-still : (k : Keys) (key : ℕ) (down : Bool) → liveOf k key down .ref
 unfolding liveOf
 live-still k key down = key-tested k _ (leb key 2) (λ h. absurd (h refl))
 
-pub press-still : (s : Script) (key : ℕ) (at now : Float) → pressOf s key at now .refusal ≢ 0 → pressOf s key at now .script ≡ s
+pub press-still : (s : Script) (key : ℕ) (at now : Float) → pressOf s key at now .refusal ≢ 0
+    → pressOf s key at now .script ≡ s
 press-still s key at now =
     press-each s key at now (λ (o : script.Outcome). o .refusal ≢ 0 → o .script ≡ s) (λ h. refl) (λ h. refl) (λ h. refl)
     (λ k t f h. absurd (h refl))

@@ -5,7 +5,7 @@ use mathlib.Core.Bool.{cond}
 use mathlib.Core.List.{List}
 use lib.Dec.{eqb}
 use lib.Ieee.{Float}
-use Rattle.whole.proofs.Unique.{unique, told}
+use Rattle.whole.proofs.Unique.{unique, same-by-number}
 use Rattle.keys.specs.declared.Keys.{Keys}
 use Rattle.keys.specs.declared.Refusal.{Refusal}
 use Rattle.keys.specs.declared.Refusal.the-variants.{Done, BadKey, BadTime, KeysFull}
@@ -21,7 +21,7 @@ refusalOf n = cond (eqb n 0) Done (cond (eqb n 8) BadKey (cond (eqb n 1) BadTime
 
 -- a refusal is known by its number
 number-tells : (a b : Refusal) → numberOf a ≡ numberOf b → a ≡ b
-number-tells = told numberOf refusalOf back
+number-tells = same-by-number numberOf refusalOf back
   where
     back : (r : Refusal) → refusalOf (numberOf r) ≡ r
     back Done = refl
@@ -29,15 +29,19 @@ number-tells = told numberOf refusalOf back
     back BadTime = refl
     back KeysFull = refl
 
-pressed-is : {a b : Refusal} {m n : ℕ} → a ≡ b → m ≡ n → _≡_ {A = Pressed} (record { refusal = a; count = m }) (record { refusal = b; count = n })
+pressed-is : {a b : Refusal} {m n : ℕ} → a ≡ b → m ≡ n → _≡_ {A = Pressed} (record { refusal = a; count = m })
+    (record { refusal = b; count = n })
 pressed-is e f = rw (e, f)
 
 -- of a press there is one answer, and the later arrays are one pair of lists
 pub one-press : (d : presses.Outcome) (r s : Pressed) (times ts : List Float) (codes cs : List ℕ)
-    → outcome (r .refusal) (script times codes (r .count)) ≡ d → outcome (s .refusal) (script ts cs (s .count)) ≡ d → (r ≡ s) × (times ≡ ts) × (codes ≡ cs)
+    → outcome (r .refusal) (script times codes (r .count)) ≡ d → outcome (s .refusal) (script ts cs (s .count)) ≡ d
+    → (r ≡ s) × (times ≡ ts) × (codes ≡ cs)
 one-press d r s times ts codes cs h k =
-    let e : outcome (r .refusal) (script times codes (r .count)) ≡ outcome (s .refusal) (script ts cs (s .count)) = unique h k in (
-      pressed-is (number-tells (r .refusal) (s .refusal) (ap (λ (o : presses.Outcome). o .refusal) e)) (ap (λ (o : presses.Outcome). o .script .count) e),
+    let e : outcome (r .refusal) (script times codes (r .count)) ≡ outcome (s .refusal) (script ts cs (s .count)) =
+    unique h k in (
+      pressed-is (number-tells (r .refusal) (s .refusal) (ap (λ (o : presses.Outcome). o .refusal) e))
+          (ap (λ (o : presses.Outcome). o .script .count) e),
       ap (λ (o : presses.Outcome). o .script .times) e,
       ap (λ (o : presses.Outcome). o .script .codes) e,
     )
@@ -49,7 +53,8 @@ one-sync d a b m n h k =
     (ap (λ (l : Lines). l .applied) e, ap (λ (l : Lines). l .gpio) e)
 
 -- of a wipe there is one state
-pub one-clear : (d : Buttons) (k l : Keys) (times ts : List Float) (codes cs : List ℕ) → buttons times codes k ≡ d → buttons ts cs l ≡ d
+pub one-clear : (d : Buttons) (k l : Keys) (times ts : List Float) (codes cs : List ℕ) → buttons times codes k ≡ d
+    → buttons ts cs l ≡ d
     → (k ≡ l) × (times ≡ ts) × (codes ≡ cs)
 one-clear d k l times ts codes cs g h =
     let e : buttons times codes k ≡ buttons ts cs l = unique g h in

@@ -3,7 +3,9 @@ use Prim.Native.Nat.{ℕ}
 use mathlib.Core.Bool.{false}
 use mathlib.Core.List.{List}
 use lib.ListN.{replicate}
-use lib.Ieee.{Float, binary64, ofBits}
+use lib.Ieee.{Float}
+use Rattle.map.specs.Numbers.{DONE, BAD-TIME, KEYS-FULL, BAD-KEY}
+use Rattle.whole.specs.Forms.{nought}
 use Rattle.keys.specs.declared.Keys.{Keys}
 use Rattle.keys.specs.declared.Refusal.{Refusal}
 use Rattle.keys.specs.declared.Refusal.the-variants.{Done, BadKey, BadTime, KeysFull}
@@ -19,14 +21,10 @@ buttons times codes keys = record { times = times; codes = codes; keys = keys }
 
 -- Refusal numbers: 0 done, 8 BadKey, 1 BadTime, 3 KeysFull
 abbrev pub numberOf : Refusal → ℕ
-numberOf Done = 0
-numberOf BadKey = 8
-numberOf BadTime = 1
-numberOf KeysFull = 3
-
--- the f64 0.0
-abbrev pub nought : Float
-nought = ofBits binary64 0
+numberOf Done = DONE
+numberOf BadKey = BAD-KEY
+numberOf BadTime = BAD-TIME
+numberOf KeysFull = KEYS-FULL
 
 abbrev pub freshKeys : Keys
 freshKeys = record {

@@ -1,5 +1,5 @@
--- The lines that the keys drive. key_pin: A 0x15, B 0x16, C 0x17, port * 16 + bit; so all are at port 1, and of the Rust's eight ports
--- no other is ever wanted or applied. The word of port 1 stands at 0x20 of the GPIO memory.
+-- The lines that the keys drive. key_pin: A 0x15, B 0x16, C 0x17, port * 16 + bit; so all are at port 1, and of the
+-- Rust's eight ports no other is ever wanted or applied. The word of port 1 stands at 0x20 of the GPIO memory.
 use Prim.Native.Nat.{ℕ, _-_}
 use mathlib.Core.Bool.{Bool, cond}
 use mathlib.Core.List.{List}
@@ -27,7 +27,8 @@ lines gpio applied = record { gpio = gpio; applied = applied }
 -- only where what is wanted changed
 unfoldable pub syncOf : List ℕ → ℕ → Held → Lines
 syncOf gpio applied h =
-    cond (eqb (wanted h) applied) (lines gpio applied) (lines (storedAt gpio 0x20 4 (driven (loaded gpio 0x20 4) applied (wanted h))) (wanted h))
+    cond (eqb (wanted h) applied) (lines gpio applied)
+    (lines (storedAt gpio 0x20 4 (driven (loaded gpio 0x20 4) applied (wanted h))) (wanted h))
 
 -- a line once it is driven: up where it is wanted, down where it was applied and is wanted no more, else as it was
 abbrev pub lineOf : Bool → ℕ → ℕ → ℕ

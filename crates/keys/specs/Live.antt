@@ -26,10 +26,20 @@ outcome r keys = record { refusal = numberOf r; keys = keys }
 -- ---- one key of three
 
 abbrev pub heldWith : Held → ℕ → Bool → Held
-heldWith h key down = record { a = cond (eqb key 0) down (h .a); b = cond (eqb key 1) down (h .b); c = cond (eqb key 2) down (h .c) }
+heldWith h key down = record {
+  a = cond (eqb key 0) down (h .a);
+  b = cond (eqb key 1) down (h .b);
+  c = cond
+      (eqb key 2) down (h .c);
+}
 
 abbrev pub holdsWith : Holds → ℕ → Float → Holds
-holdsWith h key until = record { a = cond (eqb key 0) until (h .a); b = cond (eqb key 1) until (h .b); c = cond (eqb key 2) until (h .c) }
+holdsWith h key until = record {
+  a = cond (eqb key 0) until (h .a);
+  b = cond (eqb key 1) until (h .b);
+  c = cond
+      (eqb key 2) until (h .c);
+}
 
 abbrev pub withLive : Keys → Held → Keys
 withLive k live = record { count = k .count; live = live; holds = k .holds; applied = k .applied }
@@ -44,7 +54,8 @@ liveOf k key down = cond (leb key 2) (outcome Done (withLive k (heldWith (k .liv
 -- and of a tap, a time that is not good
 unfoldable pub holdOf : Keys → ℕ → Float → Outcome
 holdOf k key until =
-    cond (leb key 2) (cond (goodTime until) (outcome Done (withHolds k (holdsWith (k .holds) key until))) (outcome BadTime k)) (outcome BadKey k)
+    cond (leb key 2) (cond (goodTime until) (outcome Done (withHolds k (holdsWith (k .holds) key until)))
+    (outcome BadTime k)) (outcome BadKey k)
 
 -- ---- the same in two steps: what is decided before anything changes, the key first, and then what is put
 
@@ -66,7 +77,12 @@ downOf t now = le t now && lt now (endOf t)
 
 -- the live keys, and the taps that are still held
 abbrev pub tapped : Held → Holds → Float → Held
-tapped live holds now = record { a = live .a || lt now (holds .a); b = live .b || lt now (holds .b); c = live .c || lt now (holds .c) }
+tapped live holds now = record {
+  a = live .a || lt now (holds .a);
+  b = live .b || lt now (holds .b);
+  c = live .c || lt
+      now (holds .c);
+}
 
 -- one press more
 abbrev pub also : Held → Float → ℕ → Float → Held

@@ -10,7 +10,8 @@ use Rattle.whole.specs.Bounds.{Clear}
 use Rattle.whole.specs.Limits.{goodTime}
 use Rattle.keys.specs.declared.Held.{Held}
 use Rattle.keys.specs.declared.Keys.{Keys}
-use Rattle.keys.specs.Keys.{nought, freshButtons}
+use Rattle.keys.specs.Keys.{freshButtons}
+use Rattle.whole.specs.Forms.{nought}
 use Rattle.keys.specs.Script.{Script, pressOf}
 use Rattle.keys.specs.Live.{tapped, heldFrom, heldOf}
 use Rattle.keys.specs.Edges.{edgesFrom, holdEdges, nextEdge}
@@ -50,15 +51,16 @@ sides s v now = record { script = s; list = v; now = now }
 unfoldable pub freshSides : Sides
 freshSides = sides (scriptOf freshButtons) (record { times = []; codes = [] }) nought
 
-unfoldable pub told : Sides → Act → Sides
-told s (presses key at) =
-    sides (pressOf (s .script) key at (s .now) .script) (cond (eqb (pressOf (s .script) key at (s .now) .refusal) 0) (push (s .list) at key) (s .list))
+unfoldable pub sidesAfter : Sides → Act → Sides
+sidesAfter s (presses key at) =
+    sides (pressOf (s .script) key at (s .now) .script) (cond (eqb (pressOf (s .script) key at (s .now) .refusal) 0)
+    (push (s .list) at key) (s .list))
     (s .now)
-told s (goes time) = sides (s .script) (s .list) time
+sidesAfter s (goes time) = sides (s .script) (s .list) time
 
 unfoldable pub after : Sides → List Act → Sides
 after s [] = s
-after s (act ∷ acts) = after (told s act) acts
+after s (act ∷ acts) = after (sidesAfter s act) acts
 
 -- every press's time is an f64, and time goes on within the limits
 abbrev pub Onward : Float → List Act → Type 0
@@ -68,7 +70,8 @@ Onward now (goes time ∷ acts) = T (goodTime time) × T (le now time) × Onward
 
 -- the same keys are down
 abbrev pub SameHeld : Sides → Keys → Type 0
-SameHeld s k = heldOf (s .script .times) (s .script .codes) (withCount k (s .script .count)) (s .now) ≡ rustHeld (s .list) k (s .now)
+SameHeld s k = heldOf (s .script .times) (s .script .codes) (withCount k (s .script .count)) (s .now) ≡ rustHeld
+    (s .list) k (s .now)
 
 -- and the next edge is the same float, from an f64 that is finite with a clear sign
 abbrev pub SameEdge : Sides → Keys → Type 0
@@ -78,4 +81,5 @@ SameEdge s k =
 
 -- whatever comes, from the fresh state on
 abbrev pub AsRust : Type 0
-AsRust = (acts : List Act) → Onward nought acts → (k : Keys) → SameHeld (after freshSides acts) k × SameEdge (after freshSides acts) k
+AsRust = (acts : List Act) → Onward nought acts → (k : Keys) → SameHeld (after freshSides acts) k × SameEdge
+    (after freshSides acts) k

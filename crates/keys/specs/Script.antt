@@ -63,7 +63,8 @@ placed s place code at = script (set (s .times) place at) (set (s .codes) place 
 -- at the first place that has expired, or after the last
 unfoldable pub putOf : Script → ℕ → Float → Float → Outcome
 putOf s code at now =
-    cond (ltb (freeOf (s .times) (s .count) now) 64) (outcome Done (placed s (freeOf (s .times) (s .count) now) code at)) (outcome KeysFull s)
+    cond (ltb (freeOf (s .times) (s .count) now) 64)
+    (outcome Done (placed s (freeOf (s .times) (s .count) now) code at)) (outcome KeysFull s)
 
 -- key not 0, 1 or 2; then a time that is not good; then no place
 unfoldable pub pressOf : Script → ℕ → Float → Float → Outcome

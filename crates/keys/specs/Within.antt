@@ -60,4 +60,5 @@ pub record Stands (old new : Script) (i : ℕ) : Type 0 where
   pub code : getD (new .codes) i 0 ≡ getD (old .codes) i 0
 
 abbrev pub NoneLost : Script → Script → Float → Type 0
-NoneLost old new now = (i : ℕ) → i < placesOf (old .count) → waits (getD (old .times) i nan) now ≡ true → Stands old new i
+NoneLost old new now = (i : ℕ) → i < placesOf (old .count) → waits (getD (old .times) i nan) now ≡ true
+    → Stands old new i

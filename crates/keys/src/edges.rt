@@ -3,7 +3,7 @@ ghost use mathlib.Core.Path.{_≡_};
 ghost use Rattle.keys.specs.Edges.{minOf, afterOf, edgesOf, pressEdges, holdEdges, nextEdge};
 use crate::Holds;
 use crate::Keys;
-use crate::script::places;
+use crate::presses::places;
 
 pub fn min(a: f64, b: f64) -> f64
     ensures { λ r. ⌜ r ≡ minOf a b ⌝ }

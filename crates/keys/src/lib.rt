@@ -1,11 +1,11 @@
 // Keys: scripted presses, live keys, taps that stay held, and the GPIO lines that they drive.
 //
-// A press is a time and a key's code at one place of two lent arrays; `Keys` is the rest of the state. Any value is a state: a
-// count above 64 counts as 64.
+// A press is a time and a key's code at one place of two lent arrays; `Keys` is the rest of the state. Any value is a
+// state: a count above 64 counts as 64.
 pub mod edges;
-pub mod lines;
+pub mod gpio;
 pub mod live;
-pub mod script;
+pub mod presses;
 
 ghost use mathlib.Core.Path.{_≡_};
 ghost use Rattle.keys.specs.Keys.{buttons, freshKeys, freshButtons};

@@ -10,7 +10,7 @@ use crate::Holds;
 use crate::Keys;
 use crate::Refusal;
 use crate::Tap;
-use crate::script::places;
+use crate::presses::places;
 use whole::Checked;
 
 // What a call for a key answers.

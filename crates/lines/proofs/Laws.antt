@@ -28,7 +28,8 @@ pub digest-none : (bytes : List ℕ) → 0 ≡ digestTo bytes 0
 unfolding digestTo
 digest-none bytes = refl
 
-pub digest-more : (bytes : List ℕ) (i : ℕ) {d r : ℕ} → d ≡ digestTo bytes i → r ≡ (d * 31 + getD bytes i 0) % 2 ^ 64 → r ≡ digestTo bytes (i + 1)
+pub digest-more : (bytes : List ℕ) (i : ℕ) {d r : ℕ} → d ≡ digestTo bytes i → r ≡ (d * 31 + getD bytes i 0) % 2 ^ 64
+    → r ≡ digestTo bytes (i + 1)
 unfolding digestTo
 digest-more bytes i h e = rw add-one (rw h at e)
 
@@ -42,8 +43,10 @@ hex-none a at zero n l = let e : at + 0 ≡ at = omega arith in rw e (sym (appen
 hex-none a at (suc w) n l = absurd (omega arith)
 
 -- the digits but the last lead from a to b, and the last from b to c
-pub hex-more : (a b c : List ℕ) (at width n g : ℕ) → 0 < width → take (at + (width - 1)) b ≡ take at a ++ digits 16 (width - 1) (n / 16)
-    → g ≡ glyph (n % 16) → take (at + width - 1 + 1) c ≡ take (at + width - 1) b ++ (g ∷ []) → take (at + width) c ≡ take at a ++ digits 16 width n
+pub hex-more : (a b c : List ℕ) (at width n g : ℕ) → 0 < width → take (at + (width - 1)) b ≡ take at a ++ digits 16
+    (width - 1) (n / 16)
+    → g ≡ glyph (n % 16) → take (at + width - 1 + 1) c ≡ take (at + width - 1) b ++ (g ∷ [])
+    → take (at + width) c ≡ take at a ++ digits 16 width n
 hex-more a b c at zero n g l p e q = absurd (omega arith)
 hex-more a b c at (suc w) n g l p e q =
     let i : suc w - 1 ≡ w = omega arith in
@@ -52,17 +55,20 @@ hex-more a b c at (suc w) n g l p e q =
     (rw (j, k) at q) ∙ rw ((rw i at p), e) (append-assoc (take at a) (digits 16 w (n / 16)) (glyph (n % 16) ∷ []))
 
 pub field-more : (a b c : List ℕ) (at width n g : ℕ) → take (at + width) b ≡ take at a ++ digits 16 width n
-    → take (at + width + 1) c ≡ take (at + width) b ++ (g ∷ []) → take (at + width + 1) c ≡ take at a ++ (digits 16 width n ++ (g ∷ []))
+    → take (at + width + 1) c ≡ take (at + width) b ++ (g ∷ []) → take (at + width + 1) c ≡ take at a ++
+    (digits 16 width n ++ (g ∷ []))
 field-more a b c at width n g p q = q ∙ rw p (append-assoc (take at a) (digits 16 width n) (g ∷ []))
 
 -- ---- the line of an answer, in its four fields
 
 pub spelled : (r : Answer) (a b c d : List ℕ) → take 3 a ≡ digits 16 2 (r .refusal) ++ (32 ∷ [])
-    → take 20 b ≡ take 3 a ++ (digits 16 16 (r .a) ++ (32 ∷ [])) → take 37 c ≡ take 20 b ++ (digits 16 16 (r .b) ++ (32 ∷ []))
+    → take 20 b ≡ take 3 a ++ (digits 16 16 (r .a) ++ (32 ∷ []))
+    → take 37 c ≡ take 20 b ++ (digits 16 16 (r .b) ++ (32 ∷ []))
     → take 54 d ≡ take 37 c ++ (digits 16 16 (r .c) ++ (10 ∷ [])) → length d ≡ 54 → d ≡ lineOf r
 unfolding lineOf
 spelled r a b c d h i j k l =
-    sym (take-all 54 d (omega arith)) ∙ rw (k, j, i, h) (joined (digits 16 2 (r .refusal)) (digits 16 16 (r .a)) (digits 16 16 (r .b)) (digits 16 16 (r .c)))
+    sym (take-all 54 d (omega arith)) ∙ rw (k, j, i, h) (joined (digits 16 2 (r .refusal)) (digits 16 16 (r .a))
+    (digits 16 16 (r .b)) (digits 16 16 (r .c)))
   where
     joined : (p q s t : List ℕ) → (((p ++ (32 ∷ [])) ++ (q ++ (32 ∷ []))) ++ (s ++ (32 ∷ []))) ++ (t ++ (10 ∷ []))
         ≡ p ++ (32 ∷ (q ++ (32 ∷ (s ++ (32 ∷ (t ++ (10 ∷ [])))))))

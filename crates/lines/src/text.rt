@@ -39,7 +39,8 @@ fn put_hex(out: &mut [u8], at: usize, width: usize, n: u64)
 // Digits and the byte after them.
 fn put_field(out: &mut [u8], at: usize, width: usize, n: u64, after: u8)
     requires { ⌜ at + width < length (now out) ⌝ }
-    ensures { λ r. ⌜ take (at + width + 1) (now (out .exit)) ≡ take at (now (out .entry)) ++ (digits 16 width n ++ (after ∷ [])) ⌝ }
+    ensures { λ r. ⌜ take (at + width + 1) (now (out .exit)) ≡ take at (now (out .entry)) ++
+        (digits 16 width n ++ (after ∷ [])) ⌝ }
 {
     put_hex(out, at, width, n);
     put(out, at + width, after);

@@ -9,11 +9,14 @@ use lib.Bits.{bitAnd, bitOr, and-shr, or-shr, and-mod, or-mod, and-zero-r, or-ze
 use Rattle.memory.specs.Access.{goodSize, spanOf, cutOf, shifted, maskOf, writtenOf, mergedOf}
 
 -- k bits from bit s of a word: those of v where the mask m covers them
-laid : (s k old m w v : ℕ) → (0xFFFFFFFF - m) / 2 ^ s % 2 ^ k ≡ 0 → m / 2 ^ s % 2 ^ k ≡ 2 ^ k - 1 → w / 2 ^ s % 2 ^ k ≡ v % 2 ^ k
+laid : (s k old m w v : ℕ) → (0xFFFFFFFF - m) / 2 ^ s % 2 ^ k ≡ 0 → m / 2 ^ s % 2 ^ k ≡ 2 ^ k - 1
+    → w / 2 ^ s % 2 ^ k ≡ v % 2 ^ k
     → bitOr (bitAnd old (0xFFFFFFFF - m)) (bitAnd w m) / 2 ^ s % 2 ^ k ≡ v % 2 ^ k
 laid s k old m w v p q e =
-    let kept : bitAnd old (0xFFFFFFFF - m) / 2 ^ s % 2 ^ k ≡ 0 = rw (and-shr, and-mod, p) (and-zero-r (old / 2 ^ s % 2 ^ k)) in
-    let new : bitAnd w m / 2 ^ s % 2 ^ k ≡ v % 2 ^ k = rw (and-shr, and-mod, q, e) (and-mask (v % 2 ^ k) k ∙ mod-mod v (2 ^ k)) in
+    let kept : bitAnd old (0xFFFFFFFF - m) / 2 ^ s % 2 ^ k ≡ 0 = rw (and-shr, and-mod, p)
+    (and-zero-r (old / 2 ^ s % 2 ^ k)) in
+    let new : bitAnd w m / 2 ^ s % 2 ^ k ≡ v % 2 ^ k = rw (and-shr, and-mod, q, e)
+    (and-mask (v % 2 ^ k) k ∙ mod-mod v (2 ^ k)) in
     rw (or-shr, or-mod, kept, new) (or-zero-l (v % 2 ^ k))
 
 -- the mask of an access at byte r of the word
@@ -21,7 +24,8 @@ abbrev maskAt : ℕ → ℕ → ℕ
 maskAt r n = cond (eqb n 4) 0xFFFFFFFF ((spanOf n - 1) * 2 ^ (8 * r) % 2 ^ 32)
 
 abbrev Back : ℕ → ℕ → ℕ → ℕ → Type 0
-Back r n old v = bitOr (bitAnd old (0xFFFFFFFF - maskAt r n)) (bitAnd (v * 2 ^ (8 * r) % 2 ^ 32) (maskAt r n)) / 2 ^ (8 * r) % spanOf n ≡ v % spanOf n
+Back r n old v = bitOr (bitAnd old (0xFFFFFFFF - maskAt r n)) (bitAnd (v * 2 ^ (8 * r) % 2 ^ 32) (maskAt r n)) / 2 ^
+    (8 * r) % spanOf n ≡ v % spanOf n
 
 byte-back : (r old v : ℕ) → r ≤ 3 → Back r 1 old v
 unfolding spanOf
@@ -55,6 +59,7 @@ back r (suc (suc (suc zero))) old v g h = absurd (never g)
 back r (suc (suc (suc (suc zero)))) old v g h = word-back r old v (omega arith)
 back r (suc (suc (suc (suc (suc n))))) old v g h = absurd (let z : ⊥ = omega arith in z)
 
-pub cut-merged : (old addr n v : ℕ) → goodSize n ≡ true → addr % 4 + n ≤ 4 → cutOf (mergedOf old addr n v) addr n ≡ v % spanOf n
+pub cut-merged : (old addr n v : ℕ) → goodSize n ≡ true → addr % 4 + n ≤ 4 → cutOf (mergedOf old addr n v) addr n ≡ v
+    % spanOf n
 unfolding cutOf mergedOf writtenOf maskOf shifted
 cut-merged old addr n v g h = back (addr % 4) n old v g h

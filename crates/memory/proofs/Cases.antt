@@ -37,7 +37,8 @@ module _ (first last a : ℕ) where
   within-before h = rw (lt-leb _ _ h)
 
   -- a range whose addresses have another highest byte
-  pub within-else : (k : ℕ) → k * 0x1000000 ≤ first → last < (k + 1) * 0x1000000 → a / 0x1000000 ≢ k → within first last a ≡ false
+  pub within-else : (k : ℕ) → k * 0x1000000 ≤ first → last < (k + 1) * 0x1000000 → a / 0x1000000 ≢ k
+      → within first last a ≡ false
   within-else k h l d =
       ⊎-elim within-before
       (λ m. ⊎-elim within-past (λ n. absurd (d (omega arith))) (lt-or-ge last a))
@@ -90,7 +91,12 @@ module _ (a : ℕ) where
     pub place-gpio : a < 0xC0001000 → Gpio (a - 0xC0000000) ≡ placeOf a
     unfolding placeOf
     place-gpio h =
-        rw (no-ram (λ z. omega arith), no-sram (λ z. omega arith), within-yes 0xC0000000 0xC0000FFF a (omega arith) (omega arith))
+        rw (
+          no-ram (λ z. omega arith),
+          no-sram (λ z. omega arith),
+          within-yes 0xC0000000 0xC0000FFF a (omega arith)
+              (omega arith),
+        )
 
     pub place-low : 0xC0001000 ≤ a → Register ≡ placeOf a
     unfolding placeOf isRegister
@@ -141,7 +147,8 @@ module _ (a : ℕ) where
         )
 
   -- any other
-  pub place-stray : a / 0x1000000 ≢ 0x20 → a / 0x1000000 ≢ 0xC0 → a / 0x1000000 ≢ 0xD0 → a / 0x1000000 ≢ 0xF8 → a / 0x1000000 ≢ 0xFF → Stray ≡ placeOf a
+  pub place-stray : a / 0x1000000 ≢ 0x20 → a / 0x1000000 ≢ 0xC0 → a / 0x1000000 ≢ 0xD0 → a / 0x1000000 ≢ 0xF8
+      → a / 0x1000000 ≢ 0xFF → Stray ≡ placeOf a
   unfolding placeOf isRegister
   place-stray r c d f h = rw (no-ram r, no-sram f, no-gpio c, no-low c, no-middle d, no-high h)
 
@@ -162,7 +169,8 @@ module _ (m : List ℕ) (o n : ℕ) where
   load-none = either (λ (k : ℕ). 0 ≡ k) (leb (o + 0) (length m)) 0 0 refl refl
 
   -- a byte more in front
-  pub load-front : (v r : ℕ) → o + suc n ≤ length m → v ≡ loaded m (o + 1) n → r ≡ (getD m o 0 + 256 * v) % 2 ^ 32 → r ≡ loaded m o (suc n)
+  pub load-front : (v r : ℕ) → o + suc n ≤ length m → v ≡ loaded m (o + 1) n → r ≡ (getD m o 0 + 256 * v) % 2 ^ 32
+      → r ≡ loaded m o (suc n)
   unfolding loaded le
   load-front v r h e f =
       let h′ : o + 1 + n ≤ length m = omega arith in
@@ -190,7 +198,8 @@ module _ (m : List ℕ) (o n : ℕ) where
   store-none v = either (λ (k : List ℕ). m ≡ k) (leb (o + 0) (length m)) m m refl refl
 
   -- a byte more in front
-  pub store-front : (k : List ℕ) (v b : ℕ) → o + suc n ≤ length m → b ≡ v % 256 → k ≡ storedAt (set m o b) (o + 1) n (v / 256) → k ≡ storedAt m o (suc n) v
+  pub store-front : (k : List ℕ) (v b : ℕ) → o + suc n ≤ length m → b ≡ v % 256
+      → k ≡ storedAt (set m o b) (o + 1) n (v / 256) → k ≡ storedAt m o (suc n) v
   unfolding storedAt bytesOf
   store-front k v b h e f =
       let h′ : o + 1 + n ≤ length (set m o b) = rw length-set (omega arith) in
@@ -208,7 +217,8 @@ module _ (m : List ℕ) (o n : ℕ) where
       let y : o + (i + 1) ≡ suc (o + i) = omega arith in
       rw (z, y, e)
 
-  pub store-end : (m₀ : List ℕ) (i v w : ℕ) → o + n ≤ length m₀ → n ≤ i → sets m (o + i) (bytesOf (n - i) w) ≡ sets m₀ o (bytesOf n v)
+  pub store-end : (m₀ : List ℕ) (i v w : ℕ) → o + n ≤ length m₀ → n ≤ i → sets m (o + i) (bytesOf (n - i) w) ≡ sets m₀
+      o (bytesOf n v)
       → m ≡ storedAt m₀ o n v
   unfolding bytesOf storedAt
   store-end m₀ i v w g h e =

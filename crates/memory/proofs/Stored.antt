@@ -18,7 +18,8 @@ use Rattle.memory.specs.Bytes.{le, loaded, bytesOf, storedAt}
 -- ---- a store that passes the end, or not
 pub store-length : (m : List ℕ) (o n v : ℕ) → length (storedAt m o n v) ≡ length m
 unfolding storedAt
-store-length m o n v = either (λ (k : List ℕ). length k ≡ length m) (leb (o + n) (length m)) (sets m o (bytesOf n v)) m (length-sets m o (bytesOf n v)) refl
+store-length m o n v = either (λ (k : List ℕ). length k ≡ length m) (leb (o + n) (length m)) (sets m o (bytesOf n v))
+    m (length-sets m o (bytesOf n v)) refl
 
 -- ---- bytes outside what is stored
 
@@ -29,7 +30,8 @@ Outside o n p = (p < o) ⊎ (o + n ≤ p)
 sets-other : (n : ℕ) (m : List ℕ) (o v p : ℕ) → Outside o n p → getD (sets m o (bytesOf n v)) p 0 ≡ getD m p 0
 unfolding bytesOf
 sets-other zero m o v p h = refl
-sets-other (suc n) m o v p h = sets-other n (set m o (v % 256)) (suc o) (v / 256) p (later h) ∙ getD-set-other m o p (v % 256) 0 (apart h)
+sets-other (suc n) m o v p h = sets-other n (set m o (v % 256)) (suc o) (v / 256) p (later h) ∙ getD-set-other m o p
+    (v % 256) 0 (apart h)
   where
     later : Outside o (suc n) p → Outside (suc o) n p
     later (inl l) = inl (omega arith)
@@ -41,7 +43,8 @@ sets-other (suc n) m o v p h = sets-other n (set m o (v % 256)) (suc o) (v / 256
 
 pub byte-other : (m : List ℕ) (o n v p : ℕ) → Outside o n p → getD (storedAt m o n v) p 0 ≡ getD m p 0
 unfolding storedAt
-byte-other m o n v p h = either (λ (k : List ℕ). getD k p 0 ≡ getD m p 0) (leb (o + n) (length m)) (sets m o (bytesOf n v)) m (sets-other n m o v p h) refl
+byte-other m o n v p h = either (λ (k : List ℕ). getD k p 0 ≡ getD m p 0) (leb (o + n) (length m))
+    (sets m o (bytesOf n v)) m (sets-other n m o v p h) refl
 
 -- the same bytes are the same number
 le-same : (n : ℕ) (k m : List ℕ) (o : ℕ) → ((i : ℕ) → o ≤ i → i < o + n → getD k i 0 ≡ getD m i 0) → le k o n ≡ le m o n
@@ -52,10 +55,12 @@ le-same (suc n) k m o h =
     let rest : le k (o + 1) n ≡ le m (o + 1) n = le-same n k m (o + 1) (λ i a b. h i (omega arith) (omega arith)) in
     rw (first, rest)
 
-pub load-other : (m : List ℕ) (o n v p k : ℕ) → ((p + k ≤ o) ⊎ (o + n ≤ p)) → loaded (storedAt m o n v) p k ≡ loaded m p k
+pub load-other : (m : List ℕ) (o n v p k : ℕ) → ((p + k ≤ o) ⊎ (o + n ≤ p)) → loaded (storedAt m o n v) p k ≡ loaded m
+    p k
 unfolding loaded
 load-other m o n v p k h =
-    let same : le (storedAt m o n v) p k ≡ le m p k = le-same k (storedAt m o n v) m p (λ i a b. byte-other m o n v i (outside h i a b)) in
+    let same : le (storedAt m o n v) p k ≡ le m p k = le-same k (storedAt m o n v) m p
+    (λ i a b. byte-other m o n v i (outside h i a b)) in
     rw (store-length, same)
   where
     outside : ((p + k ≤ o) ⊎ (o + n ≤ p)) → (i : ℕ) → p ≤ i → i < p + k → Outside o n i
@@ -70,12 +75,14 @@ byte-more (suc (suc zero)) v h = omega arith
 byte-more (suc (suc (suc zero))) v h = omega arith
 byte-more (suc (suc (suc (suc n)))) v h = absurd (let z : ⊥ = omega arith in z)
 
-le-stored : (n : ℕ) (m : List ℕ) (o v : ℕ) → n ≤ 4 → o + n ≤ length m → le (sets m o (bytesOf n v)) o n ≡ v % 2 ^ (8 * n)
+le-stored : (n : ℕ) (m : List ℕ) (o v : ℕ) → n ≤ 4 → o + n ≤ length m → le (sets m o (bytesOf n v)) o n ≡ v % 2 ^
+    (8 * n)
 unfolding le bytesOf
 le-stored zero m o v h g = omega arith
 le-stored (suc n) m o v h g =
     let first : getD (sets (set m o (v % 256)) (suc o) (bytesOf n (v / 256))) o 0 ≡ v % 256
-    = sets-other n (set m o (v % 256)) (suc o) (v / 256) o (inl (omega arith)) ∙ getD-set-same m o (v % 256) 0 (omega arith) in
+    = sets-other n (set m o (v % 256)) (suc o) (v / 256) o (inl (omega arith)) ∙ getD-set-same m o (v % 256) 0
+    (omega arith) in
     let fits : suc o + n ≤ length (set m o (v % 256)) = rw length-set (omega arith) in
     let rest : le (sets (set m o (v % 256)) (suc o) (bytesOf n (v / 256))) (suc o) n ≡ v / 256 % 2 ^ (8 * n)
     = le-stored n (set m o (v % 256)) (suc o) (v / 256) (omega arith) fits in

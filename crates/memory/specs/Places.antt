@@ -1,7 +1,8 @@
 -- Where an address lies.
-use Prim.Native.Nat.{ℕ, _-_}
+use Prim.Native.Nat.{ℕ, _+_, _-_}
 use mathlib.Core.Bool.{Bool, cond, _&&_, _||_}
 use lib.Dec.{leb}
+use Rattle.map.specs.Numbers.{FLASH-BASE, RAM-SIZE, SRAM-BASE, SRAM-SIZE, GPIO-BASE, GPIO-SIZE, GPIO-END, REGISTERS-END}
 use Rattle.memory.specs.declared.Place.{Place}
 use Rattle.memory.specs.declared.Place.the-variants.{Ram, Sram, Gpio, Register, Stray}
 
@@ -10,10 +11,10 @@ unfoldable pub within : ℕ → ℕ → ℕ → Bool
 within first last a = leb first a && leb a last
 
 unfoldable pub isRegister : ℕ → Bool
-isRegister a = within 0xC0001000 0xC0FFFFFF a || within 0xD0000000 0xD0FFFFFF a || within 0xFF000000 0xFFFFEFFF a
+isRegister a = within GPIO-END 0xC0FFFFFF a || within 0xD0000000 0xD0FFFFFF a || within 0xFF000000 (REGISTERS-END - 1) a
 
 unfoldable pub placeOf : ℕ → Place
 placeOf a =
-    cond (within 0x20000000 0x20FFFFFF a) (Ram (a - 0x20000000))
-    (cond (within 0xF8000000 0xF80FFFFF a) (Sram (a - 0xF8000000))
-    (cond (within 0xC0000000 0xC0000FFF a) (Gpio (a - 0xC0000000)) (cond (isRegister a) Register Stray)))
+    cond (within FLASH-BASE (FLASH-BASE + RAM-SIZE - 1) a) (Ram (a - FLASH-BASE))
+    (cond (within SRAM-BASE (SRAM-BASE + SRAM-SIZE - 1) a) (Sram (a - SRAM-BASE))
+    (cond (within GPIO-BASE (GPIO-BASE + GPIO-SIZE - 1) a) (Gpio (a - GPIO-BASE)) (cond (isRegister a) Register Stray)))

@@ -5,6 +5,6 @@ use Rattle.memory.specs.Access.{mergedOf}
 
 abbrev pub table : List Example
 table =
-    record { given = mergedOf 0 0xC0100002 4 0x11223344 ∷ []; said = 0x33440000 ∷ [] }
-    ∷ record { given = mergedOf 0 0xC0100003 2 0xBEEF ∷ []; said = 0xEF000000 ∷ [] }
+    record { given = mergedOf 0 0xC0100002 4 0x11223344 ∷ []; expected = 0x33440000 ∷ [] }
+    ∷ record { given = mergedOf 0 0xC0100003 2 0xBEEF ∷ []; expected = 0xEF000000 ∷ [] }
     ∷ []

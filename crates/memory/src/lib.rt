@@ -1,5 +1,5 @@
-// Where an address lies, the bytes of a memory, and an access's part of a register word: `plain`, `slow_read`, `slow_write`,
-// `is_mmio` and the shifting and masking of `mmio_read` and `mmio_write` of core/src/sys.rs.
+// Where an address lies, the bytes of a memory, and an access's part of a register word: `plain`, `slow_read`,
+// `slow_write`, `is_mmio` and the shifting and masking of `mmio_read` and `mmio_write` of core/src/sys.rs.
 //
 // Every size is taken: to refuse one is the caller's matter.
 ghost use mathlib.Core.Path.{_≡_};
@@ -27,11 +27,11 @@ pub fn locate(addr: u32) -> Place
     let high = addr / 0x100_0000;
     match high {
         0x20 => {
-            return Place::Ram((addr - 0x2000_0000) as usize);
+            return Place::Ram((addr - map::FLASH_BASE) as usize);
         }
         0xC0 => {
-            if addr < 0xC000_1000 {
-                return Place::Gpio((addr - 0xC000_0000) as usize);
+            if addr < map::GPIO_END {
+                return Place::Gpio((addr - map::GPIO_BASE) as usize);
             }
             return Place::Register;
         }
@@ -39,13 +39,13 @@ pub fn locate(addr: u32) -> Place
             return Place::Register;
         }
         0xF8 => {
-            if addr < 0xF810_0000 {
-                return Place::Sram((addr - 0xF800_0000) as usize);
+            if addr < map::SRAM_END {
+                return Place::Sram((addr - map::SRAM_BASE) as usize);
             }
             return Place::Stray;
         }
         0xFF => {
-            if addr < 0xFFFF_F000 {
+            if addr < map::REGISTERS_END {
                 return Place::Register;
             }
             return Place::Stray;
@@ -115,8 +115,8 @@ fn load_any(m: &[u8], at: usize, size: usize) -> u32
     v
 }
 
-// The value of `size` bytes, the lowest first; 0 where they pass the end. The tests are so that a word takes the fewest, and that the
-// first falls away where the place is known to be small.
+// The value of `size` bytes, the lowest first; 0 where they pass the end. The tests are so that a word takes the
+// fewest, and that the first falls away where the place is known to be small.
 pub fn load(m: &[u8], at: usize, size: usize) -> u32
     ensures { λ r. ⌜ r ≡ loaded (now (m .entry)) at size ⌝ }
 {

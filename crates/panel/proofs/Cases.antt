@@ -10,18 +10,21 @@ use Rattle.panel.specs.declared.Held.the-variants.{Nothing, Byte}
 use Rattle.panel.specs.declared.Window.{Window}
 use Rattle.panel.specs.declared.Pen.{Pen}
 use Rattle.panel.specs.declared.Panel.{Panel}
-use Rattle.panel.specs.Lcd.{penAt, withPen, withFrames, begun, counts, commanded, counted, spot, put, nextPen, penned, inked, codeOf, aimed, pairAt, argued, fed}
+use Rattle.panel.specs.Lcd.{penAt, withPen, withFrames, begun, counts, commanded, counted, spot, put, nextPen}
+use Rattle.panel.specs.Lcd.{penned, inked, codeOf, aimed, pairAt, argued, fed}
 use Rattle.panel.specs.Lcd.{painted}
 use Rattle.panel.specs.Colour.{pixelAt, rgbOf}
 use Rattle.panel.specs.Entries.{Screen, screen, Drawing, drawing, dataOf, pixelOf, black, pictureOf}
 
 -- ---- command
 module _ (p : Panel) (c : ℕ) where
-  pub commanded-start : c ≡ 0x2C → commanded p c ≡ begun (Byte c) (p .window) (penAt (p .window .x0) (p .window .y0) Nothing (p .pen .frames))
+  pub commanded-start : c ≡ 0x2C → commanded p c ≡ begun (Byte c) (p .window)
+      (penAt (p .window .x0) (p .window .y0) Nothing (p .pen .frames))
   unfolding commanded
   commanded-start e = simp (eq-eqb _ _ e)
 
-  pub commanded-stay : c ≢ 0x2C → commanded p c ≡ begun (Byte c) (p .window) (penAt (p .pen .x) (p .pen .y) Nothing (p .pen .frames))
+  pub commanded-stay : c ≢ 0x2C → commanded p c ≡ begun (Byte c) (p .window)
+      (penAt (p .pen .x) (p .pen .y) Nothing (p .pen .frames))
   unfolding commanded
   commanded-stay n = simp (ne-eqb _ _ n)
 
@@ -86,28 +89,29 @@ module _ (w : Window) (c lo hi : ℕ) where
   aimed-not n m = simp (ne-eqb _ _ n, ne-eqb _ _ m)
 
 module _ (p : Panel) (b : ℕ) where
-  abbrev kept : List ℕ
-  kept = set (p .args) (p .count) b
+  abbrev moreArgs : List ℕ
+  moreArgs = set (p .args) (p .count) b
 
   pub argued-fourth : p .count ≡ 3
       → argued p b
       ≡ record {
         cmd = p .cmd;
-        args = kept;
+        args = moreArgs;
         count = p .count + 1;
-        window = aimed (p .window) (codeOf (p .cmd)) (pairAt kept 0) (pairAt kept 2);
+        window = aimed (p .window) (codeOf (p .cmd)) (pairAt moreArgs 0) (pairAt moreArgs 2);
         pen = p .pen;
       }
   unfolding argued
   argued-fourth e = simp (lt-ltb (p .count) 4 (omega arith), eq-eqb _ _ e)
 
   -- as the function finds the window
-  pub argues-fourth : (c lo hi : ℕ) (w : Window) → p .count ≡ 3 → lo ≡ pairAt kept 0 → hi ≡ pairAt kept 2 → c ≡ codeOf (p .cmd) → w ≡ aimed (p .window) c lo hi
-      → record { cmd = p .cmd; args = kept; count = p .count + 1; window = w; pen = p .pen } ≡ argued p b
+  pub argues-fourth : (c lo hi : ℕ) (w : Window) → p .count ≡ 3 → lo ≡ pairAt moreArgs 0 → hi ≡ pairAt moreArgs 2
+      → c ≡ codeOf (p .cmd) → w ≡ aimed (p .window) c lo hi
+      → record { cmd = p .cmd; args = moreArgs; count = p .count + 1; window = w; pen = p .pen } ≡ argued p b
   argues-fourth c lo hi w e f g h a = rw (a, h, f, g) (sym (argued-fourth e))
 
   pub argued-kept : p .count < 4 → p .count ≢ 3
-      → argued p b ≡ record { cmd = p .cmd; args = kept; count = p .count + 1; window = p .window; pen = p .pen }
+      → argued p b ≡ record { cmd = p .cmd; args = moreArgs; count = p .count + 1; window = p .window; pen = p .pen }
   unfolding argued
   argued-kept h n = simp (lt-ltb _ _ h, ne-eqb _ _ n)
 
@@ -147,7 +151,8 @@ drawing-is e f = rw (e, f)
 
 -- ---- data, with the pixels
 module _ (p : Panel) (fb : List ℕ) (b : ℕ) where
-  pub draws : (q : Pen) (gb : List ℕ) → codeOf (p .cmd) ≡ 0x2C → drawing q gb ≡ drawing (penned (p .window) (p .pen) b) (inked fb (p .pen) b)
+  pub draws : (q : Pen) (gb : List ℕ) → codeOf (p .cmd) ≡ 0x2C
+      → drawing q gb ≡ drawing (penned (p .window) (p .pen) b) (inked fb (p .pen) b)
       → screen (withPen p q) gb ≡ screen (fed p b) (painted p fb b)
   draws q gb e d =
       screen-is
@@ -185,7 +190,8 @@ module _ (fb out : List ℕ) where
   unfolding pictureOf
   picture-done e f = rw (eq-eqb _ _ e, eq-eqb _ _ f)
 
-  pub picture-serves : (r : List ℕ) → length fb ≡ 32768 → length out ≡ 49152 → r ≡ rgbOf fb → record { refusal = 0; out = r } ≡ pictureOf fb out
+  pub picture-serves : (r : List ℕ) → length fb ≡ 32768 → length out ≡ 49152 → r ≡ rgbOf fb
+      → record { refusal = 0; out = r } ≡ pictureOf fb out
   picture-serves r e f d = ap (λ (l : List ℕ). record { refusal = 0; out = l }) d ∙ sym (picture-done e f)
 
   pub picture-no-room : length fb ≡ 32768 → length out ≢ 49152 → pictureOf fb out ≡ record { refusal = 7; out = out }

@@ -9,7 +9,8 @@ use Rattle.panel.specs.declared.Colours.{Colours}
 use Rattle.panel.specs.Colour.{parted, fromLe, pushed, rgbOf, coloursAt, pixelAt, tripleAt, over, triple}
 
 -- the masks as remainders
-pub parted-is : (v : ℕ) → parted v ≡ record { r = v / 2048 % 32 * 255 / 31; g = v / 32 % 64 * 255 / 63; b = v % 32 * 255 / 31 }
+pub parted-is : (v : ℕ)
+    → parted v ≡ record { r = v / 2048 % 32 * 255 / 31; g = v / 32 % 64 * 255 / 63; b = v % 32 * 255 / 31 }
 unfolding parted
 parted-is v = rw (and-mask (v / 2 ^ 11) 5, and-mask (v / 2 ^ 5) 6, and-mask v 5)
 
@@ -42,7 +43,8 @@ unfolding first
 first-length zero fb h = refl
 first-length (suc n) [] h = absurd (omega arith)
 first-length (suc n) (lo ∷ []) h = absurd (omega arith)
-first-length (suc n) (lo ∷ hi ∷ rest) h = let e : length (first n rest) ≡ n * 3 = first-length n rest (omega arith) in omega arith
+first-length (suc n) (lo ∷ hi ∷ rest) h =
+    let e : length (first n rest) ≡ n * 3 = first-length n rest (omega arith) in omega arith
 
 -- a pixel further on
 further : (lo hi : ℕ) (rest : List ℕ) (n : ℕ) → coloursAt (lo ∷ hi ∷ rest) (suc n) ≡ coloursAt rest n
@@ -82,10 +84,12 @@ over-three (x ∷ xs) (o ∷ out) c =
     ∙ set-next x (set (set l n (c .r)) (n + 1) (c .g)) (suc n + 2) (n + 2) (c .b) (omega arith))
 
 -- ---- as the functions find them
-pub lays : (out a b d : List ℕ) (i : ℕ) (c : Colours) → a ≡ set out i (c .r) → b ≡ set a (i + 1) (c .g) → d ≡ set b (i + 2) (c .b) → d ≡ triple out i c
+pub lays : (out a b d : List ℕ) (i : ℕ) (c : Colours) → a ≡ set out i (c .r) → b ≡ set a (i + 1) (c .g)
+    → d ≡ set b (i + 2) (c .b) → d ≡ triple out i c
 lays out a b d i c p q r = cc
 
-pub pixel-is : (fb : List ℕ) (n hi lo v : ℕ) (c : Colours) → hi ≡ getD fb (n * 2 + 1) 0 → lo ≡ getD fb (n * 2) 0 → v ≡ hi * 256 + lo → c ≡ parted v → c ≡ coloursAt fb n
+pub pixel-is : (fb : List ℕ) (n hi lo v : ℕ) (c : Colours) → hi ≡ getD fb (n * 2 + 1) 0 → lo ≡ getD fb (n * 2) 0
+    → v ≡ hi * 256 + lo → c ≡ parted v → c ≡ coloursAt fb n
 pixel-is fb n hi lo v c p q r s = cc
 
 -- ---- the loop: over what was there, the colours of the first pixels
@@ -94,14 +98,16 @@ module _ (fb out : List ℕ) where
   unfolding first over
   none-shown = refl
 
-  more : (n : ℕ) → n * 2 + 1 < length fb → triple (over (first n fb) out) (n * 3) (coloursAt fb n) ≡ over (first (n + 1) fb) out
+  more : (n : ℕ) → n * 2 + 1 < length fb → triple (over (first n fb) out) (n * 3) (coloursAt fb n)
+      ≡ over (first (n + 1) fb) out
   more n h =
       let k : n + 1 ≡ suc n = omega arith in
       ap (λ m. triple (over (first n fb) out) m (coloursAt fb n)) (sym (first-length n fb (omega arith)))
       ∙ sym (over-three (first n fb) out (coloursAt fb n))
       ∙ sym (ap (λ l. over l out) (ap (λ m. first m fb) k ∙ first-more n fb h))
 
-  pub more-shown : (n : ℕ) (a b : List ℕ) (c : Colours) → n * 2 + 1 < length fb → a ≡ over (first n fb) out → c ≡ coloursAt fb n → b ≡ triple a (n * 3) c
+  pub more-shown : (n : ℕ) (a b : List ℕ) (c : Colours) → n * 2 + 1 < length fb → a ≡ over (first n fb) out
+      → c ≡ coloursAt fb n → b ≡ triple a (n * 3) c
       → b ≡ over (first (n + 1) fb) out
   more-shown n a b c h e d t = (cc) ∙ more n h
 

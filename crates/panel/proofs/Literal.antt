@@ -12,24 +12,28 @@ use borrow.Author.Tests.{lt-ltb, le-ltb, ne-eqb}
 use Rattle.whole.proofs.Words.{either as pick}
 use Rattle.panel.specs.declared.Held.the-variants.{Nothing, Byte}
 use Rattle.panel.specs.declared.Panel.{Panel}
-use Rattle.panel.specs.Lcd.{penAt, withPen, begun, counts, commanded, counted, put, nextPen, pennedBy, inkedBy, penned, inked, codeOf, aimed}
+use Rattle.panel.specs.Lcd.{penAt, withPen, begun, counts, commanded, counted, put, nextPen, pennedBy, inkedBy}
+use Rattle.panel.specs.Lcd.{penned, inked, codeOf, aimed}
 use Rattle.panel.specs.Lcd.{argued, fed, painted}
 use Rattle.panel.specs.Entries.{Screen, screen}
-use Rattle.panel.specs.Runs.{byte, copy, Act, order, input, ordered, taken, later}
-use Rattle.panel.specs.Rust.{Lcd, Option, none, some, isSome, default, cleared, lcdCommand, lcdPixel, lcdPut, lcdStep, inc32}
-use Rattle.panel.specs.Rust.{inc64, withPosition, withHalf, withFb, withArgs, withColumns, withRows, lcdHalf, lcdArgs, lcdData, lcdDma}
-use Rattle.panel.specs.Rust.{lcdRan, pairOf}
+use Rattle.panel.specs.Runs.{byte, copy, Act, order, input, screenAfterCommand, screenAfterInput, later}
+use Rattle.panel.specs.Rust.{Lcd, Option, none, some, isSome, default, cleared, lcdCommand, lcdPixel, lcdPut}
+use Rattle.panel.specs.Rust.{lcdStep, inc32}
+use Rattle.panel.specs.Rust.{inc64, withPosition, withHalf, withFb, withArgs, withColumns, withRows, lcdHalf}
+use Rattle.panel.specs.Rust.{lcdArgs, lcdData, lcdDma}
+use Rattle.panel.specs.Rust.{lcdAfterActs, pairOf}
 use Rattle.panel.specs.AsRust.{heldOf, compact, Bytes, AsRust}
 
 -- ---- command
-as-command : (l : Lcd) (c : ℕ) → compact (lcdCommand l c) ≡ ordered (compact l) c
+as-command : (l : Lcd) (c : ℕ) → compact (lcdCommand l c) ≡ screenAfterCommand (compact l) c
 unfolding lcdCommand commanded
 as-command l c = go (eqb c 0x2C)
   where
     go : (t : Bool)
         → compact (cond t (withPosition (cleared l c) (l .x0) (l .y0) (l .frames)) (cleared l c))
         ≡ screen
-        (begun (Byte c) (compact l .panel .window) (cond t (penAt (l .x0) (l .y0) Nothing (l .frames)) (penAt (l .x) (l .y) Nothing (l .frames))))
+        (begun (Byte c) (compact l .panel .window)
+        (cond t (penAt (l .x0) (l .y0) Nothing (l .frames)) (penAt (l .x) (l .y) Nothing (l .frames))))
         (l .fb)
     go true = refl
     go false = refl
@@ -75,14 +79,16 @@ as-put l h b s = rw (low-byte h b s, high-byte h b s) (go _ (ltb (l .x) 128) (lt
 
 -- the step to the next position: no sum goes round
 as-step : (l : Lcd) → l .x < 2 ^ 16 → l .y < 2 ^ 16
-    → compact (lcdStep (withHalf l none)) ≡ screen (withPen (compact l .panel) (nextPen (compact l .panel .window) (compact l .panel .pen))) (l .fb)
+    → compact (lcdStep (withHalf l none))
+    ≡ screen (withPen (compact l .panel) (nextPen (compact l .panel .window) (compact l .panel .pen))) (l .fb)
 unfolding nextPen
 as-step l hx hy = rw (inc-small (l .x) hx, inc-small (l .y) hy) (go (ltb (l .x1) (l .x + 1)) (ltb (l .y1) (l .y + 1)))
   where
     go : (t u : Bool)
         → compact
         (cond t
-        (cond u (withPosition (withHalf l none) (l .x0) (l .y0) (inc64 (l .frames))) (withPosition (withHalf l none) (l .x0) (l .y + 1) (l .frames)))
+        (cond u (withPosition (withHalf l none) (l .x0) (l .y0) (inc64 (l .frames)))
+        (withPosition (withHalf l none) (l .x0) (l .y + 1) (l .frames)))
         (withPosition (withHalf l none) (l .x + 1) (l .y) (l .frames)))
         ≡ screen
         (withPen (compact l .panel)
@@ -102,7 +108,8 @@ as-half : (l : Lcd) (o : Option) (b : ℕ) → Fits l → b < 256
     (inkedBy (heldOf o) (l .fb) (compact l .panel .pen) b)
 unfolding lcdPixel
 as-half l none b f s = refl
-as-half l (some h) b f s = rw (as-put (withHalf l none) h b s) (as-step (withFb l (put (l .fb) (l .x) (l .y) h b)) (f .x) (f .y))
+as-half l (some h) b f s =
+    rw (as-put (withHalf l none) h b s) (as-step (withFb l (put (l .fb) (l .x) (l .y) h b)) (f .x) (f .y))
 
 -- ---- data after another command
 
@@ -119,7 +126,13 @@ as-fourth : (l : Lcd) (a b c d : ℕ) → b < 256 → d < 256
     → compact (lcdArgs l (a ∷ b ∷ c ∷ d ∷ [])) ≡ screen (argued (arguing l (a ∷ b ∷ c ∷ [])) d) (l .fb)
 unfolding argued aimed
 as-fourth l a b c d hb hd =
-    rw (or-shifted a 8 b hb, or-shifted c 8 d hd, code-is (l .cmd) 0x2A (omega arith), code-is (l .cmd) 0x2B (omega arith))
+    rw (
+      or-shifted a 8 b hb,
+      or-shifted c 8 d hd,
+      code-is (l .cmd) 0x2A (omega arith),
+      code-is (l .cmd) 0x2B
+          (omega arith),
+    )
     (go (eqb (codeOf (heldOf (l .cmd))) 0x2A) (eqb (codeOf (heldOf (l .cmd))) 0x2B))
   where
     go : (t u : Bool)
@@ -136,7 +149,8 @@ as-fourth l a b c d hb hd =
           count = 4;
           window =
               cond t (record { x0 = a * 256 + b; x1 = c * 256 + d; y0 = l .y0; y1 = l .y1 })
-              (cond u (record { x0 = l .x0; x1 = l .x1; y0 = a * 256 + b; y1 = c * 256 + d }) (compact l .panel .window));
+              (cond u (record { x0 = l .x0; x1 = l .x1; y0 = a * 256 + b; y1 = c * 256 + d })
+              (compact l .panel .window));
           pen = compact l .panel .pen;
         })
         (l .fb)
@@ -146,7 +160,8 @@ as-fourth l a b c d hb hd =
 
 -- later ones are not kept
 as-more : (l : Lcd) (p q r t : ℕ) (rest : List ℕ) (b : ℕ)
-    → compact (lcdArgs l (p ∷ q ∷ r ∷ t ∷ (rest ++ (b ∷ [])))) ≡ screen (argued (arguing l (p ∷ q ∷ r ∷ t ∷ rest)) b) (l .fb)
+    → compact (lcdArgs l (p ∷ q ∷ r ∷ t ∷ (rest ++ (b ∷ []))))
+    ≡ screen (argued (arguing l (p ∷ q ∷ r ∷ t ∷ rest)) b) (l .fb)
 unfolding argued
 as-more l p q r t rest b =
     let n = length-append rest (b ∷ []) in
@@ -156,7 +171,8 @@ as-more l p q r t rest b =
     let full : min (length (p ∷ q ∷ r ∷ t ∷ rest)) 4 ≡ 4 = omega arith in
     rw (over, all, full)
 
-as-args : (l : Lcd) (a : List ℕ) (b : ℕ) → Smalls a → b < 256 → compact (lcdArgs l (a ++ (b ∷ []))) ≡ screen (argued (arguing l a) b) (l .fb)
+as-args : (l : Lcd) (a : List ℕ) (b : ℕ) → Smalls a → b < 256 → compact (lcdArgs l (a ++ (b ∷ [])))
+    ≡ screen (argued (arguing l a) b) (l .fb)
 unfolding argued
 as-args l [] b f s = refl
 as-args l (p ∷ []) b f s = refl
@@ -165,14 +181,16 @@ as-args l (p ∷ q ∷ r ∷ []) b f s = as-fourth l p q r b (f .1 .0) s
 as-args l (p ∷ q ∷ r ∷ t ∷ rest) b f s = as-more l p q r t rest b
 
 -- ---- data
-as-data : (l : Lcd) (b : ℕ) → Fits l → b < 256 → compact (lcdData l b) ≡ taken (compact l) (byte b)
+as-data : (l : Lcd) (b : ℕ) → Fits l → b < 256 → compact (lcdData l b) ≡ screenAfterInput (compact l) (byte b)
 unfolding lcdData fed painted penned inked
 as-data l b f s = rw (code-is (l .cmd) 0x2C (omega arith)) (go (eqb (codeOf (heldOf (l .cmd))) 0x2C))
   where
     go : (t : Bool)
         → compact (cond t (lcdHalf l (l .half) b) (lcdArgs l (l .args ++ (b ∷ []))))
         ≡ screen
-        (cond t (withPen (compact l .panel) (pennedBy (heldOf (l .half)) (compact l .panel .window) (compact l .panel .pen) b)) (argued (compact l .panel) b))
+        (cond t (withPen (compact l .panel)
+        (pennedBy (heldOf (l .half)) (compact l .panel .window) (compact l .panel .pen) b))
+        (argued (compact l .panel) b))
         (cond t (inkedBy (heldOf (l .half)) (l .fb) (compact l .panel .pen) b) (l .fb))
     go true = as-half l (l .half) b f s
     go false = as-args l (l .args) b (f .args) s
@@ -180,30 +198,49 @@ as-data l b f s = rw (code-is (l .cmd) 0x2C (omega arith)) (go (eqb (codeOf (hel
 -- ---- what fits goes on fitting
 fits-command : (l : Lcd) (c : ℕ) → Fits l → Fits (lcdCommand l c)
 unfolding lcdCommand
-fits-command l c f = pick Fits (eqb c 0x2C) _ _ (placed (l .x0) (l .y0) (f .x0) (f .y0)) (placed (l .x) (l .y) (f .x) (f .y))
+fits-command l c f =
+    pick Fits (eqb c 0x2C) _ _ (placed (l .x0) (l .y0) (f .x0) (f .y0)) (placed (l .x) (l .y) (f .x) (f .y))
   where
     placed : (x y : ℕ) → x < 2 ^ 16 → y < 2 ^ 16 → Fits (withPosition (cleared l c) x y (l .frames))
     placed x y hx hy = record { x0 = f .x0; x1 = f .x1; y0 = f .y0; y1 = f .y1; x = hx; y = hy; half = tt; args = tt }
 
 fits-step : (l : Lcd) → Fits l → Fits (lcdStep l)
-fits-step l f = rw (inc-small (l .x) (f .x), inc-small (l .y) (f .y)) (go (decLt (l .x1) (l .x + 1)) (decLt (l .y1) (l .y + 1)))
+fits-step l f =
+    rw (inc-small (l .x) (f .x), inc-small (l .y) (f .y)) (go (decLt (l .x1) (l .x + 1)) (decLt (l .y1) (l .y + 1)))
   where
     placed : (x y n : ℕ) → x < 2 ^ 16 → y < 2 ^ 16 → Fits (withPosition l x y n)
-    placed x y n hx hy = record { x0 = f .x0; x1 = f .x1; y0 = f .y0; y1 = f .y1; x = hx; y = hy; half = f .half; args = f .args }
+    placed x y n hx hy =
+        record { x0 = f .x0; x1 = f .x1; y0 = f .y0; y1 = f .y1; x = hx; y = hy; half = f .half; args = f .args }
 
     go : Dec (l .x1 < l .x + 1) → Dec (l .y1 < l .y + 1)
         → Fits
         (cond (ltb (l .x1) (l .x + 1))
-        (cond (ltb (l .y1) (l .y + 1)) (withPosition l (l .x0) (l .y0) (inc64 (l .frames))) (withPosition l (l .x0) (l .y + 1) (l .frames)))
+        (cond (ltb (l .y1) (l .y + 1)) (withPosition l (l .x0) (l .y0) (inc64 (l .frames)))
+        (withPosition l (l .x0) (l .y + 1) (l .frames)))
         (withPosition l (l .x + 1) (l .y) (l .frames)))
     go (yes p) (yes q) = rw (lt-ltb _ _ p, lt-ltb _ _ q) (placed (l .x0) (l .y0) (inc64 (l .frames)) (f .x0) (f .y0))
-    go (yes p) (no q) = rw (lt-ltb _ _ p, le-ltb (l .y1) (l .y + 1) (omega arith)) (placed (l .x0) (l .y + 1) (l .frames) (f .x0) (omega (arith, f .y1)))
-    go (no p) q = rw (le-ltb (l .x1) (l .x + 1) (omega arith)) (placed (l .x + 1) (l .y) (l .frames) (omega (arith, f .x1)) (f .y))
+    go (yes p) (no q) =
+        rw (lt-ltb _ _ p, le-ltb (l .y1) (l .y + 1) (omega arith))
+        (placed (l .x0) (l .y + 1) (l .frames) (f .x0) (omega (arith, f .y1)))
+    go (no p) q =
+        rw (le-ltb (l .x1) (l .x + 1) (omega arith))
+        (placed (l .x + 1) (l .y) (l .frames) (omega (arith, f .x1)) (f .y))
 
 fits-half : (l : Lcd) (o : Option) (b : ℕ) → Fits l → b < 256 → Fits (lcdHalf l o b)
 unfolding lcdPixel
-fits-half l none b f s = record { x0 = f .x0; x1 = f .x1; y0 = f .y0; y1 = f .y1; x = f .x; y = f .y; half = s; args = f .args }
-fits-half l (some h) b f s = fits-step _ (record { x0 = f .x0; x1 = f .x1; y0 = f .y0; y1 = f .y1; x = f .x; y = f .y; half = tt; args = f .args })
+fits-half l none b f s =
+    record { x0 = f .x0; x1 = f .x1; y0 = f .y0; y1 = f .y1; x = f .x; y = f .y; half = s; args = f .args }
+fits-half l (some h) b f s =
+    fits-step _ (record {
+      x0 = f .x0;
+      x1 = f .x1;
+      y0 = f .y0;
+      y1 = f .y1;
+      x = f .x;
+      y = f .y;
+      half = tt;
+      args = f .args;
+    })
 
 smalls-more : (a : List ℕ) (b : ℕ) → Smalls a → b < 256 → Smalls (a ++ (b ∷ []))
 smalls-more [] b f s = (s, tt)
@@ -216,30 +253,65 @@ small-at (x ∷ a) zero f = f .0
 small-at (x ∷ a) (suc i) f = small-at a i (f .1)
 
 small-pair : (a : List ℕ) (i : ℕ) → Smalls a → pairOf a i < 2 ^ 16
-small-pair a i f = let p = small-at a i f in let q = small-at a (i + 1) f in rw (or-shifted (getD a i 0) 8 (getD a (i + 1) 0) q) (omega arith)
+small-pair a i f =
+    let p = small-at a i f in let q = small-at a (i + 1) f in rw (or-shifted (getD a i 0) 8 (getD a (i + 1) 0) q)
+    (omega arith)
 
 fits-args : (l : Lcd) (a : List ℕ) → Fits l → Smalls a → Fits (lcdArgs l a)
 fits-args l a f s =
     pick Fits (eqb (length a) 4 && (isSome (l .cmd) 0x2A || isSome (l .cmd) 0x2B)) _ _
     (pick Fits (isSome (l .cmd) 0x2A) _ _
-    (record { x0 = small-pair a 0 s; x1 = small-pair a 2 s; y0 = f .y0; y1 = f .y1; x = f .x; y = f .y; half = f .half; args = s })
-    (record { x0 = f .x0; x1 = f .x1; y0 = small-pair a 0 s; y1 = small-pair a 2 s; x = f .x; y = f .y; half = f .half; args = s }))
+    (record {
+      x0 = small-pair a 0 s;
+      x1 = small-pair a 2 s;
+      y0 = f .y0;
+      y1 = f .y1;
+      x = f .x;
+      y = f .y;
+      half = f .half;
+      args = s;
+    })
+    (record {
+      x0 = f .x0;
+      x1 = f .x1;
+      y0 = small-pair a 0 s;
+      y1 = small-pair a 2 s;
+      x = f .x;
+      y = f .y;
+      half = f .half;
+      args = s;
+    }))
     (record { x0 = f .x0; x1 = f .x1; y0 = f .y0; y1 = f .y1; x = f .x; y = f .y; half = f .half; args = s })
 
 fits-data : (l : Lcd) (b : ℕ) → Fits l → b < 256 → Fits (lcdData l b)
 unfolding lcdData
-fits-data l b f s = pick Fits (isSome (l .cmd) 0x2C) _ _ (fits-half l (l .half) b f s) (fits-args l (l .args ++ (b ∷ [])) f (smalls-more (l .args) b (f .args) s))
+fits-data l b f s =
+    pick Fits (isSome (l .cmd) 0x2C) _ _ (fits-half l (l .half) b f s)
+    (fits-args l (l .args ++ (b ∷ [])) f (smalls-more (l .args) b (f .args) s))
 
 -- ---- a run
-runs : (l : Lcd) (acts : List Act) → Fits l → Bytes acts → compact (lcdRan l acts) ≡ later (compact l) acts
-unfolding lcdRan later counted
+runs : (l : Lcd) (acts : List Act) → Fits l → Bytes acts → compact (lcdAfterActs l acts) ≡ later (compact l) acts
+unfolding lcdAfterActs later counted
 runs l [] f s = refl
-runs l (order c ∷ acts) f s = runs (lcdCommand l c) acts (fits-command l c f) s ∙ ap (λ (v : Screen). later v acts) (as-command l c)
-runs l (input (byte b) ∷ acts) f s = runs (lcdData l b) acts (fits-data l b f (s .0)) (s .1) ∙ ap (λ (v : Screen). later v acts) (as-data l b f (s .0))
+runs l (order c ∷ acts) f s =
+    runs (lcdCommand l c) acts (fits-command l c f) s ∙ ap (λ (v : Screen). later v acts) (as-command l c)
+runs l (input (byte b) ∷ acts) f s =
+    runs (lcdData l b) acts (fits-data l b f (s .0)) (s .1) ∙ ap (λ (v : Screen). later v acts) (as-data l b f (s .0))
 runs l (input (copy m) ∷ acts) f s =
-    runs (lcdDma l m) acts (record { x0 = f .x0; x1 = f .x1; y0 = f .y0; y1 = f .y1; x = f .x; y = f .y; half = f .half; args = f .args }) s
+    runs (lcdDma l m) acts
+    (record { x0 = f .x0; x1 = f .x1; y0 = f .y0; y1 = f .y1; x = f .x; y = f .y; half = f .half; args = f .args })
+    s
 
 pub as-rust : AsRust
 as-rust fb acts s =
     runs (default fb) acts
-    (record { x0 = omega arith; x1 = omega arith; y0 = omega arith; y1 = omega arith; x = omega arith; y = omega arith; half = tt; args = tt }) s
+    (record {
+      x0 = omega arith;
+      x1 = omega arith;
+      y0 = omega arith;
+      y1 = omega arith;
+      x = omega arith;
+      y = omega arith;
+      half = tt;
+      args = tt;
+    }) s

@@ -26,7 +26,8 @@ ink w p fb (copy m ∷ is) = ink w (penAt (p .x) (p .y) (p .half) (counts (p .fr
 
 -- it is the run of the whole panel
 pub feed-pixels : (s : Screen) (is : List Input) → codeOf (s .panel .cmd) ≡ 0x2C
-    → feed s is ≡ screen (withPen (s .panel) (moved (s .panel .window) (s .panel .pen) is)) (ink (s .panel .window) (s .panel .pen) (s .fb) is)
+    → feed s is ≡ screen (withPen (s .panel) (moved (s .panel .window) (s .panel .pen) is))
+    (ink (s .panel .window) (s .panel .pen) (s .fb) is)
 unfolding feed moved ink counted
 feed-pixels s [] e = refl
 feed-pixels s (byte b ∷ is) e = rw (fed-pixel (s .panel) b e, painted-pixel (s .panel) b (s .fb) e) (feed-pixels _ is e)
@@ -54,7 +55,8 @@ module _ (w : Window) (x y : ℕ) where
   next-is h f = go ends last
     where
       go : (a b : Bool)
-          → cond a (cond b (penAt (w .x0) (w .y0) Nothing (counts f)) (penAt (w .x0) (y + 1) Nothing f)) (penAt (x + 1) y Nothing f)
+          → cond a (cond b (penAt (w .x0) (w .y0) Nothing (counts f)) (penAt (w .x0) (y + 1) Nothing f))
+          (penAt (x + 1) y Nothing f)
           ≡ penAt (cond a (w .x0) (x + 1)) (cond a (cond b (w .y0) (y + 1)) y) Nothing (cond a (cond b (counts f) f) f)
       go true true = refl
       go true false = refl
@@ -75,12 +77,17 @@ pub record Healed (w : Window) (p q : Pen) (fb gb : List ℕ) (is : List Input) 
   pub pixels : ink w p fb is ≡ ink w q gb is
   pub pen : sight (moved w p is) ≡ sight (moved w q is)
 
-pub frameless : (w : Window) (x y : ℕ) (h : Held) (f g : ℕ) (fb : List ℕ) (is : List Input) → Healed w (penAt x y h f) (penAt x y h g) fb fb is
+pub frameless : (w : Window) (x y : ℕ) (h : Held) (f g : ℕ) (fb : List ℕ) (is : List Input)
+    → Healed w (penAt x y h f) (penAt x y h g) fb fb is
 unfolding ink moved penned inked
 frameless w x y h f g fb [] = record { pixels = refl; pen = refl }
-frameless w x y h f g fb (copy m ∷ is) = let r = frameless w x y h _ _ m is in record { pixels = r .pixels; pen = r .pen }
-frameless w x y Nothing f g fb (byte b ∷ is) = let r = frameless w x y (Byte b) f g fb is in record { pixels = r .pixels; pen = r .pen }
+frameless w x y h f g fb (copy m ∷ is) =
+    let r = frameless w x y h _ _ m is in record { pixels = r .pixels; pen = r .pen }
+frameless w x y Nothing f g fb (byte b ∷ is) =
+    let r = frameless w x y (Byte b) f g fb is in record { pixels = r .pixels; pen = r .pen }
 frameless w x y (Byte h) f g fb (byte b ∷ is) =
-    let r : Healed w (nextPen w (penAt x y (Byte h) f)) (nextPen w (penAt x y (Byte h) g)) (put fb x y h b) (put fb x y h b) is =
-    rw (next-is w x y (Byte h) f, next-is w x y (Byte h) g) (frameless w (nextX w x y) (nextY w x y) Nothing _ _ (put fb x y h b) is) in
+    let r : Healed w (nextPen w (penAt x y (Byte h) f)) (nextPen w (penAt x y (Byte h) g)) (put fb x y h b)
+    (put fb x y h b) is =
+    rw (next-is w x y (Byte h) f, next-is w x y (Byte h) g)
+    (frameless w (nextX w x y) (nextY w x y) Nothing _ _ (put fb x y h b) is) in
     record { pixels = r .pixels; pen = r .pen }

@@ -28,7 +28,8 @@ alike [] (copy m ∷ js) e = let z : _≡_ {A = ℕ} 0 1 = cc in absurd (omega a
 alike (byte b ∷ is) js e = left (alike is js e)
 alike (copy m ∷ is) [] e = let z : _≡_ {A = ℕ} 0 1 = cc in absurd (omega arith)
 alike (copy m ∷ is) (byte b ∷ js) e = right (alike (copy m ∷ is) js e)
-alike (copy m ∷ is) (copy n ∷ js) e = let d : m ≡ n = cc in let f : copies is ≡ copies js = cc in rw d (both (alike is js f))
+alike (copy m ∷ is) (copy n ∷ js) e =
+    let d : m ≡ n = cc in let f : copies is ≡ copies js = cc in rw d (both (alike is js f))
 
 -- byte k is of the window, or the two agree there
 pub data Aside (w : Window) (fb gb : List ℕ) (k : ℕ) : Type 0 where
@@ -40,7 +41,8 @@ turn (inside c) = inside c
 turn (apart q) = apart (sym q)
 
 -- a pixel of the window, in one of two that agree outside of it
-aside : (w : Window) (x y h b k : ℕ) (fb gb : List ℕ) → Within w x y → Touch x y k → Aside w fb gb k → Aside w (put fb x y h b) gb k
+aside : (w : Window) (x y h b k : ℕ) (fb gb : List ℕ) → Within w x y → Touch x y k → Aside w fb gb k
+    → Aside w (put fb x y h b) gb k
 aside w x y h b k fb gb i t (inside c) = inside c
 aside w x y h b k fb gb i (hit r c g f) (apart q) = inside (record { inside = rw (r, c) i; glass = omega arith })
 aside w x y h b k fb gb i (miss f g) (apart q) = apart (f fb h b ∙ q)
@@ -58,19 +60,25 @@ turned a = record { sized = sym (a .sized); outside = λ k. turn (a .outside k) 
 
 strayed : (w : Window) (x y h b : ℕ) (fb gb : List ℕ) → Within w x y → Astray w fb gb → Astray w (put fb x y h b) gb
 strayed w x y h b fb gb i a =
-    record { sized = put-length fb x y h b ∙ a .sized; outside = λ k. aside w x y h b k fb gb i (touch x y k) (a .outside k) }
+    record {
+      sized = put-length fb x y h b ∙ a .sized;
+      outside = λ k. aside w x y h b k fb gb i (touch x y k) (a .outside k);
+    }
 
 -- two runs with the same copies leave the pixels outside of the window alike
-pub stray : (w : Window) (is js : List Input) → Alike is js → (x y : ℕ) (h : Held) (f : ℕ) (x′ y′ : ℕ) (h′ : Held) (f′ : ℕ) (fb gb : List ℕ)
+pub stray : (w : Window) (is js : List Input) → Alike is js → (x y : ℕ) (h : Held) (f : ℕ) (x′ y′ : ℕ) (h′ : Held)
+    (f′ : ℕ) (fb gb : List ℕ)
     → Within w x y → Within w x′ y′ → Astray w fb gb
     → Astray w (ink w (penAt x y h f) fb is) (ink w (penAt x′ y′ h′ f′) gb js)
 unfolding ink penned inked
 stray w is js ended x y h f x′ y′ h′ f′ fb gb i i′ a = a
 stray w is js (both {m} r) x y h f x′ y′ h′ f′ fb gb i i′ a = stray w _ _ r x y h _ x′ y′ h′ _ m m i i′ (agreed w m)
-stray w is js (left {b} r) x y Nothing f x′ y′ h′ f′ fb gb i i′ a = stray w _ _ r x y (Byte b) f x′ y′ h′ f′ fb gb i i′ a
+stray w is js (left {b} r) x y Nothing f x′ y′ h′ f′ fb gb i i′ a =
+    stray w _ _ r x y (Byte b) f x′ y′ h′ f′ fb gb i i′ a
 stray w is js (left {b} r) x y (Byte h) f x′ y′ h′ f′ fb gb i i′ a =
     rw (next-empty w x y (Byte h) f)
-    (stray w _ _ r _ _ Nothing _ x′ y′ h′ f′ (put fb x y h b) gb (within-next w x y (Byte h) f i) i′ (strayed w x y h b fb gb i a))
+    (stray w _ _ r _ _ Nothing _ x′ y′ h′ f′ (put fb x y h b) gb (within-next w x y (Byte h) f i) i′
+    (strayed w x y h b fb gb i a))
 stray w is js (right {b} r) x y h f x′ y′ Nothing f′ fb gb i i′ a = stray w _ _ r x y h f x′ y′ (Byte b) f′ fb gb i i′ a
 stray w is js (right {b} r) x y h f x′ y′ (Byte h′) f′ fb gb i i′ a =
     rw (next-empty w x′ y′ (Byte h′) f′)

@@ -36,12 +36,14 @@ pub record Cell (w : Window) (k : ℕ) : Type 0 where
   pub glass : row k < 128
 
 -- the next position is in the window again
-pub within-next : (w : Window) (x y : ℕ) (h : Held) (f : ℕ) → Within w x y → Within w (nextPen w (penAt x y h f) .x) (nextPen w (penAt x y h f) .y)
+pub within-next : (w : Window) (x y : ℕ) (h : Held) (f : ℕ) → Within w x y
+    → Within w (nextPen w (penAt x y h f) .x) (nextPen w (penAt x y h f) .y)
 within-next w x y h f i = go (decLt x (w .x1)) (decLt y (w .y1))
   where
     go : Dec (x < w .x1) → Dec (y < w .y1) → Within w (nextPen w (penAt x y h f) .x) (nextPen w (penAt x y h f) .y)
     go (yes p) q =
-        rw (next-along w (penAt x y h f) p) (record { left = omega (arith, i .left); right = omega arith; top = i .top; low = i .low })
+        rw (next-along w (penAt x y h f) p)
+        (record { left = omega (arith, i .left); right = omega arith; top = i .top; low = i .low })
     go (no p) (yes q) =
         rw (next-down w (penAt x y h f) (omega arith) q)
         (record { left = omega arith; right = omega arith; top = omega (arith, i .top); low = omega arith })
@@ -64,7 +66,8 @@ wrote w x y fb gb h b k e (miss f g) (here c r u) = here c r (g r (c .glass) u)
 wrote w x y fb gb h b k e (miss f g) (same q) = same (f fb h b ∙ q ∙ sym (f gb h b))
 
 -- it goes from the end of a row to the next
-down : (w : Window) (x y : ℕ) (fb gb : List ℕ) (k : ℕ) → w .x0 ≤ x → w .x1 ≤ x → Still w (x + 1) y fb gb k → Still w (w .x0) (y + 1) fb gb k
+down : (w : Window) (x y : ℕ) (fb gb : List ℕ) (k : ℕ) → w .x0 ≤ x → w .x1 ≤ x → Still w (x + 1) y fb gb k
+    → Still w (w .x0) (y + 1) fb gb k
 down w x y fb gb k d e (under c u) = go (decLt (y + 1) (row k))
   where
     go : Dec (y + 1 < row k) → Still w (w .x0) (y + 1) fb gb k
@@ -74,12 +77,14 @@ down w x y fb gb k d e (here c r u) = absurd (omega (arith, c .inside .right))
 down w x y fb gb k d e (same q) = same q
 
 -- and at the end of the last row nothing is left
-done : (w : Window) (x y : ℕ) (fb gb : List ℕ) (k : ℕ) → Within w x y → w .x1 ≤ x → w .y1 ≤ y → Still w (x + 1) y fb gb k → getD fb k 0 ≡ getD gb k 0
-done w x y fb gb k i e l (under c u) = absurd (omega (arith, c .inside .low, i .top))
-done w x y fb gb k i e l (here c r u) = absurd (omega (arith, c .inside .right, i .left))
-done w x y fb gb k i e l (same q) = q
+none-left : (w : Window) (x y : ℕ) (fb gb : List ℕ) (k : ℕ) → Within w x y → w .x1 ≤ x → w .y1 ≤ y
+    → Still w (x + 1) y fb gb k → getD fb k 0 ≡ getD gb k 0
+none-left w x y fb gb k i e l (under c u) = absurd (omega (arith, c .inside .low, i .top))
+none-left w x y fb gb k i e l (here c r u) = absurd (omega (arith, c .inside .right, i .left))
+none-left w x y fb gb k i e l (same q) = q
 
-settled : (w : Window) (x y : ℕ) (h : Held) (f g : ℕ) (fb gb : List ℕ) (is : List Input) → length fb ≡ length gb → ((k : ℕ) → getD fb k 0 ≡ getD gb k 0)
+settled : (w : Window) (x y : ℕ) (h : Held) (f g : ℕ) (fb gb : List ℕ) (is : List Input) → length fb ≡ length gb
+    → ((k : ℕ) → getD fb k 0 ≡ getD gb k 0)
     → Healed w (penAt x y h f) (penAt x y h g) fb gb is
 settled w x y h f g fb gb is e s = rw (ext-getD 0 fb gb e (λ i l. s i)) (frameless w x y h f g gb is)
 
@@ -109,33 +114,41 @@ rest-whole w = ap (λ n. (lastY w - w .y0) * across w + n) f ∙ sym (ap (λ n. 
     f = omega arith
 
 -- a held byte counts
-abbrev pub held : Held → ℕ
-held Nothing = 0
-held (Byte b) = 1
+abbrev pub halfBytes : Held → ℕ
+halfBytes Nothing = 0
+halfBytes (Byte b) = 1
 
 -- from any place of the window a run that takes the sweep to the window's end heals what was left
 abbrev Swept : Window → List Input → Type 0
 Swept w is =
-    (x y : ℕ) (h : Held) (f g : ℕ) (fb gb : List ℕ) → Within w x y → length fb ≡ length gb → ((k : ℕ) → Still w x y fb gb k)
-    → rest w x y * 2 ≤ bytesIn is + held h
+    (x y : ℕ) (h : Held) (f g : ℕ) (fb gb : List ℕ) → Within w x y → length fb ≡ length gb
+    → ((k : ℕ) → Still w x y fb gb k)
+    → rest w x y * 2 ≤ bytesIn is + halfBytes h
     → Healed w (penAt x y h f) (penAt x y h g) fb gb is
 
 -- the pen goes on from a pixel that both have just written
 module _ (w : Window) (h : ℕ) (is : List Input) (later : Swept w is) where
-  step : (x y f g : ℕ) (fb gb : List ℕ) → Within w x y → length fb ≡ length gb → ((k : ℕ) → Still w (x + 1) y fb gb k) → rest w x y * 2 ≤ bytesIn is + 2
+  step : (x y f g : ℕ) (fb gb : List ℕ) → Within w x y → length fb ≡ length gb → ((k : ℕ) → Still w (x + 1) y fb gb k)
+      → rest w x y * 2 ≤ bytesIn is + 2
       → Dec (x < w .x1) → Dec (y < w .y1)
       → Healed w (nextPen w (penAt x y (Byte h) f)) (nextPen w (penAt x y (Byte h) g)) fb gb is
   step x y f g fb gb i e s l (yes p) q =
       rw (next-along w (penAt x y (Byte h) f) p, next-along w (penAt x y (Byte h) g) p)
-      (later (x + 1) y Nothing f g fb gb (record { left = omega (arith, i .left); right = omega arith; top = i .top; low = i .low }) e s (omega arith))
+      (later (x + 1) y Nothing f g fb gb
+      (record { left = omega (arith, i .left); right = omega arith; top = i .top; low = i .low }) e s (omega arith))
   step x y f g fb gb i e s l (no p) (yes q) =
       rw (next-down w (penAt x y (Byte h) f) (omega arith) q, next-down w (penAt x y (Byte h) g) (omega arith) q)
       (later (w .x0) (y + 1) Nothing f g fb gb
       (record { left = omega arith; right = omega arith; top = omega (arith, i .top); low = omega arith }) e
       (λ k. down w x y fb gb k (i .left) (omega arith) (s k)) (omega (arith, row-less w y q, i .left, i .right)))
   step x y f g fb gb i e s l (no p) (no q) =
-      rw (next-round w (penAt x y (Byte h) f) (omega arith) (omega arith), next-round w (penAt x y (Byte h) g) (omega arith) (omega arith))
-      (settled w (w .x0) (w .y0) Nothing _ _ fb gb is e (λ k. done w x y fb gb k i (omega arith) (omega arith) (s k)))
+      rw (
+        next-round w (penAt x y (Byte h) f) (omega arith) (omega arith),
+        next-round w (penAt x y (Byte h) g)
+            (omega arith) (omega arith),
+      )
+      (settled w (w .x0) (w .y0) Nothing _ _ fb gb is e
+      (λ k. none-left w x y fb gb k i (omega arith) (omega arith) (s k)))
 
 sweep : (w : Window) (is : List Input) → Swept w is
 unfolding ink moved penned inked bytesIn
@@ -156,7 +169,8 @@ pub at-start : (w : Window) → Within w (w .x0) (w .y0)
 at-start w = record { left = omega arith; right = omega arith; top = omega arith; low = omega arith }
 
 -- from the window's start, where the two agree outside of it
-pub swept : (w : Window) (is : List Input) (f g : ℕ) (fb gb : List ℕ) → length fb ≡ length gb → ((k : ℕ) → Still w (w .x0) (w .y0) fb gb k)
+pub swept : (w : Window) (is : List Input) (f g : ℕ) (fb gb : List ℕ) → length fb ≡ length gb
+    → ((k : ℕ) → Still w (w .x0) (w .y0) fb gb k)
     → windowBytes w ≤ bytesIn is
     → Healed w (penAt (w .x0) (w .y0) Nothing f) (penAt (w .x0) (w .y0) Nothing g) fb gb is
 swept w is f g fb gb e s l = sweep w is (w .x0) (w .y0) Nothing f g fb gb (at-start w) e s (omega (arith, rest-whole w))

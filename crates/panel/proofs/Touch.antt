@@ -39,7 +39,8 @@ pub data Touch (x y k : ℕ) : Type 0 where
   hit : row k ≡ y → col k ≡ x → y < 128
       → ((fb gb : List ℕ) (h b : ℕ) → length fb ≡ length gb → getD (put fb x y h b) k 0 ≡ getD (put gb x y h b) k 0)
       → Touch x y k
-  miss : ((fb : List ℕ) (h b : ℕ) → getD (put fb x y h b) k 0 ≡ getD fb k 0) → (row k ≡ y → row k < 128 → x ≤ col k → x + 1 ≤ col k) → Touch x y k
+  miss : ((fb : List ℕ) (h b : ℕ) → getD (put fb x y h b) k 0 ≡ getD fb k 0)
+      → (row k ≡ y → row k < 128 → x ≤ col k → x + 1 ≤ col k) → Touch x y k
 
 pub touch : (x y k : ℕ) → Touch x y k
 touch x y k = go (decLt x 128) (decLt y 128) (ℕ-discrete k (spot x y)) (ℕ-discrete k (spot x y + 1))
@@ -57,4 +58,5 @@ touch x y k = go (decLt x 128) (decLt y 128) (ℕ-discrete k (spot x y)) (ℕ-di
         (rw b (set-agrees (set fb (spot x y) l) (set gb (spot x y) l) (spot x y + 1) h (simp length-set e))))
     go (yes p) (yes q) (no a) (no b) =
         miss (λ fb h l. rw (put-on fb x y h l p q)
-        (getD-set-other (set fb (spot x y) l) (spot x y + 1) k h 0 b ∙ getD-set-other fb (spot x y) k l 0 a)) (omega arith)
+        (getD-set-other (set fb (spot x y) l) (spot x y + 1) k h 0 b ∙ getD-set-other fb (spot x y) k l 0 a))
+        (omega arith)

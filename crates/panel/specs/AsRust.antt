@@ -8,7 +8,7 @@ use Rattle.panel.specs.declared.Held.the-variants.{Nothing, Byte}
 use Rattle.panel.specs.Lcd.{freshPanel, penAt}
 use Rattle.panel.specs.Entries.{Screen, screen}
 use Rattle.panel.specs.Runs.{byte, copy, Act, order, input, later}
-use Rattle.panel.specs.Rust.{Lcd, Option, none, some, default, lcdRan}
+use Rattle.panel.specs.Rust.{Lcd, Option, none, some, default, lcdAfterActs}
 
 abbrev pub heldOf : Option → Held
 heldOf none = Nothing
@@ -40,4 +40,6 @@ Bytes (input (copy m) ∷ acts) = Bytes acts
 
 -- from the fresh state over any pixels, whatever comes, both are in the same state
 abbrev pub AsRust : Type 0
-AsRust = (fb : List ℕ) (acts : List Act) → Bytes acts → compact (lcdRan (default fb) acts) ≡ later (screen freshPanel fb) acts
+AsRust =
+    (fb : List ℕ) (acts : List Act) → Bytes acts → compact (lcdAfterActs (default fb) acts)
+    ≡ later (screen freshPanel fb) acts

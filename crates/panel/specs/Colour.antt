@@ -3,6 +3,7 @@ use Prim.Native.Nat.{ℕ, _+_, _*_, _/_, _%_, _^_}
 use mathlib.Core.List.{List, [], _∷_}
 use lib.Bits.{bitAnd}
 use lib.ListN.{getD, set}
+use Rattle.map.specs.Numbers.{PIXELS}
 use Rattle.panel.specs.declared.Colours.{Colours}
 
 -- (v >> 11 & 0x1F) * 255 / 31, (v >> 5 & 0x3F) * 255 / 63, (v & 0x1F) * 255 / 31
@@ -33,7 +34,7 @@ coloursAt fb n = parted (fromLe (getD fb (n * 2) 0) (getD fb (n * 2 + 1) 0))
 
 -- pixel k modulo 16,384
 abbrev pub pixelAt : List ℕ → ℕ → Colours
-pixelAt fb k = coloursAt fb (k % 16384)
+pixelAt fb k = coloursAt fb (k % PIXELS)
 
 -- the three bytes from place i on
 abbrev pub tripleAt : List ℕ → ℕ → Colours

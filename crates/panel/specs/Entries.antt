@@ -4,6 +4,7 @@ use mathlib.Core.Bool.{cond}
 use mathlib.Core.List.{List}
 use lib.ListN.{length}
 use lib.Dec.{eqb}
+use Rattle.map.specs.Numbers.{FRAMEBUFFER-SIZE, SCREEN-BYTES, DONE, BAD-MEMORY}
 use Rattle.panel.specs.declared.Pen.{Pen}
 use Rattle.panel.specs.declared.Panel.{Panel}
 use Rattle.panel.specs.declared.Colours.{Colours}
@@ -32,8 +33,8 @@ drawing p fb = record { pen = p; fb = fb }
 
 -- Refusal numbers: 0 done, 7 BadMemory
 abbrev pub numberOf : Refusal → ℕ
-numberOf Done = 0
-numberOf BadMemory = 7
+numberOf Done = DONE
+numberOf BadMemory = BAD-MEMORY
 
 -- ---- data
 
@@ -47,9 +48,9 @@ outcome r fb = record { refusal = numberOf (r .refusal); screen = screen (r .pan
 -- framebuffer not 32,768: nothing changes
 unfoldable pub dataOf : Panel → List ℕ → ℕ → Outcome
 dataOf p fb b =
-    cond (eqb (length fb) 32768)
-    (record { refusal = 0; screen = screen (fed p b) (painted p fb b) })
-    (record { refusal = 7; screen = screen p fb })
+    cond (eqb (length fb) FRAMEBUFFER-SIZE)
+    (record { refusal = DONE; screen = screen (fed p b) (painted p fb b) })
+    (record { refusal = BAD-MEMORY; screen = screen p fb })
 
 -- ---- rgb of a pixel
 
@@ -64,7 +65,9 @@ abbrev pub black : Colours
 black = record { r = 0; g = 0; b = 0 }
 
 unfoldable pub pixelOf : List ℕ → ℕ → Pixel
-pixelOf fb k = cond (eqb (length fb) 32768) (record { refusal = 0; colours = pixelAt fb k }) (record { refusal = 7; colours = black })
+pixelOf fb k =
+    cond (eqb (length fb) FRAMEBUFFER-SIZE) (record { refusal = DONE; colours = pixelAt fb k })
+    (record { refusal = BAD-MEMORY; colours = black })
 
 -- ---- rgb of the whole screen
 
@@ -78,6 +81,7 @@ picture r out = record { refusal = numberOf r; out = out }
 -- either length wrong: nothing changes
 unfoldable pub pictureOf : List ℕ → List ℕ → Picture
 pictureOf fb out =
-    cond (eqb (length fb) 32768)
-    (cond (eqb (length out) 49152) (record { refusal = 0; out = rgbOf fb }) (record { refusal = 7; out = out }))
-    (record { refusal = 7; out = out })
+    cond (eqb (length fb) FRAMEBUFFER-SIZE)
+    (cond (eqb (length out) SCREEN-BYTES) (record { refusal = DONE; out = rgbOf fb })
+    (record { refusal = BAD-MEMORY; out = out }))
+    (record { refusal = BAD-MEMORY; out = out })

@@ -1,10 +1,11 @@
--- The panel, as document 000 has it (Lcd: command, data, pixel), with the arguments as four bytes and a count that stops. Pixels
--- are a list of bytes of any length.
-use Prim.Native.Nat.{ℕ, _+_, _*_, _%_, _^_}
+-- The panel, as document 000 has it (Lcd: command, data, pixel), with the arguments as four bytes and a count that
+-- stops. Pixels are a list of bytes of any length.
+use Prim.Native.Nat.{ℕ, _+_, _*_, _%_, _^_, _-_}
 use mathlib.Core.Bool.{cond}
 use mathlib.Core.List.{List, [], _∷_}
 use lib.ListN.{getD, set}
 use lib.Dec.{ltb, eqb}
+use Rattle.map.specs.Numbers.{LCD-W, LCD-H}
 use Rattle.panel.specs.declared.Held.{Held}
 use Rattle.panel.specs.declared.Held.the-variants.{Nothing, Byte}
 use Rattle.panel.specs.declared.Window.{Window}
@@ -30,7 +31,7 @@ abbrev pub begun : Held → Window → Pen → Panel
 begun c w q = record { cmd = c; args = zeros; count = 0; window = w; pen = q }
 
 abbrev pub freshPanel : Panel
-freshPanel = begun Nothing (record { x0 = 0; x1 = 127; y0 = 0; y1 = 127 }) (penAt 0 0 Nothing 0)
+freshPanel = begun Nothing (record { x0 = 0; x1 = LCD-W - 1; y0 = 0; y1 = LCD-H - 1 }) (penAt 0 0 Nothing 0)
 
 -- a counter goes round from 2^64 - 1 to 0
 abbrev pub counts : ℕ → ℕ
@@ -41,23 +42,25 @@ counts f = (f + 1) % 2 ^ 64
 unfoldable pub commanded : Panel → ℕ → Panel
 commanded p c =
     begun (Byte c) (p .window)
-    (cond (eqb c 0x2C) (penAt (p .window .x0) (p .window .y0) Nothing (p .pen .frames)) (penAt (p .pen .x) (p .pen .y) Nothing (p .pen .frames)))
+    (cond (eqb c 0x2C) (penAt (p .window .x0) (p .window .y0) Nothing (p .pen .frames))
+    (penAt (p .pen .x) (p .pen .y) Nothing (p .pen .frames)))
 
 -- ---- pixel
 
 -- the first byte of the pixel x, y
 abbrev pub spot : ℕ → ℕ → ℕ
-spot x y = (y * 128 + x) * 2
+spot x y = (y * LCD-W + x) * 2
 
 -- high byte h and low byte b of a pixel, the low one first, where x, y lies on the glass
 unfoldable pub put : List ℕ → ℕ → ℕ → ℕ → ℕ → List ℕ
-put fb x y h b = cond (ltb x 128) (cond (ltb y 128) (set (set fb (spot x y) b) (spot x y + 1) h) fb) fb
+put fb x y h b = cond (ltb x LCD-W) (cond (ltb y LCD-H) (set (set fb (spot x y) b) (spot x y + 1) h) fb) fb
 
 -- along the row; past its end to the next row; past the last row to the first, which counts a frame
 unfoldable pub nextPen : Window → Pen → Pen
 nextPen w p =
     cond (ltb (w .x1) (p .x + 1))
-    (cond (ltb (w .y1) (p .y + 1)) (penAt (w .x0) (w .y0) Nothing (counts (p .frames))) (penAt (w .x0) (p .y + 1) Nothing (p .frames)))
+    (cond (ltb (w .y1) (p .y + 1)) (penAt (w .x0) (w .y0) Nothing (counts (p .frames)))
+    (penAt (w .x0) (p .y + 1) Nothing (p .frames)))
     (penAt (p .x + 1) (p .y) Nothing (p .frames))
 
 -- ---- data after 0x2C: the first byte of a pixel is held, the second writes it

@@ -3,6 +3,7 @@ use Prim.Native.Nat.{ℕ, suc, _+_, _*_, _-_, _≤_, _<_, max}
 use mathlib.Core.Path.{_≡_}
 use mathlib.Core.List.{List, [], _∷_}
 use lib.ListN.{length}
+use Rattle.map.specs.Numbers.{LCD-W, LCD-H}
 use Rattle.panel.specs.declared.Window.{Window}
 use Rattle.panel.specs.declared.Panel.{Panel}
 use Rattle.panel.specs.Lcd.{withFrames, spot, fed, painted, commanded, counted}
@@ -18,32 +19,32 @@ pub data Act : Type 0 where
   order : ℕ → Act
   input : Input → Act
 
-abbrev pub ordered : Screen → ℕ → Screen
-ordered s c = screen (commanded (s .panel) c) (s .fb)
+abbrev pub screenAfterCommand : Screen → ℕ → Screen
+screenAfterCommand s c = screen (commanded (s .panel) c) (s .fb)
 
-abbrev pub taken : Screen → Input → Screen
-taken s (byte b) = screen (fed (s .panel) b) (painted (s .panel) (s .fb) b)
-taken s (copy m) = screen (counted (s .panel)) m
+abbrev pub screenAfterInput : Screen → Input → Screen
+screenAfterInput s (byte b) = screen (fed (s .panel) b) (painted (s .panel) (s .fb) b)
+screenAfterInput s (copy m) = screen (counted (s .panel)) m
 
-abbrev pub acted : Screen → Act → Screen
-acted s (order c) = ordered s c
-acted s (input i) = taken s i
+abbrev pub screenAfterAct : Screen → Act → Screen
+screenAfterAct s (order c) = screenAfterCommand s c
+screenAfterAct s (input i) = screenAfterInput s i
 
 -- after inputs alone
 unfoldable pub feed : Screen → List Input → Screen
 feed s [] = s
-feed s (i ∷ is) = feed (taken s i) is
+feed s (i ∷ is) = feed (screenAfterInput s i) is
 
 -- after whatever comes
 unfoldable pub later : Screen → List Act → Screen
 later s [] = s
-later s (a ∷ acts) = later (acted s a) acts
+later s (a ∷ acts) = later (screenAfterAct s a) acts
 
 -- ---- damage
 
 -- 0x2C, inputs, 0x2C again, and more inputs
 abbrev pub redrawn : Screen → List Input → List Input → Screen
-redrawn s between after = feed (ordered (feed (ordered s 0x2C) between) 0x2C) after
+redrawn s between after = feed (screenAfterCommand (feed (screenAfterCommand s 0x2C) between) 0x2C) after
 
 -- the data bytes of a run, by their number
 unfoldable pub bytesIn : List Input → ℕ
@@ -57,7 +58,8 @@ copies [] = []
 copies (byte b ∷ is) = copies is
 copies (copy m ∷ is) = m ∷ copies is
 
--- the bytes of one whole window: two a pixel. An end that lies before its start leaves one column or row, as the panel draws it.
+-- the bytes of one whole window: two a pixel. An end that lies before its start leaves one column or row, as the panel
+-- draws it.
 abbrev pub windowBytes : Window → ℕ
 windowBytes w = (w .y1 - w .y0 + 1) * (w .x1 - w .x0 + 1) * 2
 
@@ -70,10 +72,12 @@ pub record Same (s t : Screen) : Type 0 where
   pub pixels : s .fb ≡ t .fb
   pub state : uncounted (s .panel) ≡ uncounted (t .panel)
 
--- Whatever data bytes stood between two 0x2C, and whatever comes alike in both once `after` has followed: no trace is left. Copies
--- are taken to bring the same bytes in both.
+-- Whatever data bytes stood between two 0x2C, and whatever comes alike in both once `after` has followed: no trace is
+-- left. Copies are taken to bring the same bytes in both.
 abbrev pub Heals : Screen → List Input → Type 0
-Heals s after = (one two : List Input) (acts : List Act) → copies one ≡ copies two → Same (later (redrawn s one after) acts) (later (redrawn s two after) acts)
+Heals s after =
+    (one two : List Input) (acts : List Act) → copies one ≡ copies two
+    → Same (later (redrawn s one after) acts) (later (redrawn s two after) acts)
 
 -- The panel's part of demand 3: one whole window heals, wherever it lies.
 abbrev pub EndsDamage : Type 0
@@ -81,10 +85,13 @@ EndsDamage = (s : Screen) (after : List Input) → windowBytes (s .panel .window
 
 -- the window's last pixel, the last one that a whole window writes, lies on the glass and in the framebuffer
 pub record LastSeen (s : Screen) : Type 0 where
-  pub column : max (s .panel .window .x0) (s .panel .window .x1) < 128
-  pub row : max (s .panel .window .y0) (s .panel .window .y1) < 128
-  pub stored : spot (max (s .panel .window .x0) (s .panel .window .x1)) (max (s .panel .window .y0) (s .panel .window .y1)) < length (s .fb)
+  pub column : max (s .panel .window .x0) (s .panel .window .x1) < LCD-W
+  pub row : max (s .panel .window .y0) (s .panel .window .y1) < LCD-H
+  pub stored : spot (max (s .panel .window .x0) (s .panel .window .x1))
+      (max (s .panel .window .y0) (s .panel .window .y1)) < length (s .fb)
 
 -- And no fewer bytes do: with any fewer the last pixel stays as the damage left it.
 abbrev pub Tight : Type 0
-Tight = (s : Screen) (after : List Input) → LastSeen s → copies after ≡ [] → bytesIn after < windowBytes (s .panel .window) → Heals s after → ⊥
+Tight =
+    (s : Screen) (after : List Input) → LastSeen s → copies after ≡ [] → bytesIn after < windowBytes (s .panel .window)
+    → Heals s after → ⊥

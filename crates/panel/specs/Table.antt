@@ -5,5 +5,5 @@ use Rattle.panel.specs.Colour.{parted}
 
 abbrev pub table : List Example
 table =
-    record { given = parted 0x8410 .r ∷ parted 0x8410 .g ∷ parted 0x8410 .b ∷ []; said = 131 ∷ 129 ∷ 131 ∷ [] }
+    record { given = parted 0x8410 .r ∷ parted 0x8410 .g ∷ parted 0x8410 .b ∷ []; expected = 131 ∷ 129 ∷ 131 ∷ [] }
     ∷ []

@@ -8,13 +8,18 @@ use crate::Pen;
 use crate::Window;
 use crate::glass::store;
 
+// The glass, as wide as positions are.
+const LCD_W: u16 = map::LCD_W as u16;
+
+const LCD_H: u16 = map::LCD_H as u16;
+
 // A pixel, high byte h and low byte b, at x, y, where that lies on the glass. The low byte stands first.
 fn place(fb: &mut [u8], x: u16, y: u16, h: u8, b: u8)
     ensures { λ r. ⌜ now (fb .exit) ≡ put (now (fb .entry)) x y h b ⌝ }
 {
-    if x < 128 {
-        if y < 128 {
-            let i = (y as usize * 128 + x as usize) * 2;
+    if x < LCD_W {
+        if y < LCD_H {
+            let i = (y as usize * map::LCD_W + x as usize) * 2;
             store(fb, i, b);
             store(fb, i + 1, h);
         }

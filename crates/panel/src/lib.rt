@@ -1,7 +1,7 @@
 // The panel: `Lcd` of core/src/sys.rs. A window, a writing position in it, and the pixels of a lent framebuffer.
 //
-// What stands here refuses a framebuffer that has not 32,768 bytes. The functions of the modules take one of any length: what
-// lies past its end is not stored and reads as 0.
+// What stands here refuses a framebuffer that has not 32,768 bytes. The functions of the modules take one of any
+// length: what lies past its end is not stored and reads as 0.
 pub mod args;
 pub mod colour;
 pub mod draw;
@@ -64,6 +64,10 @@ pub struct Shown {
     pub colours: Colours,
 }
 
+const LAST_X: u16 = map::LCD_W as u16 - 1;
+
+const LAST_Y: u16 = map::LCD_H as u16 - 1;
+
 // The panel as it is after a wipe: the whole glass is the window.
 pub fn fresh() -> Panel
     ensures { λ r. ⌜ r ≡ freshPanel ⌝ }
@@ -74,9 +78,9 @@ pub fn fresh() -> Panel
         count: 0,
         window: Window {
             x0: 0,
-            x1: 127,
+            x1: LAST_X,
             y0: 0,
-            y1: 127,
+            y1: LAST_Y,
         },
         pen: Pen {
             x: 0,
@@ -91,7 +95,7 @@ pub fn fresh() -> Panel
 pub fn data(p: Panel, framebuffer: &mut [u8], b: u8) -> Sent
     ensures { λ r. ⌜ outcome r (now (framebuffer .exit)) ≡ dataOf p (now (framebuffer .entry)) b ⌝ }
 {
-    if framebuffer.len() == 32768 {
+    if framebuffer.len() == map::FRAMEBUFFER_SIZE {
         let panel = lcd::data(p, framebuffer, b);
         return Sent {
             refusal: Refusal::Done,
@@ -108,7 +112,7 @@ pub fn data(p: Panel, framebuffer: &mut [u8], b: u8) -> Sent
 pub fn rgb_at(framebuffer: &[u8], k: u32) -> Shown
     ensures { λ r. ⌜ pixel r ≡ pixelOf (now (framebuffer .entry)) k ⌝ }
 {
-    if framebuffer.len() == 32768 {
+    if framebuffer.len() == map::FRAMEBUFFER_SIZE {
         let colours = colour::at(framebuffer, k);
         return Shown {
             refusal: Refusal::Done,
@@ -125,8 +129,8 @@ pub fn rgb_at(framebuffer: &[u8], k: u32) -> Shown
 pub fn rgb(framebuffer: &[u8], out: &mut [u8]) -> Refusal
     ensures { λ r. ⌜ picture r (now (out .exit)) ≡ pictureOf (now (framebuffer .entry)) (now (out .entry)) ⌝ }
 {
-    if framebuffer.len() == 32768 {
-        if out.len() == 49152 {
+    if framebuffer.len() == map::FRAMEBUFFER_SIZE {
+        if out.len() == map::SCREEN_BYTES {
             colour::screen(framebuffer, out);
             return Refusal::Done;
         }

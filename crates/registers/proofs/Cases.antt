@@ -9,7 +9,8 @@ use lib.ListN.{length, getD, set}
 use borrow.Author.Tests.{eq-eqb, ne-eqb, lt-ltb, le-ltb}
 use Rattle.registers.specs.declared.Refusal.the-variants.{Done, RegistersFull}
 use Rattle.registers.specs.declared.Spot.the-variants.{Own, Never, Held, Absent}
-use Rattle.registers.specs.Words.{wordsFrom, namedWords, ownWords, index, slotOf, unstored}
+use Rattle.registers.specs.Words.{unstored}
+use Rattle.registers.specs.Ports.{wordsFrom, namedWords, ownWords, index, slotOf}
 use Rattle.registers.specs.Words.{place, otherSpot, spotOf}
 use Rattle.registers.specs.Words.{removedTo, insertedTo, Others, others, endOf, putHeld}
 use Rattle.registers.specs.Words.{otherOutcome, putAbsent}
@@ -31,6 +32,18 @@ index-missed a [] P m = refl
 index-missed a (x ∷ xs) P m =
     let other : x ≢ a = λ e. missed-before a xs (P × (a ≢ x)) m .1 (sym e) in
     rw (ne-eqb x a other, index-missed a xs (P × (a ≢ x)) m)
+
+-- n numbers from a on
+abbrev pub countFrom : ℕ → ℕ → List ℕ
+countFrom zero a = []
+countFrom (suc n) a = a ∷ countFrom n (suc a)
+
+pub past-missed : (n a s : ℕ) (P : Type 0) → a ≤ s → Missed s (countFrom n a) P → n + a ≤ s
+past-missed zero a s P h m = omega arith
+past-missed (suc n) a s P h m =
+    let other : s ≢ a = missed-before s (countFrom n (suc a)) (P × (s ≢ a)) m .1 in
+    let rest = past-missed n (suc a) s (P × (s ≢ a)) (omega arith) m in
+    omega arith
 
 -- the slots after the timers'
 index-after : (a : ℕ) (n from : ℕ) (l : List ℕ) → ((i : ℕ) → i < n → from + 4 * i ≢ a)

@@ -10,7 +10,7 @@ use borrow.Author.Tests.{eq-eqb, ne-eqb}
 use Rattle.registers.specs.declared.Registers.{Registers}
 use Rattle.registers.specs.Words.{removed, inserted, othersOf, wordAt, Outcome, putWord}
 use Rattle.registers.specs.Within.{Other, Tidy, counted, nonZero, Full}
-use Rattle.registers.proofs.Choice.{by-same}
+use Rattle.whole.proofs.Choice.{by-same}
 use Rattle.registers.proofs.Spots.{placeIn, read-held, read-absent, put-cases}
 use Rattle.registers.proofs.Order.{free-behind, held-within, gap, some-held}
 use Rattle.registers.proofs.Moving.{tidy-cases}

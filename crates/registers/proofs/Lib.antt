@@ -1,6 +1,5 @@
 -- Laws that several proofs cite, and the theorems.
 pub mod Cases
-pub mod Choice
 pub mod Search
 pub mod Shifts
 pub mod Loops

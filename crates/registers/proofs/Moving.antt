@@ -12,7 +12,7 @@ use Rattle.registers.specs.Words.{removed, inserted, removedTo, inserted
 use Rattle.registers.specs.Words.{endOf}
 use Rattle.registers.specs.Words.{registersOf, othersOf, Outcome, outcome}
 use Rattle.registers.specs.Within.{TidyOthers}
-use Rattle.registers.proofs.Choice.{by-same, by-less}
+use Rattle.whole.proofs.Choice.{by-same, by-less}
 use Rattle.registers.proofs.Search.{place-within}
 use Rattle.registers.proofs.Loops.{front, joined}
 use Rattle.registers.proofs.Spots.{placeIn, movedUp, movedDown, PutCases, put-cases}

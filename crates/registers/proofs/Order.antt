@@ -8,7 +8,7 @@ use lib.ListN.{length, getD, List·getD-eq-default}
 use Rattle.registers.specs.declared.Registers.{Registers}
 use Rattle.registers.specs.Words.{unstored, place, Others, othersOf, wordAt}
 use Rattle.registers.specs.Within.{Other, TidyOthers}
-use Rattle.registers.proofs.Choice.{by-same, by-less}
+use Rattle.whole.proofs.Choice.{by-same, by-less}
 use Rattle.registers.proofs.Search.{place-within, place-more, place-stops}
 use Rattle.registers.proofs.Spots.{Here, Gone, read-held, read-absent, placeIn}
 

@@ -8,16 +8,17 @@ use lib.ListN.{length, getD, length-set}
 use lib.Seq.{getD-set-same, getD-set-other}
 use Rattle.registers.specs.declared.Registers.{Registers}
 use Rattle.registers.specs.declared.Refusal.the-variants.{Done}
-use Rattle.registers.specs.Words.{wordsFrom, namedWords, ownWords, slotOf, ownAt, ownWith}
+use Rattle.registers.specs.Words.{ownAt, ownWith}
+use Rattle.registers.specs.Ports.{wordsFrom, namedWords, namedRows, ownWords, slotOf}
 use Rattle.registers.specs.Words.{registersOf, wordAt, outcome, putWord}
 use Rattle.registers.proofs.Cases.{slot-timer, spot-own}
-use Rattle.registers.proofs.Choice.{by-less}
+use Rattle.whole.proofs.Choice.{by-less}
 use Rattle.registers.proofs.Search.{index-most, index-hit}
 
 -- ---- slots
 
 own-count : length ownWords ≡ 76
-unfolding ownWords wordsFrom namedWords
+unfolding ownWords wordsFrom namedWords namedRows
 own-count = refl
 
 pub slot-most : (a : ℕ) → slotOf a ≤ 76

@@ -9,7 +9,8 @@ use lib.ListN.{getD}
 use lib.Seq.{getD-set-other}
 use Rattle.registers.specs.declared.Registers.{Registers}
 use Rattle.registers.specs.declared.Spot.{Spot}
-use Rattle.registers.specs.Words.{slotOf, unstored, removed, registersOf, othersOf}
+use Rattle.registers.specs.Words.{unstored, removed, registersOf, othersOf}
+use Rattle.registers.specs.Ports.{slotOf}
 use Rattle.registers.specs.Words.{wordIn, wordAt, Outcome, putWord}
 use Rattle.registers.specs.Within.{Other, TidyOthers, Tidy}
 use Rattle.registers.proofs.Own.{by-slot, slot-apart, own-own, own-stays, own-word}

@@ -6,9 +6,10 @@ use native.Mathlib.Omega.{arith}
 use lib.ListN.{length, getD}
 use lib.Seq.{ext-getD}
 use Rattle.registers.specs.declared.Registers.{Registers}
-use Rattle.registers.specs.Words.{slotOf, slotWord, ownAt, registersOf, othersOf, wordAt}
+use Rattle.registers.specs.Words.{ownAt, registersOf, othersOf, wordAt}
+use Rattle.registers.specs.Ports.{slotOf, slotWord}
 use Rattle.registers.specs.Within.{Other, TidyOthers, Tidy}
-use Rattle.registers.proofs.Choice.{by-same, by-less}
+use Rattle.whole.proofs.Choice.{by-same, by-less}
 use Rattle.registers.proofs.Own.{own-word}
 use Rattle.registers.proofs.Slots.{slot-back}
 use Rattle.registers.proofs.Order.{not-zero, falling, word-is, word-absent, by-place}

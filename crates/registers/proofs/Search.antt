@@ -7,8 +7,9 @@ use native.Mathlib.Nat.{two-pow-succ}
 use native.Mathlib.Omega.{arith}
 use lib.ListN.{length, getD}
 use borrow.Author.Tests.{eq-eqb, ne-eqb, lt-ltb, le-ltb}
-use Rattle.registers.specs.Words.{index, halved, halving, place}
-use Rattle.registers.proofs.Choice.{by-same, by-less}
+use Rattle.registers.specs.Words.{halved, halving, place}
+use Rattle.registers.specs.Ports.{index}
+use Rattle.whole.proofs.Choice.{by-same, by-less}
 
 -- ---- by halves
 

@@ -10,13 +10,14 @@ use Rattle.registers.specs.declared.Registers.{Registers}
 use Rattle.registers.specs.declared.Refusal.the-variants.{Done, RegistersFull}
 use Rattle.registers.specs.declared.Spot.{Spot}
 use Rattle.registers.specs.declared.Spot.the-variants.{Own, Never, Held, Absent}
-use Rattle.registers.specs.Words.{slotOf, ownWith, unstored, place, spotOf, removedTo, insertedTo, endOf}
+use Rattle.registers.specs.Words.{ownWith, unstored, place, spotOf, removedTo, insertedTo, endOf}
+use Rattle.registers.specs.Ports.{slotOf}
 use Rattle.registers.specs.Words.{Others, OtherOutcome, otherOutcome, registersOf, othersOf}
 use Rattle.registers.specs.Words.{wordAt, Outcome, outcome, beside, putIn, putWord}
 use Rattle.registers.specs.Within.{Other}
 use Rattle.registers.proofs.Cases.{spot-own, spot-other, other-never, other-held, other-absent}
 use Rattle.registers.proofs.Cases.{held-zero, held-some, absent-zero, absent-full, absent-room}
-use Rattle.registers.proofs.Choice.{by-test, by-same}
+use Rattle.whole.proofs.Choice.{by-test, by-same}
 use Rattle.registers.proofs.Own.{by-slot}
 
 -- the word stands in the place that a search ends at, or does not

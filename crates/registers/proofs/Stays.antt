@@ -6,9 +6,10 @@ use native.Mathlib.Omega.{arith}
 use borrow.Author.Tests.{ne-eqb}
 use Rattle.registers.specs.declared.Registers.{Registers}
 use Rattle.registers.specs.declared.Refusal.the-variants.{Done}
-use Rattle.registers.specs.Words.{wordsFrom, namedWords, ownWords, index, slotOf, unstored}
+use Rattle.registers.specs.Words.{unstored}
+use Rattle.registers.specs.Ports.{dayWord, wordsFrom, namedWords, namedRows, ownWords, index, slotOf}
 use Rattle.registers.specs.Words.{wordAt, Outcome, outcome, putWord}
-use Rattle.registers.proofs.Choice.{by-same}
+use Rattle.whole.proofs.Choice.{by-same}
 use Rattle.registers.proofs.Spots.{read-never, put-never, put-cases}
 
 -- ---- refused
@@ -27,7 +28,7 @@ refused-stays r a v =
 -- ---- never stored
 
 unstored-slot : (a : ℕ) → unstored a ≡ true → slotOf a ≡ 76
-unfolding slotOf ownWords wordsFrom namedWords index unstored
+unfolding slotOf ownWords wordsFrom namedWords namedRows index unstored dayWord
 unstored-slot a u =
     by-same a 0 (λ e. ap slotOf e)
     (λ n0. by-same a 0xC0040000 (λ e. ap slotOf e)

@@ -10,7 +10,7 @@ use Rattle.registers.specs.declared.Registers.{Registers}
 use Rattle.registers.specs.Words.{inserted, Others, others, registersOf, othersOf}
 use Rattle.registers.specs.Words.{freshRegisters, Outcome, putWord}
 use Rattle.registers.specs.Within.{Other, TidyOthers, Tidy}
-use Rattle.registers.proofs.Choice.{by-same, by-less}
+use Rattle.whole.proofs.Choice.{by-same, by-less}
 use Rattle.registers.proofs.Own.{own-length}
 use Rattle.registers.proofs.Spots.{Here, Gone, placeIn, setIn}
 use Rattle.registers.proofs.Order.{held, Gap, gap}

@@ -3,7 +3,7 @@ use mathlib.Core.Path.{_≡_, refl, ap}
 use mathlib.Core.Bool.{cond}
 use Prim.Native.Nat.{ℕ}
 use lib.Dec.{eqb}
-use Rattle.whole.proofs.Unique.{unique, told}
+use Rattle.whole.proofs.Unique.{unique, same-by-number}
 use Rattle.registers.specs.declared.Refusal.{Refusal}
 use Rattle.registers.specs.declared.Refusal.the-variants.{Done, RegistersFull}
 use Rattle.registers.specs.Words.{numberOf, Others, OtherOutcome, otherOutcome}
@@ -14,7 +14,7 @@ refusalOf n = cond (eqb n 0) Done RegistersFull
 
 -- a refusal is known by its number
 number-tells : (a b : Refusal) → numberOf a ≡ numberOf b → a ≡ b
-number-tells = told numberOf refusalOf back
+number-tells = same-by-number numberOf refusalOf back
   where
     back : (r : Refusal) → refusalOf (numberOf r) ≡ r
     back Done = refl

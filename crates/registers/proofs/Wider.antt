@@ -11,7 +11,7 @@ use borrow.Author.Tests.{lt-ltb, le-ltb}
 use Rattle.registers.specs.declared.Registers.{Registers}
 use Rattle.registers.specs.Words.{removed, inserted, Others, others, othersOf, wordAt}
 use Rattle.registers.specs.Within.{Other, TidyOthers}
-use Rattle.registers.proofs.Choice.{by-same, by-less}
+use Rattle.whole.proofs.Choice.{by-same, by-less}
 use Rattle.registers.proofs.Shifts.{removed-before, removed-behind}
 use Rattle.registers.proofs.Shifts.{length-inserted, inserted-before, inserted-behind}
 use Rattle.registers.proofs.Order.{word-is, word-absent, by-place}

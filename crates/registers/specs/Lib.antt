@@ -1,3 +1,4 @@
 -- What the crate's contracts cite, and what its theorems are stated with.
+pub mod Ports
 pub mod Words
 pub mod Within

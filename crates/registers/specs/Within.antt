@@ -7,7 +7,8 @@ use mathlib.Core.Logic.{_≢_}
 use lib.ListN.{length, getD}
 use lib.Dec.{eqb}
 use Rattle.registers.specs.declared.Registers.{Registers}
-use Rattle.registers.specs.Words.{slotOf, unstored, Others, othersOf, wordAt}
+use Rattle.registers.specs.Words.{unstored, Others, othersOf, wordAt}
+use Rattle.registers.specs.Ports.{slotOf}
 
 -- a word that takes one of the 256 places while it is not zero
 pub record Other (a : ℕ) : Type 0 where

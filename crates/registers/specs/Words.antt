@@ -4,53 +4,20 @@ use mathlib.Core.Bool.{Bool, cond, _||_}
 use mathlib.Core.List.{List, [], _∷_, _++_}
 use lib.ListN.{getD, set, take, drop, replicate}
 use lib.Dec.{eqb, ltb}
+use Rattle.map.specs.Numbers.{DONE, REGISTERS-FULL}
 use Rattle.registers.specs.declared.Registers.{Registers}
 use Rattle.registers.specs.declared.Refusal.{Refusal}
 use Rattle.registers.specs.declared.Refusal.the-variants.{Done, RegistersFull}
 use Rattle.registers.specs.declared.Spot.{Spot}
 use Rattle.registers.specs.declared.Spot.the-variants.{Own, Never, Held, Absent}
+use Rattle.registers.specs.Ports.{slotOf, dayWord}
 
 -- Refusal numbers: 0 done, 4 RegistersFull
 abbrev pub numberOf : Refusal → ℕ
-numberOf Done = 0
-numberOf RegistersFull = 4
+numberOf Done = DONE
+numberOf RegistersFull = REGISTERS-FULL
 
 -- ---- words with storage of their own
-
--- n words from an address on
-unfoldable pub wordsFrom : ℕ → ℕ → List ℕ
-wordsFrom zero a = []
-wordsFrom (suc n) a = a ∷ wordsFrom n (a + 4)
-
--- the words with storage of their own, besides the timers'
-unfoldable pub namedWords : List ℕ
-namedWords =
-    0xC0040054 ∷ 0xC0040058
-    ∷ 0xC0080008 ∷ 0xC008000C ∷ 0xC0080010
-    ∷ 0xC0090004 ∷ 0xC0090008 ∷ 0xC009000C ∷ 0xC0090010 ∷ 0xC0090014
-    ∷ 0xC00C0004 ∷ 0xC00C0008
-    ∷ 0xC0150000 ∷ 0xC0150004 ∷ 0xC0150008 ∷ 0xC015000C
-    ∷ 0xD000001C ∷ 0xD000003C ∷ 0xD0000078
-    ∷ 0xD0100028 ∷ 0xD010002C ∷ 0xD0100030 ∷ 0xD0100038
-    ∷ 0xD0500140 ∷ 0xD050016C ∷ 0xD0500188 ∷ 0xD050018C ∷ 0xD050033C
-    ∷ []
-
--- the 48 timer words from 0xC0020000, then the 28 named ones
-unfoldable pub ownWords : List ℕ
-ownWords = wordsFrom 48 0xC0020000 ++ namedWords
-
--- where a key first stands in a list, or the list's length
-unfoldable pub index : List ℕ → ℕ → ℕ
-index [] k = 0
-index (x ∷ xs) k = cond (eqb x k) 0 (suc (index xs k))
-
--- the slot of a word in its own storage: 0 to 75, or 76 where it has none
-unfoldable pub slotOf : ℕ → ℕ
-slotOf a = index ownWords a
-
--- and the word of a slot
-abbrev pub slotWord : ℕ → ℕ
-slotWord s = getD ownWords s 0
 
 -- a word in its own storage, which has 76 words; where it has none it reads as 0, and nothing is stored
 unfoldable pub ownAt : List ℕ → ℕ → ℕ
@@ -61,9 +28,9 @@ ownWith own a v = set own (slotOf a) v
 
 -- ---- the others
 
--- never stored; 0 is the address of a free place, and no register stands there
+-- never stored: the time of day; and 0, the address of a free place, where no register stands
 unfoldable pub unstored : ℕ → Bool
-unstored a = eqb a 0 || eqb a 0xC0040000 || eqb a 0xC0040004 || eqb a 0xC0040008
+unstored a = eqb a 0 || dayWord a
 
 -- one halving of a search: past the next half of the places, where the last of them holds more than the key
 unfoldable pub halved : List ℕ → ℕ → ℕ → ℕ → ℕ

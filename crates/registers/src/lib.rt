@@ -6,7 +6,8 @@
 ghost use mathlib.Core.Path.{_≡_};
 ghost use Prim.Native.Nat.{ℕ, _+_, _-_, _≤_};
 ghost use lib.ListN.{length, getD, set};
-ghost use Rattle.registers.specs.Words.{slotOf, index, namedWords, ownAt, ownWith, unstored, halved, place};
+ghost use Rattle.registers.specs.Words.{ownAt, ownWith, unstored, halved, place};
+ghost use Rattle.registers.specs.Ports.{slotOf, index, namedWords, timerPort, portAt, dayWord};
 ghost use Rattle.registers.specs.Words.{removedTo, insertedTo, strides, endFrom, others, putHeld, otherOutcome};
 ghost use Rattle.registers.specs.Words.{putAbsent, otherSpot, spotOf, wordIn};
 ghost use Rattle.registers.specs.Words.{registersOf, freshRegisters, wordAt};
@@ -22,6 +23,45 @@ pub enum Refusal {
     RegistersFull,
 }
 
+// What a write to a word does beside storing it, or instead.
+pub enum Effect {
+    TimerControl,
+    DayField,
+    Sound,
+    LcdStatus,
+    Tick,
+    AdcControl,
+    Power,
+    SpiSend,
+}
+
+// What a word reads as that is not read as it is stored.
+pub enum View {
+    TimerCounter,
+    SpiAnswer,
+    RtcReady,
+    RtcOut,
+    FlashStatus,
+    FlashAnswer,
+    ClockStatus,
+    Pending,
+    PendingFiq,
+}
+
+// What stands behind a word: the flash's select and its transfers, the panel's control, the RTC chip's command; what
+// acts when it is written; what shows something else than what is stored; what is only stored, in its own storage or
+// not.
+pub enum Port {
+    Select,
+    Send,
+    LcdControl,
+    RtcCommand,
+    Acts(Effect),
+    Shows(View),
+    Holds,
+    Other,
+}
+
 // Where a word is: in its own storage, nowhere since it is never stored, in a place, or in none, with the place that
 // it would take.
 pub enum Spot {
@@ -33,7 +73,8 @@ pub enum Spot {
 
 // ---- words with storage of their own
 
-// The slot of a word that is no timer's, or 76.
+// The slot of a word that is no timer's, or 76. A pattern takes no constant, so the addresses of `map` are spelled here
+// once more, and nowhere else.
 fn named(addr: u32) -> usize
     ensures { λ r. ⌜ r ≡ 48 + index namedWords addr ⌝ }
 {
@@ -74,16 +115,87 @@ fn named(addr: u32) -> usize
 pub fn slot(addr: u32) -> usize
     ensures { λ r. ⌜ r ≡ slotOf addr ⌝ }
 {
-    if addr < 0xC002_0000 {
+    if addr < map::TIMER_BASE {
         return named(addr);
     }
-    if addr >= 0xC002_00C0 {
+    if addr >= map::TIMER_END {
         return named(addr);
     }
     if addr % 4 == 0 {
-        return ((addr - 0xC002_0000) / 4) as usize;
+        return ((addr - map::TIMER_BASE) / 4) as usize;
     }
     named(addr)
+}
+
+// Of a timer's eight words the first is its control, the third its reload, the fourth its compare; the buzzer follows
+// one timer's.
+pub const SOUND_CONTROL_SLOT: usize = 8 * map::SOUND_TIMER;
+
+pub const SOUND_RELOAD_SLOT: usize = 8 * map::SOUND_TIMER + 2;
+
+pub const SOUND_COMPARE_SLOT: usize = 8 * map::SOUND_TIMER + 3;
+
+fn timer_port(s: usize) -> Port
+    ensures { λ r. ⌜ r ≡ timerPort s ⌝ }
+{
+    let word = s % 8;
+    if word == 0 {
+        return Port::Acts(Effect::TimerControl);
+    }
+    if word == 4 {
+        return Port::Shows(View::TimerCounter);
+    }
+    if (s == SOUND_RELOAD_SLOT) | (s == SOUND_COMPARE_SLOT) {
+        return Port::Acts(Effect::Sound);
+    }
+    Port::Holds
+}
+
+// The port of a slot. A slot is a number for the sake of its place; here it becomes what it means, and nowhere else.
+pub fn port_at(s: usize) -> Port
+    ensures { λ r. ⌜ r ≡ portAt s ⌝ }
+{
+    if s < 48 {
+        return timer_port(s);
+    }
+    match s {
+        48 => Port::Acts(Effect::Tick),
+        49 => Port::Holds,
+        50 => Port::Acts(Effect::SpiSend),
+        51 => Port::Holds,
+        52 => Port::Shows(View::SpiAnswer),
+        53 => Port::Holds,
+        54 => Port::Holds,
+        55 => Port::RtcCommand,
+        56 => Port::Shows(View::RtcReady),
+        57 => Port::Shows(View::RtcOut),
+        58 => Port::Acts(Effect::AdcControl),
+        59 => Port::Holds,
+        60 => Port::Select,
+        61 => Port::Shows(View::FlashStatus),
+        62 => Port::Send,
+        63 => Port::Shows(View::FlashAnswer),
+        64 => Port::Holds,
+        65 => Port::Shows(View::ClockStatus),
+        66 => Port::Acts(Effect::Power),
+        67 => Port::Shows(View::Pending),
+        68 => Port::Shows(View::PendingFiq),
+        69 => Port::Holds,
+        70 => Port::Holds,
+        71 => Port::LcdControl,
+        72 => Port::Holds,
+        73 => Port::Holds,
+        74 => Port::Acts(Effect::LcdStatus),
+        75 => Port::Holds,
+        _ => Port::Other,
+    }
+}
+
+// Whether it is a word of the time of day.
+pub fn day_word(addr: u32) -> bool
+    ensures { λ r. ⌜ r ≡ dayWord addr ⌝ }
+{
+    (addr == map::RTC_SECONDS) | (addr == map::RTC_MINUTES) | (addr == map::RTC_HOURS)
 }
 
 // An array is as long as its type says: a proof is told so of one by value, and not of one that is lent. A call is
@@ -128,11 +240,11 @@ pub fn own_insert(own: &mut [u32; 76], addr: u32, value: u32)
 
 // ---- the others
 
-// Never stored. 0 is the address of a free place, and no register stands there.
+// Never stored: the time of day. 0 is the address of a free place, and no register stands there.
 fn unstored(addr: u32) -> bool
     ensures { λ r. ⌜ r ≡ unstored addr ⌝ }
 {
-    (addr == 0) | (addr == 0xC004_0000) | (addr == 0xC004_0004) | (addr == 0xC004_0008)
+    (addr == 0) | day_word(addr)
 }
 
 // One step of a search by halves: past the next places, where the last of them holds more than the key.

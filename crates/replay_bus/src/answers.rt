@@ -10,16 +10,16 @@ pub struct Stepped {
     pub answer: Answer,
 }
 
-pub(crate) fn said(s: System, answer: Answer) -> Stepped {
+pub(crate) fn step_answer(s: System, answer: Answer) -> Stepped {
     Stepped { system: s, answer }
 }
 
-pub(crate) fn done(s: System) -> Stepped {
-    said(s, answered(0, 0, 0))
+pub(crate) fn step_done(s: System) -> Stepped {
+    step_answer(s, answered(0, 0, 0))
 }
 
 // What a call answers: the number of its refusal, and a word, which is 0 beside a refusal.
-pub(crate) fn told(refusal: u8, word: u64) -> Answer {
+pub(crate) fn word_answer(refusal: u8, word: u64) -> Answer {
     Answer {
         refusal,
         a: word,
@@ -30,5 +30,5 @@ pub(crate) fn told(refusal: u8, word: u64) -> Answer {
 
 // A call that answers no more than its refusal, which is 0 where it is done.
 pub(crate) fn changed(c: Changed) -> Stepped {
-    said(c.system, refused(c.refusal))
+    step_answer(c.system, refused(c.refusal))
 }

@@ -1,8 +1,8 @@
 // Calls that change the state. Times and turbos come as bits, which are checked before they become floats.
 use crate::answers::Stepped;
 use crate::answers::changed;
-use crate::answers::said;
-use crate::answers::told;
+use crate::answers::step_answer;
+use crate::answers::word_answer;
 use lines::Answer;
 use lines::refused;
 use system::System;
@@ -20,7 +20,7 @@ pub(crate) fn read(
     size: u32,
 ) -> Stepped {
     let got = system::access::read(s, ram, sram, gpio, addr, size);
-    said(got.system, told(got.refusal, got.value as u64))
+    step_answer(got.system, word_answer(got.refusal, got.value as u64))
 }
 
 pub(crate) fn write(
@@ -40,7 +40,7 @@ pub(crate) fn advance(s: System, sram: &[u8; 65536], gpio: &mut [u8; 4096], bits
     let to = whole::limits::time_of(bits);
     match to {
         Checked::Good(x) => changed(moment::advance(s, sram, gpio, x)),
-        Checked::Bad => said(s, refused(1)),
+        Checked::Bad => step_answer(s, refused(1)),
     }
 }
 
@@ -48,7 +48,7 @@ pub(crate) fn turbo(s: System, bits: u64) -> Stepped {
     let to = whole::limits::turbo_of(bits);
     match to {
         Checked::Good(x) => changed(moment::set_turbo(s, x)),
-        Checked::Bad => said(s, refused(2)),
+        Checked::Bad => step_answer(s, refused(2)),
     }
 }
 
@@ -61,7 +61,7 @@ pub(crate) fn hold(s: System, key: u32, bits: u64) -> Stepped {
     let until = whole::limits::time_of(bits);
     match until {
         Checked::Good(x) => changed(buttons::hold_until(s, key, x)),
-        Checked::Bad => said(s, bad_time(key)),
+        Checked::Bad => step_answer(s, bad_time(key)),
     }
 }
 
@@ -69,7 +69,7 @@ pub(crate) fn press(s: System, key: u32, bits: u64) -> Stepped {
     let at = whole::limits::time_of(bits);
     match at {
         Checked::Good(x) => changed(buttons::press(s, key, x)),
-        Checked::Bad => said(s, bad_time(key)),
+        Checked::Bad => step_answer(s, bad_time(key)),
     }
 }
 
@@ -83,5 +83,5 @@ pub(crate) fn take(s: System) -> Stepped {
         b: bits_of(event.frequency),
         c: bits_of(event.duty),
     };
-    said(taken.system, answer)
+    step_answer(taken.system, answer)
 }

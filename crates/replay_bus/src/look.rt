@@ -1,5 +1,5 @@
 // Looks that change nothing, and bytes laid into plain memory.
-use crate::answers::told;
+use crate::answers::word_answer;
 use lines::Answer;
 use lines::answered;
 use lines::digest;
@@ -10,7 +10,7 @@ use whole::forms::flag;
 
 pub(crate) fn next_event(s: System, sram: &[u8; 65536]) -> Answer {
     let next = system::moment::next_event(s, sram);
-    told(next.refusal, bits_of(next.time))
+    word_answer(next.refusal, bits_of(next.time))
 }
 
 pub(crate) fn counters(s: System) -> Answer {
@@ -24,7 +24,7 @@ pub(crate) fn colours(fb: &[u8; 32768], at: u32) -> Answer {
 }
 
 // Key A in the lowest bit.
-pub(crate) fn held(s: System) -> Answer {
+pub(crate) fn keys_held_answer(s: System) -> Answer {
     let down = system::buttons::keys_held(s);
     answered(
         flag(down.a) | (flag(down.b) << 1) | (flag(down.c) << 2),

@@ -1,8 +1,8 @@
 // A step of the list.
 use crate::answers::Stepped;
 use crate::answers::changed;
-use crate::answers::done;
-use crate::answers::said;
+use crate::answers::step_answer;
+use crate::answers::step_done;
 use crate::calls;
 use crate::look;
 use lines::Answer;
@@ -36,7 +36,7 @@ fn look_at(
         0xB0 => look::colours(fb, at),
         0xE0 => answered(system::look::peek8(s, ram, sram, gpio, at) as u64, 0, 0),
         0xE1 => answered(system::look::peek32(s, ram, sram, gpio, at) as u64, 0, 0),
-        0xE3 => look::held(s),
+        0xE3 => look::keys_held_answer(s),
         0xE4 => answered(flag(system::moment::irq_wanted(s)), 0, 0),
         0xE5 => look::block(s, ram, sram, gpio, at, value),
         0xE6 => look::digest_of(ram, sram, gpio, fb, at),
@@ -52,7 +52,7 @@ fn settle(s: System, kind: u64, at: u32, value: u64) -> Stepped {
         0x80 => calls::hold(s, at, value),
         0x90 => calls::take(s),
         0xD0 => calls::press(s, at % 256, value),
-        _ => done(s),
+        _ => step_done(s),
     }
 }
 
@@ -73,11 +73,11 @@ pub(crate) fn step(
         0x20..=0x2F => calls::write(s, ram, sram, gpio, fb, at, size, low(value)),
         0x30 => calls::advance(s, sram, gpio, value),
         0x60 | 0x70 | 0x80 | 0x90 | 0xD0 => settle(s, kind, at, value),
-        0xC0 => done(system::wipe::wipe(ram, sram, gpio, fb)),
+        0xC0 => step_done(system::wipe::wipe(ram, sram, gpio, fb)),
         0xE2 => {
             look::poke(ram, sram, gpio, at, value);
-            done(s)
+            step_done(s)
         }
-        _ => said(s, look_at(s, ram, sram, gpio, fb, kind, at, value)),
+        _ => step_answer(s, look_at(s, ram, sram, gpio, fb, kind, at, value)),
     }
 }

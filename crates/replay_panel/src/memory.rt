@@ -1,5 +1,5 @@
 // The framebuffer and the screen as a whole.
-use crate::step::told;
+use crate::step::word_answer;
 use lines::Answer;
 use lines::lent;
 
@@ -45,5 +45,5 @@ pub(crate) fn show(framebuffer: &[u8], screen: &mut [u8], count: u64, room: u64)
     let n = lent(count, framebuffer);
     let m = lent(room, screen);
     let refusal = panel::rgb(&framebuffer[..n], &mut screen[..m]);
-    told(refusal, checksum(screen))
+    word_answer(refusal, checksum(screen))
 }

@@ -13,7 +13,7 @@ fn count(here: bool, value: u64, old: u64) -> u64 {
 }
 
 // A byte, or none from 256 on.
-fn held(here: bool, value: u64, old: Held) -> Held {
+fn half_or(here: bool, value: u64, old: Held) -> Held {
     if here {
         if value % 512 < 256 {
             return Held::Byte((value % 256) as u8);
@@ -37,7 +37,7 @@ fn pen_put(p: Pen, at: u64, value: u64) -> Pen {
     Pen {
         x: place(at == 4, value, p.x),
         y: place(at == 5, value, p.y),
-        half: held(at == 8, value, half),
+        half: half_or(at == 8, value, half),
         frames: count(at == 6, value, p.frames),
     }
 }
@@ -49,7 +49,7 @@ pub(crate) fn put(panel: Panel, at: u64, value: u64) -> Panel {
     let cmd = panel.cmd;
     let args = panel.args;
     Panel {
-        cmd: held(at == 7, value, cmd),
+        cmd: half_or(at == 7, value, cmd),
         args,
         count: panel.count,
         window,

@@ -1,6 +1,6 @@
 // Data bytes.
 use crate::step::Stepped;
-use crate::step::told;
+use crate::step::word_answer;
 use lines::least;
 use lines::lent;
 use panel::Panel;
@@ -13,7 +13,7 @@ pub(crate) fn send(panel: Panel, framebuffer: &mut [u8], count: u64, byte: u64) 
     let refusal = sent.refusal;
     Stepped {
         panel: next,
-        answer: told(refusal, 0),
+        answer: word_answer(refusal, 0),
     }
 }
 

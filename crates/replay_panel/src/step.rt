@@ -18,7 +18,7 @@ pub struct Stepped {
 }
 
 // What a call of the panel answers: a word, or the number of its refusal.
-pub(crate) fn told(refusal: Refusal, word: u64) -> Answer {
+pub(crate) fn word_answer(refusal: Refusal, word: u64) -> Answer {
     match refusal {
         Refusal::Done => answered(word, 0, 0),
         Refusal::BadMemory => refused(7),
@@ -30,7 +30,7 @@ fn colours(framebuffer: &[u8], at: u64) -> Answer {
     let shown = panel::rgb_at(framebuffer, (at % 0x1_0000_0000) as u32);
     let c = shown.colours;
     let refusal = shown.refusal;
-    told(refusal, c.r as u64 * 65536 + c.g as u64 * 256 + c.b as u64)
+    word_answer(refusal, c.r as u64 * 65536 + c.g as u64 * 256 + c.b as u64)
 }
 
 fn dma(panel: Panel, framebuffer: &mut [u8], first: u64) -> Panel {

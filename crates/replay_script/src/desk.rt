@@ -29,7 +29,7 @@ pub(crate) fn put(script: &mut [u8], length: u64, at: u32, value: u64) {
 }
 
 // The script of so many bytes, with so many bytes lent for its answers.
-pub(crate) fn run(
+pub(crate) fn run_script(
     ram: &mut [u8; 65536],
     sram: &mut [u8; 65536],
     gpio: &mut [u8; 4096],
@@ -41,7 +41,7 @@ pub(crate) fn run(
 ) -> Answer {
     let n = lent(length, script);
     let m = lent(room, out);
-    let refusal = runner::run::run(ram, sram, gpio, fb, &script[..n], &mut out[..m]);
+    let refusal = runner::loops::run_script(ram, sram, gpio, fb, &script[..n], &mut out[..m]);
     let count = memory::load(out, 0, 4);
     answered(refusal as u64, count as u64, digest(out))
 }

@@ -4,7 +4,8 @@ use lines::answered;
 use lines::digest;
 use lines::refused;
 
-// Byte i of a memory that a seed fills: the low byte of (31 * i + seed) / 8, to which only the lowest eleven bits of the sum count.
+// Byte i of a memory that a seed fills: the low byte of (31 * i + seed) / 8, to which only the lowest eleven bits of
+// the sum count.
 fn filler(seed: u32, i: usize) -> u8 {
     if seed == 0 {
         return 0;

@@ -12,7 +12,7 @@ pub struct Stepped {
     pub answer: Answer,
 }
 
-fn said(length: u64, answer: Answer) -> Stepped {
+fn step_answer(length: u64, answer: Answer) -> Stepped {
     Stepped { length, answer }
 }
 
@@ -24,13 +24,13 @@ pub(crate) fn known(kind: u64) -> bool {
 // A new script, where there is room for it.
 fn lay(script: &mut [u8; 16384], out: &mut [u8; 32768], old: u64, new: u64) -> Stepped {
     if new > 16384 {
-        return said(old, refused(1));
+        return step_answer(old, refused(1));
     }
     let zeros = [0u8; 16384];
     let before = desk::untouched();
     *script = zeros;
     *out = before;
-    said(new, answered(0, 0, 0))
+    step_answer(new, answered(0, 0, 0))
 }
 
 pub(crate) fn step(
@@ -50,17 +50,17 @@ pub(crate) fn step(
         0xC0 => lay(script, out, length, value),
         0xC1 => {
             desk::put(script, length, at, value);
-            said(length, answered(0, 0, 0))
+            step_answer(length, answered(0, 0, 0))
         }
         0xC2 => {
             memories::fill(ram, sram, gpio, fb, at);
-            said(length, answered(0, 0, 0))
+            step_answer(length, answered(0, 0, 0))
         }
-        0xC3 => said(
+        0xC3 => step_answer(
             length,
-            desk::run(ram, sram, gpio, fb, script, length, out, value),
+            desk::run_script(ram, sram, gpio, fb, script, length, out, value),
         ),
-        0xC4 => said(length, desk::answer_at(out, at)),
-        _ => said(length, memories::show(ram, sram, gpio, fb, at)),
+        0xC4 => step_answer(length, desk::answer_at(out, at)),
+        _ => step_answer(length, memories::show(ram, sram, gpio, fb, at)),
     }
 }

@@ -4,8 +4,8 @@ use crate::machine::Bank;
 use crate::machine::Machine;
 use crate::machine::Stepped;
 use crate::machine::adc_of;
-use crate::machine::done;
 use crate::machine::refused;
+use crate::machine::step_done;
 use crate::machine::timer_of;
 use crate::machine::with_timer;
 use crate::machine::word_of;
@@ -54,20 +54,20 @@ fn reached(machine: Machine, words: &mut [u32; 62], time: Times) -> Machine {
 }
 
 pub(crate) fn advance(machine: Machine, words: &mut [u32; 62], bits: u64) -> Stepped {
-    let moved = clock::time::advance_bits(machine.time, bits);
+    let moved = clock::pace::advance_bits(machine.time, bits);
     match moved {
-        Moved::To(time) => done(reached(machine, words, time)),
+        Moved::To(time) => step_done(reached(machine, words, time)),
         Moved::BadTime => refused(machine, 1),
     }
 }
 
 pub(crate) fn turbo(machine: Machine, bits: u64) -> Stepped {
-    let paced = clock::time::turbo_bits(machine.time, bits);
+    let paced = clock::pace::turbo_bits(machine.time, bits);
     match paced {
         Paced::By(time) => {
             let mut next = machine;
             next.time = time;
-            done(next)
+            step_done(next)
         }
         Paced::BadTurbo => refused(machine, 2),
     }

@@ -34,7 +34,7 @@ pub struct Stepped {
     pub answer: Answer,
 }
 
-pub(crate) fn done(machine: Machine) -> Stepped {
+pub(crate) fn step_done(machine: Machine) -> Stepped {
     Stepped {
         machine,
         answer: answered(0, 0, 0),
@@ -94,7 +94,7 @@ fn idle() -> Bank {
 
 pub(crate) fn fresh() -> Machine {
     Machine {
-        time: clock::time::fresh(),
+        time: clock::pace::fresh(),
         bank: idle(),
         tone: timer::sound::silent(),
         queue: timer::events::empty(),

@@ -4,8 +4,8 @@ use crate::advance::turbo;
 use crate::look::look;
 use crate::machine::Machine;
 use crate::machine::Stepped;
-use crate::machine::done;
 use crate::machine::refused;
+use crate::machine::step_done;
 use crate::put::put;
 use crate::read::read;
 use crate::write::write;
@@ -15,7 +15,7 @@ use timer::Refusal;
 use whole::forms::bits_of;
 use whole::forms::low;
 
-fn said(machine: Machine, answer: Answer) -> Stepped {
+fn step_answer(machine: Machine, answer: Answer) -> Stepped {
     Stepped { machine, answer }
 }
 
@@ -27,7 +27,7 @@ fn take(machine: Machine) -> Stepped {
     let mut next = machine;
     next.queue = rest;
     match refusal {
-        Refusal::Done => said(
+        Refusal::Done => step_answer(
             next,
             answered(
                 bits_of(event.time),
@@ -50,17 +50,17 @@ pub(crate) fn step(
 ) -> Stepped {
     let at = low(address);
     match kind {
-        1 => said(machine, answered(read(machine, words, at), 0, 0)),
+        1 => step_answer(machine, answered(read(machine, words, at), 0, 0)),
         2 => write(machine, words, at, low(value)),
         3 => advance(machine, words, value),
         6 => turbo(machine, value),
         9 => take(machine),
         10 => {
             words[61] = low(value);
-            done(machine)
+            step_done(machine)
         }
-        11 => said(machine, look(machine, words, address)),
-        12 => done(put(machine, address, value)),
-        _ => done(machine),
+        11 => step_answer(machine, look(machine, words, address)),
+        12 => step_done(put(machine, address, value)),
+        _ => step_done(machine),
     }
 }

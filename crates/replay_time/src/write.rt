@@ -4,8 +4,8 @@ use crate::machine::Bank;
 use crate::machine::Machine;
 use crate::machine::Stepped;
 use crate::machine::adc_of;
-use crate::machine::done;
 use crate::machine::refused;
+use crate::machine::step_done;
 use crate::machine::timer_of;
 use crate::machine::with_timer;
 use crate::machine::word_of;
@@ -36,7 +36,7 @@ fn sounded(machine: Machine, words: &[u32; 62], i: usize, value: u32) -> Sounded
 }
 
 // The new tone is an event of this moment. There is room for it, or there would be no change.
-fn heard(machine: Machine, tone: Tone) -> Machine {
+fn with_tone(machine: Machine, tone: Tone) -> Machine {
     let time = machine.time;
     let event = Event {
         time: time.now,
@@ -81,11 +81,11 @@ fn sound_write(machine: Machine, words: &mut [u32; 62], i: usize, value: u32) ->
 {
     let change = sounded(machine, words, i, value);
     match change {
-        Sounded::Same => done(timer_write(machine, words, i, value)),
+        Sounded::Same => step_done(timer_write(machine, words, i, value)),
         Sounded::SoundFull => refused(machine, 5),
         Sounded::Change(tone) => {
-            let next = heard(machine, tone);
-            done(timer_write(next, words, i, value))
+            let next = with_tone(machine, tone);
+            step_done(timer_write(next, words, i, value))
         }
     }
 }
@@ -141,13 +141,13 @@ fn other_write(machine: Machine, words: &mut [u32; 62], i: usize, value: u32) ->
 pub(crate) fn write(machine: Machine, words: &mut [u32; 62], at: u32, value: u32) -> Stepped {
     let i = place(at);
     if i == 62 {
-        return done(machine);
+        return step_done(machine);
     }
     if i >= 48 {
-        return done(other_write(machine, words, i, value));
+        return step_done(other_write(machine, words, i, value));
     }
     if (i == 32) | (i == 34) | (i == 35) {
         return sound_write(machine, words, i, value);
     }
-    done(timer_write(machine, words, i, value))
+    step_done(timer_write(machine, words, i, value))
 }

@@ -1,4 +1,3 @@
--- What each entry does, and laws of the loops and of the bytes.
-pub mod Turns
+-- Laws of the loops and of the bytes.
 pub mod Runs
 pub mod Inside

@@ -9,17 +9,20 @@ use native.Mathlib.Omega.{arith}
 use lib.Dec.{eqb, ltb, leb}
 use lib.ListN.{length, getD, set, replicate}
 use lib.Seq.{getD-set-same, getD-set-other}
-use borrow.Author.Tests.{eq-eqb, ne-eqb, lt-ltb, le-ltb, lt-leb, le-leb, ltb-true, ltb-false, leb-true, eqb-true, eqb-false, not-false}
+use borrow.Author.Tests.{eq-eqb, ne-eqb, lt-ltb, le-ltb, lt-leb, le-leb, ltb-true, ltb-false, eqb-true}
+use borrow.Author.Tests.{eqb-false, not-false}
 use Rattle.memory.specs.Bytes.{loaded, storedAt}
 use Rattle.memory.proofs.Cases.{load-none, load-front}
-use Rattle.keys.proofs.SameKeys.{both}
-use Rattle.registers.proofs.Choice.{by-same, by-less}
+use Rattle.whole.proofs.Choice.{both}
+use Rattle.whole.proofs.Choice.{by-same, by-less}
 use Rattle.system.specs.declared.System.{System}
 use Rattle.system.specs.System.{machine, freshSystem}
-use Rattle.runner.specs.declared.Entry.{Entry}
-use Rattle.runner.specs.Format.{pressBytes, stepBytes, mostOf, lastKind, pressesIn, stepsIn, entriesIn, kindIn, Kinds, kindsFrom, behindPresses, badWith, badScript, pressFrom, stepFrom, entryAt, entriesFrom}
-use Rattle.runner.specs.Answers.{answerBytes}
-use Rattle.runner.specs.Script.{Ran, ran, ranOne, ranOf, Ended, ended, endOf, badMemory, outTooShort, runOf, scriptOf}
+use Rattle.entries.specs.declared.Entry.{Entry}
+use Rattle.entries.specs.Answers.{answerBytes}
+use Rattle.entries.specs.Turn.{kindIn, lastKind, RunState, runState, afterEntry}
+use Rattle.runner.specs.Format.{pressBytes, stepBytes, mostOf, pressesIn, stepsIn, entriesIn, Kinds, kindsFrom}
+use Rattle.runner.specs.Format.{behindPresses, badWith, badScript, pressFrom, stepFrom, entryAt, entriesFrom}
+use Rattle.runner.specs.Script.{afterEntries, Ended, ended, endOf, badMemory, outTooShort, runOf, scriptOf}
 
 -- ---- the kinds of n steps, by a table of the known ones
 
@@ -127,14 +130,13 @@ kinds-at s at (suc n) (suc j) k h =
 pub kind-known : (s : List ℕ) (p k left from : ℕ) {e : Entry} → kindsFrom s (behindPresses p) k ≡ true → 0 < left
     → left ≤ k
     → from + stepBytes * left ≡ behindPresses p + stepBytes * k → e ≡ stepFrom s from
-    → (0 < e .kind) × (e .kind ≤ lastKind)
+    → kindIn (e .kind) ≡ true
 unfolding stepFrom
 kind-known s p k left from h l m i e =
     let j : k - left < k = omega arith in
     let o : from ≡ behindPresses p + stepBytes * (k - left) = omega arith in
     let g : kindIn (loaded s from 1) ≡ true = rw o (kinds-at s (behindPresses p) k (k - left) h j) in
-    let b = both (ltb 0 (loaded s from 1)) (leb (loaded s from 1) lastKind) g in
-    rw e (ltb-true _ _ (b .0), leb-true _ _ (b .1))
+    rw e g
 
 -- ---- 10 BadScript
 
@@ -227,16 +229,17 @@ module _ (s : List ℕ) (p : ℕ) where
   entry-step i from h f e = rw (le-ltb _ _ h, ← f) e
 
   -- what is left to run from here is what there was to run before entry i
-  pub run-next : (n n′ i i′ at : ℕ) (t : Ran) {e : Entry} {t′ : Ran} → n ≡ suc n′ → i′ ≡ i + 1
-      → e ≡ entryAt s p i → t′ ≡ ranOne t at e
-      → ranOf t′ (at + answerBytes) (entriesFrom s p n′ i′) ≡ ranOf t at (entriesFrom s p n i)
-  unfolding ranOf entriesFrom
+  pub run-next : (n n′ i i′ at : ℕ) (t : RunState) {e : Entry} {t′ : RunState} → n ≡ suc n′ → i′ ≡ i + 1
+      → e ≡ entryAt s p i → t′ ≡ afterEntry t at e
+      → afterEntries t′ (at + answerBytes) (entriesFrom s p n′ i′) ≡ afterEntries t at (entriesFrom s p n i)
+  unfolding afterEntries entriesFrom
   run-next n n′ i i′ at t z y e f = rw (z, y, f, e)
 
-  module _ (left from at : ℕ) (t : Ran) {e : Entry} {t′ : Ran} (h : 0 < left) where
+  module _ (left from at : ℕ) (t : RunState) {e : Entry} {t′ : RunState} (h : 0 < left) where
     pub press-next : (n : ℕ) → left ≤ p → p ≤ n → from + pressBytes * left ≡ 4 + pressBytes * p
-        → e ≡ pressFrom s from → t′ ≡ ranOne t at e
-        → ranOf t′ (at + answerBytes) (entriesFrom s p (n - (p - (left - 1))) (p - (left - 1))) ≡ ranOf t at
+        → e ≡ pressFrom s from → t′ ≡ afterEntry t at e
+        → afterEntries t′ (at + answerBytes) (entriesFrom s p (n - (p - (left - 1))) (p - (left - 1))) ≡ afterEntries
+        t at
         (entriesFrom s p (n - (p - left)) (p - left))
     press-next n l m f e g =
         let i : p - left < p = omega arith in
@@ -246,8 +249,9 @@ module _ (s : List ℕ) (p : ℕ) where
         run-next _ _ (p - left) _ at t z y (entry-press (p - left) from i o e) g
 
     pub step-next : (k : ℕ) → left ≤ k → from + stepBytes * left ≡ behindPresses p + stepBytes * k
-        → e ≡ stepFrom s from → t′ ≡ ranOne t at e
-        → ranOf t′ (at + answerBytes) (entriesFrom s p (left - 1) (p + (k - (left - 1)))) ≡ ranOf t at (entriesFrom s
+        → e ≡ stepFrom s from → t′ ≡ afterEntry t at e
+        → afterEntries t′ (at + answerBytes) (entriesFrom s p (left - 1) (p + (k - (left - 1)))) ≡ afterEntries t at
+        (entriesFrom s
         p left (p + (k - left)))
     step-next k l f e g =
         let i : p ≤ p + (k - left) = omega arith in
@@ -256,35 +260,39 @@ module _ (s : List ℕ) (p : ℕ) where
         let y : p + (k - (left - 1)) ≡ p + (k - left) + 1 = omega arith in
         run-next _ _ (p + (k - left)) _ at t z y (entry-step (p + (k - left)) from i o e) g
 
-  pub press-start : (n : ℕ) (t : Ran)
-      → ranOf t 4 (entriesFrom s p (n - (p - p)) (p - p)) ≡ ranOf t 4 (entriesFrom s p n 0)
+  pub press-start : (n : ℕ) (t : RunState)
+      → afterEntries t 4 (entriesFrom s p (n - (p - p)) (p - p)) ≡ afterEntries t 4 (entriesFrom s p n 0)
   press-start n t = let z : p - p ≡ 0 = omega arith in let y : n - 0 ≡ n = omega arith in rw (z, y)
 
-  pub press-end : (n left at : ℕ) (t : Ran) {u : Ran} → left ≤ 0 → at + answerBytes * left ≡ 4 + answerBytes * p
-      → ranOf t at (entriesFrom s p (n - (p - left)) (p - left)) ≡ u
-      → ranOf t (4 + answerBytes * p) (entriesFrom s p (n - p) p) ≡ u
+  pub press-end : (n left at : ℕ) (t : RunState) {u : RunState} → left ≤ 0 → at + answerBytes * left ≡ 4 + answerBytes
+      * p
+      → afterEntries t at (entriesFrom s p (n - (p - left)) (p - left)) ≡ u
+      → afterEntries t (4 + answerBytes * p) (entriesFrom s p (n - p) p) ≡ u
   press-end n left at t h i e = let z : p - left ≡ p = omega arith in let y : at ≡ 4 + answerBytes * p = omega arith
       in rw (z, y) at e
 
-  pub step-start : (k at : ℕ) (t : Ran)
-      → ranOf t at (entriesFrom s p k (p + (k - k))) ≡ ranOf t at (entriesFrom s p k p)
+  pub step-start : (k at : ℕ) (t : RunState)
+      → afterEntries t at (entriesFrom s p k (p + (k - k))) ≡ afterEntries t at (entriesFrom s p k p)
   step-start k at t = let z : p + (k - k) ≡ p = omega arith in rw z
 
-  pub step-end : (left at i : ℕ) (t : Ran) {u : Ran} → left ≤ 0 → ranOf t at (entriesFrom s p left i) ≡ u → t ≡ u
-  unfolding ranOf entriesFrom
-  step-end left at i t h e = let z : left ≡ 0 = omega arith in let y : ranOf t at (entriesFrom s p 0 i) ≡ _ = rw z at
+  pub step-end : (left at i : ℕ) (t : RunState) {u : RunState} → left ≤ 0 → afterEntries t at (entriesFrom s p left i)
+      ≡ u → t ≡ u
+  unfolding afterEntries entriesFrom
+  step-end left at i t h e = let z : left ≡ 0 = omega arith in let y : afterEntries t at (entriesFrom s p 0 i) ≡ _ =
+      rw z at
       e in y
 
   -- the presses, and then the steps
-  pub both-run : (k : ℕ) (u : Ran) {t v : Ran} → v ≡ ranOf u (4 + answerBytes * p) (entriesFrom s p k p)
-      → ranOf u (4 + answerBytes * p) (entriesFrom s p (p + k - p) p) ≡ t → v ≡ t
+  pub both-run : (k : ℕ) (u : RunState) {t v : RunState} → v ≡ afterEntries u (4 + answerBytes * p)
+      (entriesFrom s p k p)
+      → afterEntries u (4 + answerBytes * p) (entriesFrom s p (p + k - p) p) ≡ t → v ≡ t
   both-run k u e f = e ∙ (rw (add-sub-cancel-left p k) at f)
 
 -- from whatever turns out to be the fresh state
-pub run-fresh : (m r g f l : List ℕ) (es : List Entry) {x : System} {t : Ran} → x ≡ freshSystem
-    → t ≡ ranOf (ran (machine x m r g f) l) 4 es
-    → t ≡ ranOf (ran (machine freshSystem m r g f) l) 4 es
-run-fresh m r g f l es h e = e ∙ ap (λ (z : System). ranOf (ran (machine z m r g f) l) 4 es) h
+pub run-fresh : (m r g f l : List ℕ) (es : List Entry) {x : System} {t : RunState} → x ≡ freshSystem
+    → t ≡ afterEntries (runState (machine x m r g f) l) 4 es
+    → t ≡ afterEntries (runState (machine freshSystem m r g f) l) 4 es
+run-fresh m r g f l es h e = e ∙ ap (λ (z : System). afterEntries (runState (machine z m r g f) l) 4 es) h
 
 -- ---- the ends of a script
 
@@ -300,7 +308,7 @@ module _ (m r g f s l : List ℕ) where
       run-short d = rw (← e, h, ← i, ← j, lt-ltb _ _ d)
 
       pub run-done : 4 + answerBytes * (p + k) ≤ length l → {l′ : List ℕ} {x : Ended} → l′ ≡ storedAt l 0 4 (p + k)
-          → x ≡ endOf (ranOf (ran (machine freshSystem m r g f) l′) 4 (entriesFrom s p (p + k) 0))
+          → x ≡ endOf (afterEntries (runState (machine freshSystem m r g f) l′) 4 (entriesFrom s p (p + k) 0))
           → x ≡ runOf m r g f s l
       unfolding runOf outTooShort
       run-done d y x = rw (← e, h, ← i, ← j, le-ltb _ _ d, ← y) x

@@ -5,25 +5,23 @@ use mathlib.Core.Path.{_≡_}
 use mathlib.Core.Bool.{Bool, true, false, not, cond, _&&_, _||_}
 use mathlib.Core.List.{List, [], _∷_}
 use lib.ListN.{length, getD}
-use lib.Dec.{eqb, ltb, leb}
+use lib.Dec.{eqb, ltb}
+use Rattle.map.specs.Numbers.{MOST-STEPS, PRESS-BYTES, STEP-BYTES}
 use Rattle.memory.specs.Bytes.{loaded}
-use Rattle.runner.specs.declared.Entry.{Entry}
+use Rattle.entries.specs.declared.Entry.{Entry}
+use Rattle.entries.specs.Turn.{kindIn}
 
 -- ---- the paper's numbers
 
 abbrev pub pressBytes : ℕ
-pressBytes = 9
+pressBytes = PRESS-BYTES
 
 abbrev pub stepBytes : ℕ
-stepBytes = 16
+stepBytes = STEP-BYTES
 
 -- the greatest count, of presses and of steps
 abbrev pub mostOf : ℕ
-mostOf = 4096
-
--- the kinds of steps begin at 1; 0 is a press
-abbrev pub lastKind : ℕ
-lastKind = 12
+mostOf = MOST-STEPS
 
 -- ---- the counts
 
@@ -39,9 +37,6 @@ abbrev pub entriesIn : List ℕ → ℕ
 entriesIn s = pressesIn s + stepsIn s (pressesIn s)
 
 -- ---- 10 BadScript: a count above 4,096, a length other than 8 + 9p + 16s, or a kind outside 1 to 12
-
-abbrev pub kindIn : ℕ → Bool
-kindIn k = ltb 0 k && leb k lastKind
 
 -- a table that says so of each byte
 abbrev pub Kinds : List Bool → Type 0

@@ -1,4 +1,3 @@
 -- What the contracts of this crate and of crate script cite, and what the theorems over scripts are stated with.
 pub mod Format
-pub mod Answers
 pub mod Script

@@ -4,17 +4,19 @@ ghost use mathlib.Core.Bool.{_&&_};
 ghost use Prim.Native.Nat.{ℕ, _+_, _-_, _*_, _≤_, _<_};
 ghost use lib.ListN.{length};
 ghost use Rattle.memory.specs.Bytes.{loaded};
-ghost use Rattle.runner.specs.Format.{pressBytes, stepBytes, mostOf, wide, pressesIn, stepsIn, kindIn, Kinds, kindsFrom, badScript, pressFrom, stepFrom};
-use crate::Entry;
+ghost use Rattle.entries.specs.Turn.{kindIn};
+ghost use Rattle.runner.specs.Format.{pressBytes, stepBytes, mostOf, wide, pressesIn, stepsIn, Kinds};
+ghost use Rattle.runner.specs.Format.{kindsFrom, badScript, pressFrom, stepFrom};
+use entries::Entry;
 
 // The bytes of a press and of a step, the greatest count of each, and the last kind of a step.
-pub(crate) const PRESS_BYTES: usize = 9;
+pub(crate) const PRESS_BYTES: usize = map::PRESS_BYTES;
 
-pub(crate) const STEP_BYTES: usize = 16;
+pub(crate) const STEP_BYTES: usize = map::STEP_BYTES;
 
-const MOST_OF: usize = 4096;
+const MOST_OF: usize = map::MOST_STEPS;
 
-const LAST_KIND: usize = 12;
+const LAST_KIND: usize = map::WIPE as usize;
 
 // Eight bytes.
 fn load_wide(script: &[u8], at: usize) -> u64

@@ -1,21 +1,3 @@
 // The runner of scripts: presses and steps over lent memories of any length, from the fresh state. 01, Scripts.
-mod act;
 mod format;
-mod replies;
-pub mod run;
-
-// A press or a step. A press has kind 0; its key is the address, the bits of its time the value.
-pub struct Entry {
-    pub kind: u32,
-    pub size: u32,
-    pub address: u32,
-    pub value: u64,
-}
-
-// 01's number, and three numbers; those that an entry does not answer are 0.
-pub struct Answer {
-    pub refusal: u8,
-    pub a: u64,
-    pub b: u64,
-    pub c: u64,
-}
+pub mod loops;

@@ -13,12 +13,13 @@ use Rattle.memory.proofs.Stored.{store-length, byte-other, load-store}
 use Rattle.system.specs.System.{Machine, machine}
 use Rattle.system.specs.Steps.{Outcome, step, after, plainly}
 use Rattle.system.proofs.Unchanged.{refused-unchanged}
-use Rattle.runner.specs.declared.Entry.{Entry}
+use Rattle.entries.specs.declared.Entry.{Entry}
 use Rattle.runner.specs.Format.{pressesIn, entriesIn, badScript, entriesFrom, entriesOf}
-use Rattle.runner.specs.Answers.{reply, inBits, replyOf, answerBytes, laid, laidAll}
-use Rattle.runner.specs.Script.{turn, opOf, turnOf, Ran, ran, ranOf, Ended, ended, endOf, badMemory, outTooShort, startOf, runOf, scriptOf}
+use Rattle.entries.specs.Answers.{reply, inBits, replyOf, answerBytes, laid, laidAll}
+use Rattle.entries.specs.Turn.{turn, opOf, turnOf, RunState, runState}
+use Rattle.runner.specs.Script.{afterEntries, Ended, ended, endOf, badMemory, outTooShort, startOf, runOf, scriptOf}
 use Rattle.script.specs.Fold.{Accepted, start, opsOf, repliesOf, answered, counted, answerAt, fitted}
-use Rattle.runner.proofs.Turns.{no-bits}
+use Rattle.entries.proofs.Turns.{no-bits}
 use Rattle.runner.proofs.Runs.{few-entries}
 use Rattle.script.proofs.Laid.{laid-length, all-length, all-before, all-behind, all-first}
 
@@ -29,12 +30,15 @@ unfolding turnOf
 turn-step m e = refl
 
 -- THE RUNNER IS THE FOLD: the machine after the operations, and their answers one behind the other
-pub runner-folds : (t : Ran) (at : ℕ) (es : List Entry) → ranOf t at es ≡ ran (after (t .machine) (opsOf es)) (laidAll (t .out) at (repliesOf (t .machine) es))
-unfolding ranOf after opsOf laidAll repliesOf
+pub runner-folds : (t : RunState) (at : ℕ) (es : List Entry)
+    → afterEntries t at es ≡ runState (after (t .machine) (opsOf es)) (laidAll (t .out) at (repliesOf (t .machine) es))
+unfolding afterEntries after opsOf laidAll repliesOf
 runner-folds t at [] = refl
 runner-folds t at (e ∷ es) =
-    runner-folds (ran (turnOf (t .machine) e .machine) (laid (t .out) at (turnOf (t .machine) e .answer))) (at + answerBytes) es
-    ∙ ap (λ (m : Machine). ran (after m (opsOf es)) (laidAll (laid (t .out) at (turnOf (t .machine) e .answer)) (at + answerBytes) (repliesOf (turnOf (t .machine) e .machine) es))) (turn-step (t .machine) e)
+    runner-folds (runState (turnOf (t .machine) e .machine) (laid (t .out) at (turnOf (t .machine) e .answer)))
+    (at + answerBytes) es
+    ∙ ap (λ (m : Machine). runState (after m (opsOf es)) (laidAll (laid (t .out) at (turnOf (t .machine) e .answer))
+    (at + answerBytes) (repliesOf (turnOf (t .machine) e .machine) es))) (turn-step (t .machine) e)
 
 answers-count : (m : Machine) (es : List Entry) → length (repliesOf m es) ≡ length es
 unfolding repliesOf
@@ -47,8 +51,10 @@ entries-count s p zero i = refl
 entries-count s p (suc n) i = ap suc (entries-count s p n (i + 1))
 
 -- the answer of one entry, behind those of others
-one-answer : (m : Machine) (before : List Entry) (e : Entry) (later : List Entry) (l : List ℕ) (at : ℕ) → at + answerBytes * length (before ++ (e ∷ later)) ≤ length l
-    → answerAt (laidAll l at (repliesOf m (before ++ (e ∷ later)))) (at + answerBytes * length before) ≡ fitted (turnOf (after m (opsOf before)) e .answer)
+one-answer : (m : Machine) (before : List Entry) (e : Entry) (later : List Entry) (l : List ℕ) (at : ℕ)
+    → at + answerBytes * length (before ++ (e ∷ later)) ≤ length l
+    → answerAt (laidAll l at (repliesOf m (before ++ (e ∷ later)))) (at + answerBytes * length before) ≡ fitted
+    (turnOf (after m (opsOf before)) e .answer)
 unfolding repliesOf laidAll after opsOf
 one-answer m [] e later l at h =
     let z : at + answerBytes * 0 ≡ at = omega arith in
@@ -56,19 +62,24 @@ one-answer m [] e later l at h =
     rw z (all-first l at (turnOf m e .answer) (repliesOf (turnOf m e .machine) later) room)
 one-answer m (b ∷ before) e later l at h =
     let z : at + answerBytes * suc (length before) ≡ at + answerBytes + answerBytes * length before = omega arith in
-    let room : at + answerBytes + answerBytes * length (before ++ (e ∷ later)) ≤ length (laid l at (turnOf m b .answer)) =
+    let room : at + answerBytes + answerBytes * length (before ++ (e ∷ later)) ≤ length
+    (laid l at (turnOf m b .answer)) =
     rw (laid-length l at (turnOf m b .answer)) (omega arith) in
-    rw z (one-answer (turnOf m b .machine) before e later (laid l at (turnOf m b .answer)) (at + answerBytes) room ∙ ap (λ (n : Machine). fitted (turnOf (after n (opsOf before)) e .answer)) (turn-step m b))
+    rw z (one-answer (turnOf m b .machine) before e later (laid l at (turnOf m b .answer)) (at + answerBytes) room ∙
+    ap (λ (n : Machine). fitted (turnOf (after n (opsOf before)) e .answer)) (turn-step m b))
 
 -- ---- the whole
 
 module _ (m r g f s l : List ℕ) where
   -- by whether it is 7, 10, 11
   abbrev whole : Bool → Bool → Bool → Ended
-  whole a b c = cond a (ended 7 m r g f l) (cond b (ended 10 m r g f l) (cond c (ended 11 m r g f l) (endOf (ranOf (startOf m r g f s l) 4 (entriesOf s)))))
+  whole a b c = cond a (ended 7 m r g f l)
+      (cond b (ended 10 m r g f l) (cond c (ended 11 m r g f l)
+      (endOf (afterEntries (startOf m r g f s l) 4 (entriesOf s)))))
 
   -- 7, 10, 11 IN THIS ORDER, or done
-  pub refusals-in-order : scriptOf m r g f s l .refusal ≡ cond (badMemory m r g f) 7 (cond (badScript s) 10 (cond (outTooShort s l) 11 0))
+  pub refusals-in-order : scriptOf m r g f s l .refusal ≡ cond (badMemory m r g f) 7
+      (cond (badScript s) 10 (cond (outTooShort s l) 11 0))
   unfolding scriptOf runOf
   refusals-in-order = by (badMemory m r g f) (badScript s) (outTooShort s l)
     where
@@ -79,7 +90,8 @@ module _ (m r g f s l : List ℕ) where
       by false false false = refl
 
   -- A SCRIPT THAT IS REFUSED CHANGES NOTHING: memories and output as they were
-  pub script-unchanged : scriptOf m r g f s l .refusal ≢ 0 → scriptOf m r g f s l ≡ ended (scriptOf m r g f s l .refusal) m r g f l
+  pub script-unchanged : scriptOf m r g f s l .refusal ≢ 0
+      → scriptOf m r g f s l ≡ ended (scriptOf m r g f s l .refusal) m r g f l
   unfolding scriptOf runOf
   script-unchanged h = by (badMemory m r g f) (badScript s) (outTooShort s l) h
     where
@@ -91,7 +103,8 @@ module _ (m r g f s l : List ℕ) where
 
 module _ (m r g f s l : List ℕ) (ok : Accepted m r g f s l) where
   -- WHAT A SCRIPT LEAVES: the machine after its operations; the count, and their answers behind it
-  pub script-folds : scriptOf m r g f s l ≡ endOf (ran (after (start m r g f) (opsOf (entriesOf s))) (laidAll (counted s l) 4 (answered m r g f s)))
+  pub script-folds : scriptOf m r g f s l ≡ endOf (runState (after (start m r g f) (opsOf (entriesOf s)))
+      (laidAll (counted s l) 4 (answered m r g f s)))
   unfolding scriptOf runOf
   script-folds = rw (ok .memory, ok .script, ok .room) (ap endOf (runner-folds (startOf m r g f s l) 4 (entriesOf s)))
 
@@ -104,7 +117,8 @@ module _ (m r g f s l : List ℕ) (ok : Accepted m r g f s l) where
 
   -- the output begins with the count p + s
   pub count-first : loaded (scriptOf m r g f s l .out) 0 4 ≡ entriesIn s
-  count-first = rw out-is (all-before (counted s l) 4 (answered m r g f s) 0 4 four ∙ load-store l 0 4 (entriesIn s) four enough ∙ small)
+  count-first = rw out-is (all-before (counted s l) 4 (answered m r g f s) 0 4 four ∙ load-store l 0 4 (entriesIn s)
+      four enough ∙ small)
     where
       four : 4 ≤ 4
       four = omega arith
@@ -117,7 +131,8 @@ module _ (m r g f s l : List ℕ) (ok : Accepted m r g f s l) where
 
   -- EACH ANSWER IS THE BUS'S: that of the entry's operation in the machine after those before it
   pub each-answer : (before later : List Entry) (e : Entry) → entriesOf s ≡ before ++ (e ∷ later)
-      → answerAt (scriptOf m r g f s l .out) (4 + answerBytes * length before) ≡ fitted (replyOf (inBits (e .kind)) (step (after (start m r g f) (opsOf before)) (opOf e)))
+      → answerAt (scriptOf m r g f s l .out) (4 + answerBytes * length before) ≡ fitted
+      (replyOf (inBits (e .kind)) (step (after (start m r g f) (opsOf before)) (opOf e)))
   unfolding turnOf
   each-answer before later e split =
       let full : 4 + answerBytes * length (before ++ (e ∷ later)) ≤ length (counted s l) =
@@ -127,7 +142,8 @@ module _ (m r g f s l : List ℕ) (ok : Accepted m r g f s l) where
   -- later bytes stay, and so does the length
   pub later-stay : (p : ℕ) → 4 + answerBytes * entriesIn s ≤ p → getD (scriptOf m r g f s l .out) p 0 ≡ getD l p 0
   later-stay p h =
-      let n : length (answered m r g f s) ≡ entriesIn s = answers-count (start m r g f) (entriesOf s) ∙ entries-count s (pressesIn s) (entriesIn s) 0 in
+      let n : length (answered m r g f s) ≡ entriesIn s = answers-count (start m r g f) (entriesOf s) ∙ entries-count
+      s (pressesIn s) (entriesIn s) 0 in
       let h₁ : 4 + answerBytes * length (answered m r g f s) ≤ p = rw n h in
       let h₂ : 0 + 4 ≤ p = omega arith in
       rw out-is (all-behind (counted s l) 4 (answered m r g f s) p h₁ ∙ byte-other l 0 4 (entriesIn s) p (inr h₂))
@@ -137,14 +153,18 @@ module _ (m r g f s l : List ℕ) (ok : Accepted m r g f s l) where
 
 -- ---- a refused entry
 
-plain-reply : (m : Machine) (b : Bool) (o : Outcome) → (o .refusal ≢ 0 → o ≡ plainly m (o .refusal)) → replyOf b o .refusal ≢ 0
+plain-reply : (m : Machine) (b : Bool) (o : Outcome) → (o .refusal ≢ 0 → o ≡ plainly m (o .refusal))
+    → replyOf b o .refusal ≢ 0
     → turn (o .machine) (replyOf b o) ≡ turn m (reply (replyOf b o .refusal) 0 0 0)
 unfolding replyOf
 plain-reply m true o plain h =
-    ap (λ (z : Outcome). turn (z .machine) (reply (z .refusal) (bitsOf (z .x)) (bitsOf (z .y)) (bitsOf (z .z)))) (plain h) ∙ rw no-bits
-plain-reply m false o plain h = ap (λ (z : Outcome). turn (z .machine) (reply (z .refusal) (z .a) (z .b) (z .c))) (plain h)
+    ap (λ (z : Outcome). turn (z .machine) (reply (z .refusal) (bitsOf (z .x)) (bitsOf (z .y)) (bitsOf (z .z))))
+    (plain h) ∙ rw no-bits
+plain-reply m false o plain h = ap (λ (z : Outcome). turn (z .machine) (reply (z .refusal) (z .a) (z .b) (z .c)))
+    (plain h)
 
 -- A REFUSED PRESS OR STEP CHANGES NOTHING: the same machine, zeros beside the number
-pub entry-unchanged : (m : Machine) (e : Entry) → turnOf m e .answer .refusal ≢ 0 → turnOf m e ≡ turn m (reply (turnOf m e .answer .refusal) 0 0 0)
+pub entry-unchanged : (m : Machine) (e : Entry) → turnOf m e .answer .refusal ≢ 0
+    → turnOf m e ≡ turn m (reply (turnOf m e .answer .refusal) 0 0 0)
 unfolding turnOf
 entry-unchanged m e h = plain-reply m (inBits (e .kind)) (step m (opOf e)) (refused-unchanged m (opOf e)) h

@@ -7,10 +7,10 @@ use native.Mathlib.Omega.{arith}
 use lib.ListN.{length, getD}
 use Rattle.memory.specs.Bytes.{loaded, storedAt}
 use Rattle.memory.proofs.Stored.{store-length, byte-other, load-other, load-store}
-use Rattle.runner.specs.declared.Answer.{Answer}
+use Rattle.entries.specs.declared.Answer.{Answer}
 use Rattle.runner.specs.Format.{wide}
-use Rattle.runner.specs.Answers.{answerBytes, storedWide, laid, laidAll}
-use Rattle.runner.proofs.Inside.{wide-length}
+use Rattle.entries.specs.Answers.{answerBytes, storedWide, laid, laidAll}
+use Rattle.entries.proofs.Laying.{wide-length}
 use Rattle.script.specs.Fold.{answerAt, fitted}
 
 -- ---- eight bytes
@@ -21,7 +21,8 @@ module _ (l : List ℕ) (o v : ℕ) where
   unfolding storedWide
   load-before p k h =
       let h′ : p + k ≤ o + 4 = omega arith in
-      load-other (storedAt l o 4 (v % 2 ^ 32)) (o + 4) 4 (v / 2 ^ 32) p k (inl h′) ∙ load-other l o 4 (v % 2 ^ 32) p k (inl h)
+      load-other (storedAt l o 4 (v % 2 ^ 32)) (o + 4) 4 (v / 2 ^ 32) p k (inl h′) ∙ load-other l o 4 (v % 2 ^ 32) p k
+      (inl h)
 
   wide-before : (p : ℕ) → p + 8 ≤ o → wide (storedWide l o v) p ≡ wide l p
   unfolding wide
@@ -40,7 +41,8 @@ module _ (l : List ℕ) (o v : ℕ) where
       let n : 4 ≤ 4 = omega arith in
       let low : loaded (storedAt k (o + 4) 4 (v / 2 ^ 32)) o 4 ≡ v % 2 ^ 32 % 2 ^ 32 =
       load-other k (o + 4) 4 (v / 2 ^ 32) o 4 (inl s) ∙ load-store l o 4 (v % 2 ^ 32) n a in
-      let high : loaded (storedAt k (o + 4) 4 (v / 2 ^ 32)) (o + 4) 4 ≡ v / 2 ^ 32 % 2 ^ 32 = load-store k (o + 4) 4 (v / 2 ^ 32) n b in
+      let high : loaded (storedAt k (o + 4) 4 (v / 2 ^ 32)) (o + 4) 4 ≡ v / 2 ^ 32 % 2 ^ 32 = load-store k (o + 4) 4
+      (v / 2 ^ 32) n b in
       rw (low, high) (omega arith)
 
   wide-byte : (p : ℕ) → o + 8 ≤ p → getD (storedWide l o v) p 0 ≡ getD l p 0
@@ -48,7 +50,8 @@ module _ (l : List ℕ) (o v : ℕ) where
   wide-byte p h =
       let a : o + 4 + 4 ≤ p = omega arith in
       let b : o + 4 ≤ p = omega arith in
-      byte-other (storedAt l o 4 (v % 2 ^ 32)) (o + 4) 4 (v / 2 ^ 32) p (inr a) ∙ byte-other l o 4 (v % 2 ^ 32) p (inr b)
+      byte-other (storedAt l o 4 (v % 2 ^ 32)) (o + 4) 4 (v / 2 ^ 32) p (inr a) ∙ byte-other l o 4 (v % 2 ^ 32) p
+      (inr b)
 
 -- ---- one answer
 
@@ -64,7 +67,8 @@ module _ (l : List ℕ) (at : ℕ) (x : Answer) where
 
   pub laid-length : length (laid l at x) ≡ length l
   unfolding laid
-  laid-length = wide-length l₂ (at + 17) (x .c) ∙ wide-length l₁ (at + 9) (x .b) ∙ wide-length l₀ (at + 1) (x .a) ∙ store-length l at 1 (x .refusal)
+  laid-length = wide-length l₂ (at + 17) (x .c) ∙ wide-length l₁ (at + 9) (x .b) ∙ wide-length l₀ (at + 1) (x .a) ∙
+      store-length l at 1 (x .refusal)
 
   pub laid-before : (p k : ℕ) → p + k ≤ at → loaded (laid l at x) p k ≡ loaded l p k
   unfolding laid
@@ -72,7 +76,8 @@ module _ (l : List ℕ) (at : ℕ) (x : Answer) where
       let a : p + k ≤ at + 17 = omega arith in
       let b : p + k ≤ at + 9 = omega arith in
       let c : p + k ≤ at + 1 = omega arith in
-      load-before l₂ (at + 17) (x .c) p k a ∙ load-before l₁ (at + 9) (x .b) p k b ∙ load-before l₀ (at + 1) (x .a) p k c ∙ load-other l at 1 (x .refusal) p k (inl h)
+      load-before l₂ (at + 17) (x .c) p k a ∙ load-before l₁ (at + 9) (x .b) p k b ∙ load-before l₀ (at + 1) (x .a) p
+      k c ∙ load-other l at 1 (x .refusal) p k (inl h)
 
   pub laid-behind : (p : ℕ) → at + answerBytes ≤ p → getD (laid l at x) p 0 ≡ getD l p 0
   unfolding laid
@@ -81,7 +86,8 @@ module _ (l : List ℕ) (at : ℕ) (x : Answer) where
       let b : at + 9 + 8 ≤ p = omega arith in
       let c : at + 1 + 8 ≤ p = omega arith in
       let d : at + 1 ≤ p = omega arith in
-      wide-byte l₂ (at + 17) (x .c) p a ∙ wide-byte l₁ (at + 9) (x .b) p b ∙ wide-byte l₀ (at + 1) (x .a) p c ∙ byte-other l at 1 (x .refusal) p (inr d)
+      wide-byte l₂ (at + 17) (x .c) p a ∙ wide-byte l₁ (at + 9) (x .b) p b ∙ wide-byte l₀ (at + 1) (x .a) p c ∙
+      byte-other l at 1 (x .refusal) p (inr d)
 
   pub laid-back : at + answerBytes ≤ length l → answerAt (laid l at x) at ≡ fitted x
   unfolding laid answerAt
@@ -131,11 +137,13 @@ module _ (l : List ℕ) (at : ℕ) (x : Answer) where
 
       first : loaded (storedWide l₂ (at + 17) (x .c)) at 1 ≡ x .refusal % 256
       first =
-          load-before l₂ (at + 17) (x .c) at 1 farther ∙ load-before l₁ (at + 9) (x .b) at 1 far ∙ load-before l₀ (at + 1) (x .a) at 1 near
+          load-before l₂ (at + 17) (x .c) at 1 farther ∙ load-before l₁ (at + 9) (x .b) at 1 far ∙ load-before l₀
+          (at + 1) (x .a) at 1 near
           ∙ load-store l at 1 (x .refusal) one room₀
 
       second : wide (storedWide l₂ (at + 17) (x .c)) (at + 1) ≡ x .a % 2 ^ 64
-      second = wide-before l₂ (at + 17) (x .c) (at + 1) next₂ ∙ wide-before l₁ (at + 9) (x .b) (at + 1) next₁ ∙ wide-back l₀ (at + 1) (x .a) room₁
+      second = wide-before l₂ (at + 17) (x .c) (at + 1) next₂ ∙ wide-before l₁ (at + 9) (x .b) (at + 1) next₁ ∙
+          wide-back l₀ (at + 1) (x .a) room₁
 
       third : wide (storedWide l₂ (at + 17) (x .c)) (at + 9) ≡ x .b % 2 ^ 64
       third = wide-before l₂ (at + 17) (x .c) (at + 9) next₃ ∙ wide-back l₁ (at + 9) (x .b) room₂
@@ -150,14 +158,17 @@ unfolding laidAll
 all-length l at [] = refl
 all-length l at (x ∷ xs) = all-length (laid l at x) (at + answerBytes) xs ∙ laid-length l at x
 
-pub all-before : (l : List ℕ) (at : ℕ) (xs : List Answer) (p k : ℕ) → p + k ≤ at → loaded (laidAll l at xs) p k ≡ loaded l p k
+pub all-before : (l : List ℕ) (at : ℕ) (xs : List Answer) (p k : ℕ) → p + k ≤ at
+    → loaded (laidAll l at xs) p k ≡ loaded l p k
 unfolding laidAll
 all-before l at [] p k h = refl
 all-before l at (x ∷ xs) p k h =
-    let h′ : p + k ≤ at + answerBytes = omega arith in all-before (laid l at x) (at + answerBytes) xs p k h′ ∙ laid-before l at x p k h
+    let h′ : p + k ≤ at + answerBytes = omega arith in all-before (laid l at x) (at + answerBytes) xs p k h′ ∙
+    laid-before l at x p k h
 
 -- the bytes behind the last
-pub all-behind : (l : List ℕ) (at : ℕ) (xs : List Answer) (p : ℕ) → at + answerBytes * length xs ≤ p → getD (laidAll l at xs) p 0 ≡ getD l p 0
+pub all-behind : (l : List ℕ) (at : ℕ) (xs : List Answer) (p : ℕ) → at + answerBytes * length xs ≤ p
+    → getD (laidAll l at xs) p 0 ≡ getD l p 0
 unfolding laidAll
 all-behind l at [] p h = refl
 all-behind l at (x ∷ xs) p h =
@@ -166,7 +177,8 @@ all-behind l at (x ∷ xs) p h =
     all-behind (laid l at x) (at + answerBytes) xs p h₁ ∙ laid-behind l at x p h₂
 
 -- an answer is read off its bytes
-answers-same : (k l : List ℕ) (at : ℕ) → ((p n : ℕ) → p + n ≤ at + answerBytes → loaded k p n ≡ loaded l p n) → answerAt k at ≡ answerAt l at
+answers-same : (k l : List ℕ) (at : ℕ) → ((p n : ℕ) → p + n ≤ at + answerBytes → loaded k p n ≡ loaded l p n)
+    → answerAt k at ≡ answerAt l at
 unfolding answerAt wide
 answers-same k l at same =
     let a : at + 1 ≤ at + answerBytes = omega arith in
@@ -176,8 +188,19 @@ answers-same k l at same =
     let e : at + 9 + 4 + 4 ≤ at + answerBytes = omega arith in
     let f : at + 17 + 4 ≤ at + answerBytes = omega arith in
     let g : at + 17 + 4 + 4 ≤ at + answerBytes = omega arith in
-    rw (same at 1 a, same (at + 1) 4 b, same (at + 1 + 4) 4 c, same (at + 9) 4 d, same (at + 9 + 4) 4 e, same (at + 17) 4 f, same (at + 17 + 4) 4 g)
+    rw (
+      same at 1 a,
+      same (at + 1) 4 b,
+      same (at + 1 + 4) 4 c,
+      same (at + 9) 4 d,
+      same (at + 9 + 4) 4 e,
+      same
+          (at + 17) 4 f,
+      same (at + 17 + 4) 4 g,
+    )
 
 -- the first stands as it was laid
-pub all-first : (l : List ℕ) (at : ℕ) (x : Answer) (xs : List Answer) → at + answerBytes ≤ length l → answerAt (laidAll (laid l at x) (at + answerBytes) xs) at ≡ fitted x
-all-first l at x xs h = answers-same (laidAll (laid l at x) (at + answerBytes) xs) (laid l at x) at (all-before (laid l at x) (at + answerBytes) xs) ∙ laid-back l at x h
+pub all-first : (l : List ℕ) (at : ℕ) (x : Answer) (xs : List Answer) → at + answerBytes ≤ length l
+    → answerAt (laidAll (laid l at x) (at + answerBytes) xs) at ≡ fitted x
+all-first l at x xs h = answers-same (laidAll (laid l at x) (at + answerBytes) xs) (laid l at x) at
+    (all-before (laid l at x) (at + answerBytes) xs) ∙ laid-back l at x h

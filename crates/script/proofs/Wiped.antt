@@ -1,4 +1,5 @@
--- A step of kind 12 makes all that follows independent of all that came before, in whatever scripts, memories and output.
+-- A step of kind 12 makes all that follows independent of all that came before, in whatever scripts, memories and
+-- output.
 use Prim.Native.Nat.{ℕ, _+_, _*_}
 use mathlib.Core.Path.{_≡_, refl, sym, ap, _∙_}
 use mathlib.Core.Bool.{Bool, true, false, not, _||_}
@@ -7,14 +8,16 @@ use native.Mathlib.Omega.{arith}
 use lib.Dec.{eqb}
 use lib.ListN.{length}
 use borrow.Author.Tests.{not-false, eqb-true}
+use Rattle.map.specs.Numbers.{RAM-SIZE, SRAM-SIZE, GPIO-SIZE, FRAMEBUFFER-SIZE}
 use Rattle.system.specs.System.{Machine}
 use Rattle.system.specs.Steps.{Op, wipe, step, after}
 use Rattle.system.specs.Lengths.{SameLengths}
 use Rattle.system.proofs.Wiped.{wipe-after}
-use Rattle.runner.specs.declared.Entry.{Entry}
+use Rattle.entries.specs.declared.Entry.{Entry}
 use Rattle.runner.specs.Format.{entriesOf}
-use Rattle.runner.specs.Answers.{inBits, replyOf, answerBytes}
-use Rattle.runner.specs.Script.{opOf, Ended, badMemory, scriptOf}
+use Rattle.entries.specs.Answers.{inBits, replyOf, answerBytes}
+use Rattle.entries.specs.Turn.{opOf}
+use Rattle.runner.specs.Script.{Ended, badMemory, scriptOf}
 use Rattle.script.specs.Fold.{Accepted, start, opsOf, answerAt, fitted}
 use Rattle.script.proofs.Fold.{script-folds, each-answer}
 
@@ -31,10 +34,10 @@ has-length : (l : List ℕ) (n : ℕ) → not (eqb (length l) n) ≡ false → l
 has-length l n h = eqb-true (length l) n (not-false (eqb (length l) n) h)
 
 pub record Unit (m r g f : List ℕ) : Type 0 where
-  pub ram : length m ≡ 16777216
-  pub sram : length r ≡ 1048576
-  pub gpio : length g ≡ 4096
-  pub fb : length f ≡ 32768
+  pub ram : length m ≡ RAM-SIZE
+  pub sram : length r ≡ SRAM-SIZE
+  pub gpio : length g ≡ GPIO-SIZE
+  pub fb : length f ≡ FRAMEBUFFER-SIZE
 
 good-memory : (m r g f : List ℕ) → badMemory m r g f ≡ false → Unit m r g f
 unfolding badMemory
@@ -42,7 +45,13 @@ good-memory m r g f h =
     let a = neither _ _ h in
     let b = neither _ _ (a .1) in
     let c = neither _ _ (b .1) in
-    record { ram = has-length m _ (a .0); sram = has-length r _ (b .0); gpio = has-length g _ (c .0); fb = has-length f _ (c .1) }
+    record {
+      ram = has-length m _ (a .0);
+      sram = has-length r _ (b .0);
+      gpio = has-length g _ (c .0);
+      fb = has-length
+          f _ (c .1);
+    }
 
 -- ---- operations
 
@@ -51,14 +60,17 @@ unfolding opsOf
 ops-both [] fs = refl
 ops-both (e ∷ es) fs = ap (λ (os : List Op). opOf e ∷ os) (ops-both es fs)
 
-ops-wipe : (before later : List Entry) (e : Entry) → e .kind ≡ 12 → opsOf (before ++ (e ∷ later)) ≡ opsOf before ++ (wipe ∷ opsOf later)
+ops-wipe : (before later : List Entry) (e : Entry) → e .kind ≡ 12 → opsOf (before ++ (e ∷ later)) ≡ opsOf before ++
+    (wipe ∷ opsOf later)
 unfolding opsOf opOf
 ops-wipe before later e k = ops-both before (e ∷ later) ∙ ap (λ (o : Op). opsOf before ++ (o ∷ opsOf later)) (rw k)
 
 -- ---- two scripts that go on alike from a wipe on
 
-module _ (m r g f s l m′ r′ g′ f′ s′ l′ : List ℕ) (ok : Accepted m r g f s l) (ok′ : Accepted m′ r′ g′ f′ s′ l′) (before others later : List Entry) (e e′ : Entry)
-    (kind : e .kind ≡ 12) (kind′ : e′ .kind ≡ 12) (split : entriesOf s ≡ before ++ (e ∷ later)) (split′ : entriesOf s′ ≡ others ++ (e′ ∷ later)) where
+module _ (m r g f s l m′ r′ g′ f′ s′ l′ : List ℕ) (ok : Accepted m r g f s l) (ok′ : Accepted m′ r′ g′ f′ s′ l′)
+    (before others later : List Entry) (e e′ : Entry)
+    (kind : e .kind ≡ 12) (kind′ : e′ .kind ≡ 12) (split : entriesOf s ≡ before ++ (e ∷ later))
+    (split′ : entriesOf s′ ≡ others ++ (e′ ∷ later)) where
   lengths : SameLengths (start m r g f) (start m′ r′ g′ f′)
   lengths =
       let a = good-memory m r g f (ok .memory) in
@@ -71,9 +83,11 @@ module _ (m r g f s l m′ r′ g′ f′ s′ l′ : List ℕ) (ok : Accepted m
       }
 
   -- the machine after the wipe and whatever entries follow
-  machine-same : (es : List Entry) → after (start m r g f) (opsOf (before ++ (e ∷ es))) ≡ after (start m′ r′ g′ f′) (opsOf (others ++ (e′ ∷ es)))
+  machine-same : (es : List Entry) → after (start m r g f) (opsOf (before ++ (e ∷ es))) ≡ after (start m′ r′ g′ f′)
+      (opsOf (others ++ (e′ ∷ es)))
   machine-same es =
-      rw (ops-wipe before es e kind, ops-wipe others es e′ kind′) (wipe-after (start m r g f) (start m′ r′ g′ f′) (opsOf before) (opsOf others) (opsOf es) lengths)
+      rw (ops-wipe before es e kind, ops-wipe others es e′ kind′) (wipe-after (start m r g f) (start m′ r′ g′ f′)
+      (opsOf before) (opsOf others) (opsOf es) lengths)
 
   ends : after (start m r g f) (opsOf (entriesOf s)) ≡ after (start m′ r′ g′ f′) (opsOf (entriesOf s′))
   ends = rw (split, split′) (machine-same later)
@@ -94,7 +108,8 @@ module _ (m r g f s l m′ r′ g′ f′ s′ l′ : List ℕ) (ok : Accepted m
 
   -- and every answer behind the wipe
   pub wipe-answers : (es fs : List Entry) (x : Entry) → later ≡ es ++ (x ∷ fs)
-      → answerAt (scriptOf m r g f s l .out) (4 + answerBytes * length (before ++ (e ∷ es))) ≡ answerAt (scriptOf m′ r′ g′ f′ s′ l′ .out) (4 + answerBytes * length (others ++ (e′ ∷ es)))
+      → answerAt (scriptOf m r g f s l .out) (4 + answerBytes * length (before ++ (e ∷ es))) ≡ answerAt
+      (scriptOf m′ r′ g′ f′ s′ l′ .out) (4 + answerBytes * length (others ++ (e′ ∷ es)))
   wipe-answers es fs x goes =
       each-answer m r g f s l ok (before ++ (e ∷ es)) fs x (split ∙ on before e)
       ∙ ap (λ (n : Machine). fitted (replyOf (inBits (x .kind)) (step n (opOf x)))) (machine-same es)

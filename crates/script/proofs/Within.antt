@@ -1,4 +1,5 @@
--- A script's machine is within the limits all along, so each of its refusals is the one that the paper's table and order give.
+-- A script's machine is within the limits all along, so each of its refusals is the one that the paper's table and
+-- order give.
 use mathlib.Core.Path.{_≡_, refl, _∙_}
 use mathlib.Core.Bool.{Bool, true, false}
 use mathlib.Core.List.{List}
@@ -10,9 +11,9 @@ use Rattle.system.specs.Refusals.{refusalOf}
 use Rattle.system.proofs.Kept.{fresh-limits}
 use Rattle.system.proofs.Limits.{after-limits}
 use Rattle.system.proofs.Refusals.{refused-in-order}
-use Rattle.runner.specs.declared.Entry.{Entry}
-use Rattle.runner.specs.Answers.{inBits, replyOf}
-use Rattle.runner.specs.Script.{opOf, turnOf}
+use Rattle.entries.specs.declared.Entry.{Entry}
+use Rattle.entries.specs.Answers.{inBits, replyOf}
+use Rattle.entries.specs.Turn.{opOf, turnOf}
 use Rattle.script.specs.Fold.{start, opsOf}
 
 -- the limits are of the state alone, so whatever memories are lent
@@ -38,7 +39,8 @@ reply-refusal false o = refl
 
 -- the number that an entry is answered, behind those before it
 pub entry-in-order : (m r g f : List ℕ) (before : List Entry) (e : Entry)
-    → turnOf (after (start m r g f) (opsOf before)) e .answer .refusal ≡ refusalOf (after (start m r g f) (opsOf before)) (opOf e)
+    → turnOf (after (start m r g f) (opsOf before)) e .answer .refusal ≡ refusalOf
+    (after (start m r g f) (opsOf before)) (opOf e)
 unfolding turnOf
 entry-in-order m r g f before e =
     let now = after (start m r g f) (opsOf before) in

@@ -6,21 +6,22 @@ use mathlib.Core.List.{List, [], _∷_}
 use Rattle.memory.specs.Bytes.{loaded, storedAt}
 use Rattle.system.specs.System.{Machine, machine, freshSystem}
 use Rattle.system.specs.Steps.{Op}
-use Rattle.runner.specs.declared.Entry.{Entry}
-use Rattle.runner.specs.declared.Answer.{Answer}
+use Rattle.entries.specs.declared.Entry.{Entry}
+use Rattle.entries.specs.declared.Answer.{Answer}
 use Rattle.runner.specs.Format.{wide, entriesIn, entriesOf, badScript}
-use Rattle.runner.specs.Answers.{reply}
-use Rattle.runner.specs.Script.{opOf, turnOf, badMemory, outTooShort}
+use Rattle.entries.specs.Answers.{reply}
+use Rattle.entries.specs.Turn.{opOf, turnOf}
+use Rattle.runner.specs.Script.{badMemory, outTooShort}
 
 -- no refusal as a whole
-pub record Accepted (m r g f s l : List ℕ) : Type 0 where
-  pub memory : badMemory m r g f ≡ false
-  pub script : badScript s ≡ false
-  pub room : outTooShort s l ≡ false
+pub record Accepted (ram sram gpio fb bytes out : List ℕ) : Type 0 where
+  pub memory : badMemory ram sram gpio fb ≡ false
+  pub script : badScript bytes ≡ false
+  pub room : outTooShort bytes out ≡ false
 
 -- the machine that a script starts from
 abbrev pub start : List ℕ → List ℕ → List ℕ → List ℕ → Machine
-start m r g f = machine freshSystem m r g f
+start ram sram gpio fb = machine freshSystem ram sram gpio fb
 
 -- the operations of entries
 unfoldable pub opsOf : List Entry → List Op
@@ -34,10 +35,10 @@ repliesOf m (e ∷ es) = turnOf m e .answer ∷ repliesOf (turnOf m e .machine) 
 
 -- the answers of a script, and the output with their count in front
 abbrev pub answered : List ℕ → List ℕ → List ℕ → List ℕ → List ℕ → List Answer
-answered m r g f s = repliesOf (start m r g f) (entriesOf s)
+answered ram sram gpio fb script = repliesOf (start ram sram gpio fb) (entriesOf script)
 
 abbrev pub counted : List ℕ → List ℕ → List ℕ
-counted s l = storedAt l 0 4 (entriesIn s)
+counted script out = storedAt out 0 4 (entriesIn script)
 
 -- the answer that stands at a place of the output
 unfoldable pub answerAt : List ℕ → ℕ → Answer

@@ -6,6 +6,8 @@ use mathlib.Core.List.{List, [], _∷_}
 use lib.ListN.{getD}
 use lib.Dec.{eqb, ltb}
 use lib.Ieee.{Float, nan}
+use Rattle.map.specs.Numbers.{TIMER-COUNT}
+use Rattle.state.specs.Each.{listOf}
 use Rattle.flash.specs.declared.Mode.{Mode}
 use Rattle.flash.specs.declared.Mode.the-variants.{Rust, Strict}
 use Rattle.flash.specs.declared.Chip.{Chip}
@@ -71,8 +73,20 @@ panelIn l =
       cmd = heldIn (getD l 11 0);
       args = getD l 12 0 % 256 ∷ getD l 13 0 % 256 ∷ getD l 14 0 % 256 ∷ getD l 15 0 % 256 ∷ [];
       count = getD l 16 0 % 256;
-      window = record { x0 = getD l 17 0 % 65536; x1 = getD l 18 0 % 65536; y0 = getD l 19 0 % 65536; y1 = getD l 20 0 % 65536 };
-      pen = record { x = getD l 21 0 % 65536; y = getD l 22 0 % 65536; half = heldIn (getD l 23 0); frames = getD l 24 0 };
+      window = record {
+        x0 = getD l 17 0 % 65536;
+        x1 = getD l 18 0 % 65536;
+        y0 = getD l 19 0 % 65536;
+        y1 = getD l 20 0
+            % 65536;
+      };
+      pen = record {
+        x = getD l 21 0 % 65536;
+        y = getD l 22 0 % 65536;
+        half = heldIn (getD l 23 0);
+        frames = getD l 24
+            0;
+      };
     }
 
 unfoldable pub timesIn : List Float → Times
@@ -83,7 +97,7 @@ unfoldable pub timerIn : List ℕ → List Float → ℕ → Timer
 timerIn l f n = record { start = getD f (3 + n) nan; seen = getD l (25 + n) 0; pending = flagIn (getD l (31 + n) 0) }
 
 abbrev pub timersIn : List ℕ → List Float → List Timer
-timersIn l f = timerIn l f 0 ∷ timerIn l f 1 ∷ timerIn l f 2 ∷ timerIn l f 3 ∷ timerIn l f 4 ∷ timerIn l f 5 ∷ []
+timersIn l f = listOf (λ n. timerIn l f n) 0 TIMER-COUNT
 
 unfoldable pub irqIn : List ℕ → List Float → RtcIrq
 irqIn l f = record { fired = getD l 37 0; base = getD l 38 0 % 2 ^ 32; set = getD f 9 nan }

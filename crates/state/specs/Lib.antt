@@ -1,4 +1,5 @@
 -- What the crate's contracts cite.
+pub mod Each
 pub mod Parts
 pub mod Bank
 pub mod Packed

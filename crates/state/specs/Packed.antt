@@ -1,6 +1,6 @@
--- The words of parts: the cells and the floats that say them and nothing else. A bank that holds just the words of its
--- parts is packed: a flag is 0 or 1, a number lies within its width, no held byte is 256. Every call leaves a packed bank
--- packed, so that the later parts say every later word.
+-- The words of parts: the cells and the floats that say them and nothing else. A bank that holds just the words of
+-- its parts is packed: a flag is 0 or 1, a number lies within its width, no held byte is 256. Every call leaves a
+-- packed bank packed, so that the later parts say every later word.
 use Prim.Native.Nat.{ℕ, _+_}
 use mathlib.Core.Path.{_≡_}
 use mathlib.Core.Logic.{_≢_}
@@ -66,12 +66,14 @@ panelCells p =
 -- f of each of the six timers
 abbrev pub ofTimers : {A : Type 0} → (Timer → A) → List Timer → List A
 ofTimers f ts =
-    f (getD ts 0 none) ∷ f (getD ts 1 none) ∷ f (getD ts 2 none) ∷ f (getD ts 3 none) ∷ f (getD ts 4 none) ∷ f (getD ts 5 none) ∷ []
+    f (getD ts 0 none) ∷ f (getD ts 1 none) ∷ f (getD ts 2 none) ∷ f (getD ts 3 none) ∷ f (getD ts 4 none) ∷ f
+    (getD ts 5 none) ∷ []
 
 unfoldable pub clockCells : Clocks → List ℕ
 clockCells c =
     ofTimers (λ t. t .seen) (c .timers)
-    ++ (ofTimers (λ t. bit (t .pending)) (c .timers) ++ (c .irq .fired ∷ c .irq .base ∷ c .vsync ∷ bit (c .converting) ∷ []))
+    ++ (ofTimers (λ t. bit (t .pending)) (c .timers) ++ (c .irq .fired ∷ c .irq .base ∷ c .vsync ∷ bit (c .converting)
+    ∷ []))
 
 unfoldable pub keyCells : Keys → List ℕ
 keyCells k = k .count ∷ bit (k .live .a) ∷ bit (k .live .b) ∷ bit (k .live .c) ∷ k .applied ∷ []
@@ -111,12 +113,12 @@ pub record Packed (l : List ℕ) (f : List Float) : Type 0 where
   pub floats : floatsOf (partsIn l f) ≡ f
 
 -- from a bank to a later one
-abbrev pub Kept : List ℕ → List Float → List ℕ → List Float → Type 0
-Kept l f l′ f′ = Packed l f → Packed l′ f′
+abbrev pub StaysPacked : List ℕ → List Float → List ℕ → List Float → Type 0
+StaysPacked l f l′ f′ = Packed l f → Packed l′ f′
 
 -- the same, of a call that answers n; and where it is refused every word is as it was, packed or not
 pub record Answered (n : ℕ) (l : List ℕ) (f : List Float) (l′ : List ℕ) (f′ : List Float) : Type 0 where
-  pub kept : Kept l f l′ f′
+  pub packed : StaysPacked l f l′ f′
   pub still : n ≢ 0 → (l′ ≡ l) × (f′ ≡ f)
 
 -- ---- one part put
@@ -126,11 +128,12 @@ unfoldable pub laidAt : {A : Type 0} → List A → ℕ → List A → List A
 laidAt l at s = take at l ++ (s ++ drop (at + length s) l)
 
 -- every later word, w and v, and that they make the parts x
-pub record Put (l : List ℕ) (f : List Float) (l′ : List ℕ) (f′ : List Float) (w : List ℕ) (v : List Float) (x : Parts) : Type 0 where
+pub record Put (l : List ℕ) (f : List Float) (l′ : List ℕ) (f′ : List Float) (w : List ℕ) (v : List Float)
+    (x : Parts) : Type 0 where
   pub cells : l′ ≡ w
   pub floats : f′ ≡ v
   pub parts : partsIn l′ f′ ≡ x
-  pub kept : Kept l f l′ f′
+  pub packed : StaysPacked l f l′ f′
 
 -- the cells alone are lent, or the floats
 abbrev pub CellsPut : List ℕ → List ℕ → List ℕ → (Parts → Parts) → Type 0

@@ -1,8 +1,8 @@
 // The state beside its arrays: what each part is, and the bank, which holds every scalar in two lent arrays of numbers.
 //
-// A part is taken out of the bank as a struct and put back by itself, so that a call moves what it needs and a host can
-// keep the state where it likes. Any numbers are a state: a flag is a cell that is not 0, a number of fewer bits the cell
-// modulo its width.
+// A part is taken out of the bank as a struct and put back by itself, so that a call moves what it needs and a host
+// can keep the state where it likes. Any numbers are a state: a flag is a cell that is not 0, a number of fewer bits
+// the cell modulo its width.
 pub mod chips;
 pub mod moments;
 mod numbers;

@@ -1,5 +1,5 @@
-// How long lists are. Nothing is done here: to the prover a list that a reference lends has any length, one by value has
-// its type's.
+// How long lists are. Nothing is done here: to the prover a list that a reference lends has any length, one by value
+// has its type's.
 ghost use mathlib.Core.Path.{_≡_};
 ghost use lib.ListN.{length};
 ghost use Rattle.state.specs.Bank.{cellCount, floatCount};

@@ -9,14 +9,16 @@ use lib.ListN.{length, drop, getD, drop-of-length-le}
 use lib.Seq.{drop-cons}
 use lib.Dec.{eqb}
 use borrow.Author.Tests.{eqb-true, eqb-false}
-use Rattle.flash.specs.Board.{held}
+use Rattle.flash.specs.Board.{chipWithPage}
 use Rattle.flash.specs.Flash.{madeIn}
 use Rattle.flash.specs.declared.Mode.{Mode}
 use Rattle.flash.specs.declared.Chip.{Chip}
 use Rattle.flash.specs.declared.SpiFlash.{SpiFlash}
 use Rattle.steps.specs.Text.{textOf, lastLine}
-use Rattle.steps.specs.Machine.{World, Told, Printed, world, telling, says, chosen, sent, obeyed, fed, printed, joined, heard, Hears, finished, closed, erased, begun, fresh, run, Ran}
-use Rattle.steps.specs.declared.Said.{Said}
+use Rattle.steps.specs.Machine.{World, WorldOutput, Printed, world, withOutput, says, chosen, sent, obeyed, fed}
+use Rattle.steps.specs.Machine.{printed, joined, afterBytes, Reaches, finished, closed, erasedArray, begun, fresh}
+use Rattle.steps.specs.Machine.{wholeRun, RunEnd}
+use Rattle.steps.specs.declared.Output.{Output}
 use Rattle.steps.specs.declared.Session.{Session}
 use Rattle.steps.specs.declared.Step.{Step}
 use Rattle.steps.specs.declared.Step.the-variants.{Select, Deselect, Byte, Other}
@@ -27,57 +29,75 @@ use Rattle.steps.proofs.Texts.{bad-long}
 joined-joined : (a b : List ℕ) (p : Printed) → joined (a ++ b) p ≡ joined a (joined b p)
 joined-joined a b p = ap (λ (t : List ℕ). printed t (p .world)) (append-assoc a b (p .text))
 
-heard-cons : (w : World) (c : ℕ) (cs : List ℕ) → heard w (c ∷ cs) ≡ joined (textOf (fed w c .said)) (heard (fed w c .world) cs)
-unfolding heard
-heard-cons w c cs = refl
+bytes-cons : (w : World) (c : ℕ) (cs : List ℕ) → afterBytes w (c ∷ cs)
+    ≡ joined (textOf (fed w c .output)) (afterBytes (fed w c .world) cs)
+unfolding afterBytes
+bytes-cons w c cs = refl
 
-pub go-on : (w v : World) (chunk : List ℕ) (i : ℕ) {said : Said} (a : List ℕ) {b : List ℕ} → i < length chunk → telling said v ≡ fed w (getD chunk i 0) → b ≡ a ++ textOf said
-    → joined b (heard v (drop (i + 1) chunk)) ≡ joined a (heard w (drop i chunk))
-go-on w v chunk i {said} a {b} l e h =
-    rw (add-one, drop-cons chunk i 0 l, heard-cons, ← e, h) (joined-joined a (textOf said) (heard v (drop (suc i) chunk)))
+pub go-on : (w v : World) (chunk : List ℕ) (i : ℕ) {output : Output} (a : List ℕ) {b : List ℕ} → i < length chunk
+    → withOutput output v ≡ fed w (getD chunk i 0) → b ≡ a ++ textOf output
+    → joined b (afterBytes v (drop (i + 1) chunk)) ≡ joined a (afterBytes w (drop i chunk))
+go-on w v chunk i {output} a {b} l e h =
+    rw (add-one, drop-cons chunk i 0 l, bytes-cons, ← e, h)
+    (joined-joined a (textOf output) (afterBytes v (drop (suc i) chunk)))
 
-pub no-more : (w : World) (chunk : List ℕ) (i : ℕ) {a : List ℕ} {p : Printed} → length chunk ≤ i → joined a (heard w (drop i chunk)) ≡ p → printed a w ≡ p
-unfolding heard
-no-more w chunk i {a} l h = ap (λ (t : List ℕ). printed t w) (sym (append-nil a)) ∙ (rw (drop-of-length-le chunk l) at h)
+pub no-more : (w : World) (chunk : List ℕ) (i : ℕ) {a : List ℕ} {p : Printed} → length chunk ≤ i
+    → joined a (afterBytes w (drop i chunk)) ≡ p → printed a w ≡ p
+unfolding afterBytes
+no-more w chunk i {a} l h =
+    ap (λ (t : List ℕ). printed t w) (sym (append-nil a)) ∙ (rw (drop-of-length-le chunk l) at h)
 
 -- ---- some bytes
 -- however an input is cut into chunks, the same is printed
-pub heard-append : (w : World) (a b : List ℕ) → heard w (a ++ b) ≡ joined (heard w a .text) (heard (heard w a .world) b)
-unfolding heard
-heard-append w [] b = refl
-heard-append w (c ∷ a) b =
-    rw (heard-append (fed w c .world) a b)
-    (sym (joined-joined (textOf (fed w c .said)) (heard (fed w c .world) a .text) (heard (heard (fed w c .world) a .world) b)))
+pub bytes-append : (w : World) (a b : List ℕ) → afterBytes w (a ++ b)
+    ≡ joined (afterBytes w a .text) (afterBytes (afterBytes w a .world) b)
+unfolding afterBytes
+bytes-append w [] b = refl
+bytes-append w (c ∷ a) b =
+    rw (bytes-append (fed w c .world) a b)
+    (sym (joined-joined (textOf (fed w c .output)) (afterBytes (fed w c .world) a .text)
+    (afterBytes (afterBytes (fed w c .world) a .world) b)))
 
-pub hears-none : (w : World) → Hears w w
-unfolding heard
-hears-none w = record { input = []; stands = refl }
+pub reaches-none : (w : World) → Reaches w w
+unfolding afterBytes
+reaches-none w = record { input = []; stands = refl }
 
-pub hears-chunk : {w v : World} (chunk : List ℕ) {a : List ℕ} → printed a v ≡ heard w chunk → Hears w v
-hears-chunk chunk e = record { input = chunk; stands = ap (λ (p : Printed). p .world) e }
+pub reaches-chunk : {w v : World} (chunk : List ℕ) {a : List ℕ} → printed a v ≡ afterBytes w chunk → Reaches w v
+reaches-chunk chunk e = record { input = chunk; stands = ap (λ (p : Printed). p .world) e }
 
-pub hears-more : {w v u : World} → Hears w v → Hears v u → Hears w u
-hears-more {w} {v} {u} h k =
-    record { input = h .input ++ k .input; stands = k .stands ∙ rw (h .stands) (sym (ap (λ (p : Printed). p .world) (heard-append w (h .input) (k .input)))) }
+pub reaches-more : {w v u : World} → Reaches w v → Reaches v u → Reaches w u
+reaches-more {w} {v} {u} h k =
+    record {
+      input = h .input ++ k .input;
+      stands = k .stands ∙ rw (h .stands) (sym (ap (λ (p : Printed). p .world) (bytes-append w (h .input) (k .input))));
+    }
 
 -- ---- the end of the input
-pub closes-bad : (t : Told) {a : List ℕ} → a ≡ textOf (t .said) → t .world .session .over ≡ true → printed a (t .world) ≡ closed t
+pub closes-bad : (t : WorldOutput) {a : List ℕ} → a ≡ textOf (t .output) → t .world .session .over ≡ true
+    → printed a (t .world) ≡ closed t
 closes-bad t e o = rw (o, append-nil, e)
 
-pub closes-well : (t : Told) {a : List ℕ} → a ≡ textOf (t .said) ++ lastLine (t .world .session .chip .wel) (t .world .session .chip .writes) (t .world .array) → t .world .session .over ≡ false
+pub closes-well : (t : WorldOutput) {a : List ℕ} → a ≡ textOf (t .output)
+    ++ lastLine (t .world .session .chip .wel) (t .world .session .chip .writes) (t .world .array)
+    → t .world .session .over ≡ false
     → printed a (t .world) ≡ closed t
 closes-well t e o = rw (o, e)
 
 -- a run from a fresh chip
-pub ran : (e : Mode) (chip : Chip) (page array : List ℕ) (s : Session) {v u : World} {a : List ℕ} → held chip page ≡ madeIn e → array ≡ erased → s ≡ begun chip → Hears (world s page array) v
-    → printed a u ≡ closed (finished v) → Ran e (u .session)
-unfolding run
-ran e chip page array s {v} {u} m f b h k =
+pub run-end : (e : Mode) (chip : Chip) (page array : List ℕ) (s : Session) {v u : World} {a : List ℕ}
+    → chipWithPage chip page ≡ madeIn e → array ≡ erasedArray → s ≡ begun chip → Reaches (world s page array) v
+    → printed a u ≡ closed (finished v) → RunEnd e (u .session)
+unfolding wholeRun
+run-end e chip page array s {v} {u} m f b h k =
     let c : chip ≡ madeIn e .chip = ap (λ (f : SpiFlash). f .chip) m in
     let p : page ≡ madeIn e .page = ap (λ (f : SpiFlash). f .page) m in
     let z : world s page array ≡ fresh e = rw (b, c, p, f) in
-    let g : v ≡ heard (fresh e) (h .input) .world = h .stands ∙ ap (λ (w : World). heard w (h .input) .world) z in
-    record { input = h .input; stands = ap (λ (q : Printed). q .world .session) (k ∙ ap (λ (w : World). closed (finished w)) g) }
+    let g : v ≡ afterBytes (fresh e) (h .input) .world = h .stands
+    ∙ ap (λ (w : World). afterBytes w (h .input) .world) z in
+    record {
+      input = h .input;
+      stands = ap (λ (q : Printed). q .world .session) (k ∙ ap (λ (w : World). closed (finished w)) g);
+    }
 
 -- ---- room: what is kept free before a bad line and after it
 abbrev pub spare : Bool → ℕ
@@ -89,8 +109,8 @@ spare-within true = omega arith
 spare-within false = omega arith
 
 -- what a byte says and what is kept free after it
-abbrev takes : Told → ℕ
-takes t = length (textOf (t .said)) + spare (t .world .session .over)
+abbrev takes : WorldOutput → ℕ
+takes t = length (textOf (t .output)) + spare (t .world .session .over)
 
 step-room : (s : Step) (w : World) → takes (obeyed s w) ≤ 53
 unfolding chosen sent
@@ -107,5 +127,5 @@ room w c = by (w .session .over) (eqb c 10) refl refl
     by false true o e = rw (← newline-fed w c o (eqb-true c 10 e)) (step-room (says (w .session .line)) w)
     by false false o e = rw (← grown-fed w c o (eqb-false c 10 e) refl, o) (omega arith)
 
-pub room-on : (w : World) (c : ℕ) {t : Told} → t ≡ fed w c → takes t ≤ 3 + spare (w .session .over)
+pub room-on : (w : World) (c : ℕ) {t : WorldOutput} → t ≡ fed w c → takes t ≤ 3 + spare (w .session .over)
 room-on w c e = rw e (room w c)

@@ -1,4 +1,5 @@
--- What a session prints, line by line, in the words of the rule. `by-lines` of proofs/ByLines.antt: the machine prints the same.
+-- What a session prints, line by line, in the words of the rule. `by-lines` of proofs/ByLines.antt: the machine prints
+-- the same.
 use Prim.Native.Nat.{ℕ, _+_}
 use mathlib.Core.Bool.{true, false}
 use mathlib.Core.List.{List, [], _∷_, _++_}

@@ -16,8 +16,8 @@ use Rattle.steps.specs.declared.Line.{Line}
 use Rattle.steps.specs.declared.Line.the-variants.{Empty, One, Two, Longer}
 use Rattle.steps.specs.declared.Step.{Step}
 use Rattle.steps.specs.declared.Step.the-variants.{Select, Deselect, Byte, Other}
-use Rattle.steps.specs.declared.Said.{Said}
-use Rattle.steps.specs.declared.Said.the-variants.{Nothing, Answer, Bad}
+use Rattle.steps.specs.declared.Output.{Output}
+use Rattle.steps.specs.declared.Output.the-variants.{Nothing, Answer, Bad}
 use Rattle.steps.specs.declared.Session.{Session}
 use Rattle.steps.specs.declared.Fed.{Fed}
 
@@ -28,21 +28,21 @@ pub record World : Type 0 where
   pub array : List ℕ
 
 -- what is to be printed, and the later world
-pub record Told : Type 0 where
-  pub said : Said
+pub record WorldOutput : Type 0 where
+  pub output : Output
   pub world : World
 
 abbrev pub world : Session → List ℕ → List ℕ → World
 world s p m = record { session = s; page = p; array = m }
 
-abbrev pub told : Fed → List ℕ → List ℕ → Told
-told r p m = record { said = r .said; world = world (r .session) p m }
+abbrev pub worldOutput : Fed → List ℕ → List ℕ → WorldOutput
+worldOutput r p m = record { output = r .output; world = world (r .session) p m }
 
-abbrev pub telling : Said → World → Told
-telling s w = record { said = s; world = w }
+abbrev pub withOutput : Output → World → WorldOutput
+withOutput s w = record { output = s; world = w }
 
-abbrev pub speaking : Session → Said → Fed
-speaking s t = record { session = s; said = t }
+abbrev pub fedWith : Session → Output → Fed
+fedWith s t = record { session = s; output = t }
 
 -- ---- the line so far
 abbrev pub grown : Line → ℕ → Line
@@ -77,37 +77,40 @@ ended s = record { chip = s .chip; line = s .line; number = s .number; over = tr
 abbrev pub boardOf : World → Board
 boardOf w = board (w .session .chip) (w .page) (w .array)
 
-abbrev pub after : World → Board → World
-after w b = world (nextLine (b .chip) (w .session .number)) (b .page) (b .array)
+abbrev pub nextWorld : World → Board → World
+nextWorld w b = world (nextLine (b .chip) (w .session .number)) (b .page) (b .array)
 
 -- a select or a deselect
-unfoldable pub chosen : World → Bool → Told
-chosen w on = telling Nothing (after w (selected (boardOf w) on .board))
+unfoldable pub chosen : World → Bool → WorldOutput
+chosen w on = withOutput Nothing (nextWorld w (selected (boardOf w) on .board))
 
 -- a transfer
-unfoldable pub sent : World → ℕ → Told
-sent w b = telling (Answer (transferred (boardOf w) b .answer)) (after w (transferred (boardOf w) b .board))
+unfoldable pub sent : World → ℕ → WorldOutput
+sent w b = withOutput (Answer (transferred (boardOf w) b .answer)) (nextWorld w (transferred (boardOf w) b .board))
 
 -- a whole line
-abbrev pub obeyed : Step → World → Told
+abbrev pub obeyed : Step → World → WorldOutput
 obeyed Select w = chosen w true
 obeyed Deselect w = chosen w false
 obeyed (Byte b) w = sent w b
-obeyed Other w = telling (Bad (w .session .number)) (world (ended (w .session)) (w .page) (w .array))
+obeyed Other w = withOutput (Bad (w .session .number)) (world (ended (w .session)) (w .page) (w .array))
 
-abbrev pub lineDone : World → Told
+abbrev pub lineDone : World → WorldOutput
 lineDone w = obeyed (says (w .session .line)) w
 
--- one byte more: a newline, 10, ends a line; nothing is heard once the session is over
-unfoldable pub fed : World → ℕ → Told
+-- one byte more: a newline, 10, ends a line; nothing is done once the session is over
+unfoldable pub fed : World → ℕ → WorldOutput
 fed w c =
     pick (w .session .over)
-    (telling Nothing w)
-    (pick (eqb c 10) (lineDone w) (telling Nothing (world (withLine (w .session) (grown (w .session .line) c)) (w .page) (w .array))))
+    (withOutput Nothing w)
+    (pick (eqb c 10) (lineDone w)
+    (withOutput Nothing (world (withLine (w .session) (grown (w .session .line) c)) (w .page) (w .array))))
 
 -- the end of the input: a line that has begun is whole
-unfoldable pub finished : World → Told
-finished w = pick (w .session .over) (telling Nothing w) (pick (isEmpty (w .session .line)) (telling Nothing w) (lineDone w))
+unfoldable pub finished : World → WorldOutput
+finished w =
+    pick (w .session .over) (withOutput Nothing w)
+    (pick (isEmpty (w .session .line)) (withOutput Nothing w) (lineDone w))
 
 -- ---- many bytes
 -- all that was printed, and the later world
@@ -122,39 +125,40 @@ abbrev pub joined : List ℕ → Printed → Printed
 joined t p = printed (t ++ p .text) (p .world)
 
 -- the bytes of a list, one after the other
-unfoldable pub heard : World → List ℕ → Printed
-heard w [] = printed [] w
-heard w (c ∷ cs) = joined (textOf (fed w c .said)) (heard (fed w c .world) cs)
+unfoldable pub afterBytes : World → List ℕ → Printed
+afterBytes w [] = printed [] w
+afterBytes w (c ∷ cs) = joined (textOf (fed w c .output)) (afterBytes (fed w c .world) cs)
 
 -- from one world to a later one by some bytes
-pub record Hears (w v : World) : Type 0 where
+pub record Reaches (w v : World) : Type 0 where
   pub input : List ℕ
-  pub stands : v ≡ heard w input .world
+  pub stands : v ≡ afterBytes w input .world
 
 -- ---- a whole run
 -- an array of 65,536 bytes of FF
-unfoldable pub erased : List ℕ
-erased = replicate 65536 255
+unfoldable pub erasedArray : List ℕ
+erasedArray = replicate 65536 255
 
 abbrev pub begun : Chip → Session
 begun c = record { chip = c; line = Empty; number = 1; over = false }
 
 -- a chip as it is made in a mode; flashsteps' is the Rust's
 abbrev pub fresh : Mode → World
-fresh e = world (begun (madeIn e .chip)) (madeIn e .page) erased
+fresh e = world (begun (madeIn e .chip)) (madeIn e .page) erasedArray
 
 -- what the end of the input says, and the last line where no line was bad
-abbrev pub closed : Told → Printed
+abbrev pub closed : WorldOutput → Printed
 closed t =
     printed
-    (textOf (t .said) ++ pick (t .world .session .over) [] (lastLine (t .world .session .chip .wel) (t .world .session .chip .writes) (t .world .array)))
+    (textOf (t .output) ++ pick (t .world .session .over) []
+    (lastLine (t .world .session .chip .wel) (t .world .session .chip .writes) (t .world .array)))
     (t .world)
 
 -- all that is printed for an input, and where it ends
-unfoldable pub run : Mode → List ℕ → Printed
-run e input = joined (heard (fresh e) input .text) (closed (finished (heard (fresh e) input .world)))
+unfoldable pub wholeRun : Mode → List ℕ → Printed
+wholeRun e input = joined (afterBytes (fresh e) input .text) (closed (finished (afterBytes (fresh e) input .world)))
 
 -- where a run on some input ends
-pub record Ran (e : Mode) (s : Session) : Type 0 where
+pub record RunEnd (e : Mode) (s : Session) : Type 0 where
   pub input : List ℕ
-  pub stands : s ≡ run e input .world .session
+  pub stands : s ≡ wholeRun e input .world .session

@@ -7,8 +7,8 @@ use lib.ListN.{length, take}
 use lib.Dec.{ltb, eqb}
 use Rattle.io.specs.Digits.{glyph}
 use Rattle.flash.specs.Pick.{pick}
-use Rattle.steps.specs.declared.Said.{Said}
-use Rattle.steps.specs.declared.Said.the-variants.{Nothing, Answer, Bad}
+use Rattle.steps.specs.declared.Output.{Output}
+use Rattle.steps.specs.declared.Output.the-variants.{Nothing, Answer, Bad}
 
 -- the decimal digits of a number that has at most k
 unfoldable pub decimalIn : ℕ → ℕ → List ℕ
@@ -31,15 +31,15 @@ hexLine b = glyph (b / 16) ∷ glyph (b % 16) ∷ 10 ∷ []
 unfoldable pub badLine : ℕ → List ℕ
 badLine n = 98 ∷ 97 ∷ 100 ∷ (field n ++ (10 ∷ []))
 
-abbrev pub textOf : Said → List ℕ
+abbrev pub textOf : Output → List ℕ
 textOf Nothing = []
 textOf (Answer b) = hexLine b
 textOf (Bad n) = badLine n
 
 -- how many bytes are not FF
-unfoldable pub programmed : List ℕ → ℕ
-programmed [] = 0
-programmed (b ∷ bs) = pick (eqb b 255) 0 1 + programmed bs
+unfoldable pub countProgrammed : List ℕ → ℕ
+countProgrammed [] = 0
+countProgrammed (b ∷ bs) = pick (eqb b 255) 0 1 + countProgrammed bs
 
 abbrev pub flag : Bool → ℕ
 flag true = 1
@@ -48,9 +48,9 @@ flag false = 0
 -- `end`, write enable, writes, and the bytes that are not FF
 unfoldable pub lastLine : Bool → ℕ → List ℕ → List ℕ
 lastLine wel writes array =
-    101 ∷ 110 ∷ 100 ∷ (field (flag wel) ++ (field writes ++ (field (programmed array) ++ (10 ∷ []))))
+    101 ∷ 110 ∷ 100 ∷ (field (flag wel) ++ (field writes ++ (field (countProgrammed array) ++ (10 ∷ []))))
 
 -- text was put at a place of a slice, r is the place after it, and what stood before it stayed
 pub record Put (before : List ℕ) (at : ℕ) (text after : List ℕ) (r : ℕ) : Type 0 where
   pub next : r ≡ at + length text
-  pub kept : take r after ≡ take at before ++ text
+  pub content : take r after ≡ take at before ++ text

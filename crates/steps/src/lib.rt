@@ -1,12 +1,14 @@
 // A session with a flash: one step a line, as program flashsteps takes them.
 //
-// The input is taken byte by byte, so a line of any length takes no room. The page and the array are lent, as crate flash has them.
+// The input is taken byte by byte, so a line of any length takes no room. The page and the array are lent, as crate
+// flash has them.
 mod parse;
 pub mod talk;
 mod text;
 
 ghost use mathlib.Core.Path.{_≡_};
-ghost use Rattle.steps.specs.Machine.{world, told, speaking, nextLine, withLine, ended, grown, chosen, sent, lineDone, fed, finished};
+ghost use Rattle.steps.specs.Machine.{world, worldOutput, fedWith, nextLine, withLine, ended, grown, chosen};
+ghost use Rattle.steps.specs.Machine.{sent, lineDone, fed, finished};
 use flash::Chip;
 use parse::grow;
 use parse::is_empty;
@@ -29,7 +31,7 @@ pub enum Step {
 }
 
 // What is to be printed: nothing, a transfer's answer, or the number of a line that is none of the three.
-pub enum Said {
+pub enum Output {
     Nothing,
     Answer(u8),
     Bad(u64),
@@ -45,12 +47,13 @@ pub struct Session {
 
 pub struct Fed {
     pub session: Session,
-    pub said: Said,
+    pub output: Output,
 }
 
 // One byte of the input.
 pub fn feed(session: Session, page: &mut [u8; 256], array: &mut [u8], byte: u8) -> Fed
-    ensures { λ r. ⌜ told r (now (page .exit)) (now (array .exit)) ≡ fed (world session (now (page .entry)) (now (array .entry))) byte ⌝ }
+    ensures { λ r. ⌜ worldOutput r (now (page .exit)) (now (array .exit)) ≡ fed
+        (world session (now (page .entry)) (now (array .entry))) byte ⌝ }
 {
     let over = session.over;
     if over {
@@ -64,7 +67,8 @@ pub fn feed(session: Session, page: &mut [u8; 256], array: &mut [u8], byte: u8) 
 
 // The end of the input. Its last line may lack the newline.
 pub fn finish(session: Session, page: &mut [u8; 256], array: &mut [u8]) -> Fed
-    ensures { λ r. ⌜ told r (now (page .exit)) (now (array .exit)) ≡ finished (world session (now (page .entry)) (now (array .entry))) ⌝ }
+    ensures { λ r. ⌜ worldOutput r (now (page .exit)) (now (array .exit)) ≡ finished
+        (world session (now (page .entry)) (now (array .entry))) ⌝ }
 {
     let over = session.over;
     let line = session.line;
@@ -80,11 +84,11 @@ pub fn finish(session: Session, page: &mut [u8; 256], array: &mut [u8]) -> Fed
 
 // Nothing is to be printed.
 fn quiet(session: Session) -> Fed
-    ensures { λ r. ⌜ r ≡ speaking session Said.Nothing ⌝ }
+    ensures { λ r. ⌜ r ≡ fedWith session Output.Nothing ⌝ }
 {
     Fed {
         session,
-        said: Said::Nothing,
+        output: Output::Nothing,
     }
 }
 
@@ -114,19 +118,20 @@ fn next_line(chip: Chip, number: u64) -> Session
 
 // A line that is no step ends the session.
 fn reject(session: Session) -> Fed
-    ensures { λ r. ⌜ r ≡ speaking (ended session) (Said.Bad (session .number)) ⌝ }
+    ensures { λ r. ⌜ r ≡ fedWith (ended session) (Output.Bad (session .number)) ⌝ }
 {
     let mut last = session;
     last.over = true;
     Fed {
         session: last,
-        said: Said::Bad(session.number),
+        output: Output::Bad(session.number),
     }
 }
 
 // A select or a deselect.
 fn choose(session: Session, page: &mut [u8; 256], array: &mut [u8], on: bool) -> Fed
-    ensures { λ r. ⌜ told r (now (page .exit)) (now (array .exit)) ≡ chosen (world session (now (page .entry)) (now (array .entry))) on ⌝ }
+    ensures { λ r. ⌜ worldOutput r (now (page .exit)) (now (array .exit)) ≡ chosen
+        (world session (now (page .entry)) (now (array .entry))) on ⌝ }
 {
     let chip = session.chip;
     let reply = flash::select(chip, page, array, on);
@@ -136,20 +141,22 @@ fn choose(session: Session, page: &mut [u8; 256], array: &mut [u8], on: bool) ->
 
 // A transfer. The flash refuses an array of another size and answers 0, and so does the session.
 fn send(session: Session, page: &mut [u8; 256], array: &[u8], byte: u8) -> Fed
-    ensures { λ r. ⌜ told r (now (page .exit)) (now (array .entry)) ≡ sent (world session (now (page .entry)) (now (array .entry))) byte ⌝ }
+    ensures { λ r. ⌜ worldOutput r (now (page .exit)) (now (array .entry)) ≡ sent
+        (world session (now (page .entry)) (now (array .entry))) byte ⌝ }
 {
     let chip = session.chip;
     let reply = flash::transfer(chip, page, array, byte);
     let next = reply.chip;
     Fed {
         session: next_line(next, session.number),
-        said: Said::Answer(reply.answer),
+        output: Output::Answer(reply.answer),
     }
 }
 
 // The line is whole.
 fn end_line(session: Session, page: &mut [u8; 256], array: &mut [u8]) -> Fed
-    ensures { λ r. ⌜ told r (now (page .exit)) (now (array .exit)) ≡ lineDone (world session (now (page .entry)) (now (array .entry))) ⌝ }
+    ensures { λ r. ⌜ worldOutput r (now (page .exit)) (now (array .exit)) ≡ lineDone
+        (world session (now (page .entry)) (now (array .entry))) ⌝ }
 {
     let line = session.line;
     let step = step_of(line);

@@ -6,8 +6,9 @@ ghost use lib.ListN.{length};
 ghost use lib.Dec.{eqb};
 ghost use Rattle.flash.specs.Pick.{pick};
 ghost use Rattle.io.specs.Digits.{glyph as Digits·glyph};
-ghost use Rattle.steps.specs.Text.{Put, field as Text·field, hexLine, badLine, textOf, programmed, flag as Text·flag, lastLine};
-use crate::Said;
+ghost use Rattle.steps.specs.Text.{Put, field as Text·field, hexLine, badLine, textOf, countProgrammed};
+ghost use Rattle.steps.specs.Text.{flag as Text·flag, lastLine};
+use crate::Output;
 use flash::Chip;
 
 fn put(out: &mut [u8], at: usize, byte: u8) -> usize
@@ -65,14 +66,14 @@ fn bad_line(out: &mut [u8], at: usize, number: u64) -> usize
     put(out, whole, b'\n')
 }
 
-pub(crate) fn spell(out: &mut [u8], at: usize, said: Said) -> usize
+pub(crate) fn spell(out: &mut [u8], at: usize, output: Output) -> usize
     requires { ⌜ at + 25 ≤ length (now out) ⌝ }
-    ensures { λ r. ⌜ Put (now (out .entry)) at (textOf said) (now (out .exit)) r ⌝ }
+    ensures { λ r. ⌜ Put (now (out .entry)) at (textOf output) (now (out .exit)) r ⌝ }
 {
-    match said {
-        Said::Nothing => at,
-        Said::Answer(byte) => hex_line(out, at, byte),
-        Said::Bad(number) => bad_line(out, at, number),
+    match output {
+        Output::Nothing => at,
+        Output::Answer(byte) => hex_line(out, at, byte),
+        Output::Bad(number) => bad_line(out, at, number),
     }
 }
 
@@ -85,7 +86,7 @@ fn weight(byte: u8) -> usize
 
 // How many bytes are not FF.
 fn count(array: &[u8]) -> usize
-    ensures { λ r. ⌜ r ≡ programmed (now (array .entry)) ⌝ }
+    ensures { λ r. ⌜ r ≡ countProgrammed (now (array .entry)) ⌝ }
 {
     let mut n = 0;
     for i in 0..array.len() {
@@ -102,7 +103,8 @@ fn flag(on: bool) -> u64
 
 pub(crate) fn last_line(out: &mut [u8], at: usize, chip: Chip, array: &[u8]) -> usize
     requires { ⌜ at + 67 ≤ length (now out) ⌝ }
-    ensures { λ r. ⌜ Put (now (out .entry)) at (lastLine (chip .wel) (chip .writes) (now (array .entry))) (now (out .exit)) r ⌝ }
+    ensures { λ r. ⌜ Put (now (out .entry)) at (lastLine (chip .wel) (chip .writes) (now (array .entry)))
+        (now (out .exit)) r ⌝ }
 {
     let n = count(array);
     let word = append(out, at, b"end");

@@ -8,8 +8,11 @@ use Rattle.clock.specs.declared.Paced.the-variants.{By, BadTurbo}
 use Rattle.clock.specs.Times.{pacedOf}
 use Rattle.bus.specs.Block.{plain, laidOf}
 use Rattle.system.specs.System.{Machine, withTimes}
-use Rattle.system.specs.Calls.{readOf, writeOf, advanceOf, turboOf, pacing, takeOf, liveOf, holdOf, pressOf, wipedOf}
-use Rattle.system.specs.Steps.{Op, read, write, advance, nextEvent, pending, turbo, live, hold, press, takeEvent, counters, pixel, wipe, peek8, peek32, poke, keysHeld, irqWanted, byPoke, withSystem, step}
+use Rattle.system.specs.Calls.{readOf, writeOf, advanceOf, turboOf, pacing, takeOf, liveOf, holdOf, pressOf}
+use Rattle.system.specs.Calls.{wipedOf}
+use Rattle.system.specs.Steps.{Op, read, write, advance, nextEvent, pending, turbo, live, hold, press}
+use Rattle.system.specs.Steps.{takeEvent, counters, pixel, wipe, peek8, peek32, poke, keysHeld, irqWanted}
+use Rattle.system.specs.Steps.{byPoke, withSystem, step}
 use Rattle.system.specs.Carried.{boardIn, screenIn, Kind, writes, lays, wipes, other, kindOf}
 
 -- a turbo that is taken, or refused
@@ -19,9 +22,11 @@ by-pace m P f (By t) = f (withSystem m (withTimes (m .system) t)) refl refl
 by-pace m P f BadTurbo = f m refl refl
 
 -- an operation that is no write, no poke and no wipe leaves flash and panel as they were
-pub by-kind : (m : Machine) (P : Kind → Machine → Type 0) → ((x : Machine) → boardIn x ≡ boardIn m → screenIn x ≡ screenIn m → P other x)
+pub by-kind : (m : Machine) (P : Kind → Machine → Type 0) → ((x : Machine) → boardIn x ≡ boardIn m
+    → screenIn x ≡ screenIn m → P other x)
     → ((a n v : ℕ) → P (writes a n v) (writeOf m a n v .machine))
-    → ((a : ℕ) (bytes : List ℕ) → P (lays a bytes) (byPoke m (laidOf (plain (m .ram) (m .sram) (m .gpio)) a bytes) .machine))
+    → ((a : ℕ) (bytes : List ℕ) → P (lays a bytes)
+    (byPoke m (laidOf (plain (m .ram) (m .sram) (m .gpio)) a bytes) .machine))
     → P wipes (wipedOf (length (m .ram)) (length (m .sram)) (length (m .gpio)) (length (m .fb)))
     → (o : Op) → P (kindOf o) (step m o .machine)
 unfolding step readOf advanceOf turboOf liveOf holdOf pressOf takeOf

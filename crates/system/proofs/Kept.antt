@@ -4,10 +4,16 @@ use mathlib.Core.Path.{_≡_, refl, _∙_}
 use mathlib.Core.Bool.{Bool}
 use mathlib.Core.List.{List}
 use lib.ListN.{length}
-use lib.Dec.{eqb, lit≤}
+use lib.Dec.{lit≤}
 use lib.Ieee.{Float, ofBits, le}
 use Rattle.whole.proofs.Words.{either}
 use Rattle.registers.specs.declared.Registers.{Registers}
+use Rattle.registers.specs.declared.View.{View}
+use Rattle.registers.specs.declared.View.the-variants.{TimerCounter, SpiAnswer, RtcReady, RtcOut, FlashStatus}
+use Rattle.registers.specs.declared.View.the-variants.{FlashAnswer, ClockStatus, Pending, PendingFiq}
+use Rattle.registers.specs.declared.Port.{Port}
+use Rattle.registers.specs.declared.Port.the-variants.{Select, Send, LcdControl, RtcCommand, Acts, Shows, Holds, Other}
+use Rattle.registers.specs.Ports.{portOf}
 use Rattle.registers.specs.Words.{registersOf}
 use Rattle.registers.specs.Within.{Tidy}
 use Rattle.registers.proofs.Own.{own-length}
@@ -17,7 +23,7 @@ use Rattle.memory.specs.declared.Place.the-variants.{Ram, Sram, Gpio, Register,
 use Rattle.memory.specs.Places.{placeOf}
 use Rattle.memory.specs.Access.{goodSize}
 use Rattle.memory.proofs.Stored.{load-fits}
-use Rattle.timer.specs.Within.{Held}
+use Rattle.timer.specs.Within.{ToneWithin}
 use Rattle.timer.specs.Sound.{silence}
 use Rattle.timer.proofs.Tidy.{empty-canonical, take-canonical}
 use Rattle.clock.specs.declared.Moved.{Moved}
@@ -39,7 +45,7 @@ use Rattle.time.proofs.Limits as time-limits
 use Rattle.state.specs.declared.Devices.{Devices}
 use Rattle.time.specs.Clocks.{clockIn}
 use Rattle.bus.specs.Read as read
-use Rattle.bus.specs.Read.{ReadOut, afterRead, regRead, readAt}
+use Rattle.bus.specs.Read.{ReadOut, viewOf, readBy, wordRead, regRead, readAt}
 use Rattle.system.specs.System.{Machine, machine, freshDevices, freshSystem}
 use Rattle.system.specs.Calls.{readOf, advanceOf, pacing, turboOf, takeOf, liveOf, holdOf, pressOf, wipedOf}
 use Rattle.system.specs.Steps.{withSystem}
@@ -47,7 +53,7 @@ use Rattle.system.specs.Limits.{WithinLimits, buttonsIn}
 
 -- ---- after a wipe
 
-silence-held : Held silence
+silence-held : ToneWithin silence
 unfolding ofBits le
 silence-held = record { frequency = lit≤ tt; from = tt; to = tt }
 
@@ -64,14 +70,37 @@ fresh-limits m r g f = record {
 
 -- ---- words with storage of their own are replaced
 
-pub own-tidy : (r : Registers) (own : List ℕ) → Tidy r → length own ≡ length (r .own) → Tidy (registersOf own (r .addresses) (r .values))
+pub own-tidy : (r : Registers) (own : List ℕ) → Tidy r → length own ≡ length (r .own)
+    → Tidy (registersOf own (r .addresses) (r .values))
 own-tidy r own w e = record { own = e ∙ w .own; others = w .others }
 
 -- ---- a read
 
-read-length : (own : List ℕ) (word : ℕ) → length (afterRead own word) ≡ length own
-unfolding afterRead
-read-length own word = either (λ (l : List ℕ). length l ≡ length own) (eqb word 0xC0080010) _ own (own-length own _ _) refl
+read-length : (own : List ℕ) (d : Devices) (clock word old : ℕ) → length (wordRead own d clock word old .own) ≡ length
+    own
+unfolding wordRead
+read-length own d clock word old = at (portOf word)
+  where
+    shown : (v : View) → length (viewOf v own d clock word old .own) ≡ length own
+    shown TimerCounter = refl
+    shown SpiAnswer = own-length own _ _
+    shown RtcReady = refl
+    shown RtcOut = refl
+    shown FlashStatus = refl
+    shown FlashAnswer = refl
+    shown ClockStatus = refl
+    shown Pending = refl
+    shown PendingFiq = refl
+
+    at : (p : Port) → length (readBy p own d clock word old .own) ≡ length own
+    at Select = refl
+    at Send = refl
+    at LcdControl = refl
+    at RtcCommand = refl
+    at (Acts e) = refl
+    at (Shows v) = shown v
+    at Holds = refl
+    at Other = refl
 
 module _ (r : Registers) (m s g : List ℕ) (d : Devices) (a n : ℕ) where
   placed-length : (p : Place) → length (readAt p r m s g d a n .own) ≡ length (r .own)
@@ -79,18 +108,21 @@ module _ (r : Registers) (m s g : List ℕ) (d : Devices) (a n : ℕ) where
   placed-length (Ram o) = refl
   placed-length (Sram o) = refl
   placed-length (Gpio o) = refl
-  placed-length Register = read-length (r .own) _
+  placed-length Register = read-length (r .own) d _ _ _
   placed-length Stray = refl
 
   given-length : length (read.readOf r m s g d a n .own) ≡ length (r .own)
   unfolding read.readOf
-  given-length = either (λ (x : ReadOut). length (x .own) ≡ length (r .own)) (goodSize n) _ _ (placed-length (placeOf a)) refl
+  given-length = either (λ (x : ReadOut). length (x .own) ≡ length (r .own)) (goodSize n) _ _
+      (placed-length (placeOf a)) refl
 
 module _ (m : Machine) (w : WithinLimits m) where
-  pub read-limits : (a n : ℕ) → WithinLimits (withSystem m (readOf (m .system) (m .ram) (m .sram) (m .gpio) a n .system))
+  pub read-limits : (a n : ℕ) → WithinLimits
+      (withSystem m (readOf (m .system) (m .ram) (m .sram) (m .gpio) a n .system))
   unfolding readOf
   read-limits a n = record {
-    registers = own-tidy (m .system .registers) _ (w .registers) (given-length (m .system .registers) (m .ram) (m .sram) (m .gpio) (m .system .devices) a n);
+    registers = own-tidy (m .system .registers) _ (w .registers) (given-length (m .system .registers) (m .ram)
+        (m .sram) (m .gpio) (m .system .devices) a n);
     clocks = w .clocks;
     rtc = w .rtc;
     tone = w .tone;
@@ -150,7 +182,8 @@ module _ (m : Machine) (w : WithinLimits m) where
   unfolding turboOf
   turbo-limits to = by (pacedOf (m .system .devices .clocks .times) to) refl
     where
-      by : (p : Paced) → pacedOf (m .system .devices .clocks .times) to ≡ p → WithinLimits (withSystem m (pacing (m .system) p .system))
+      by : (p : Paced) → pacedOf (m .system .devices .clocks .times) to ≡ p
+          → WithinLimits (withSystem m (pacing (m .system) p .system))
       by (By t) e = record {
         registers = w .registers;
         clocks = time-limits.turbo-within (m .system .devices .clocks) (w .clocks) t to e;
@@ -183,16 +216,21 @@ advance-limits m to w =
     let c = m .system .devices .clocks in
     let own = m .system .registers .own in
     let clock = clockIn (m .sram) in
-    let later = time-limits.later-times own (m .gpio) (m .system .presses .times) (m .system .presses .codes) c (m .system .keys) clock to (w .clocks) in
-    let within = time-limits.advance-within own (m .gpio) (m .system .presses .times) (m .system .presses .codes) c (m .system .keys) clock to (w .clocks)
+    let later = time-limits.later-times own (m .gpio) (m .system .presses .times) (m .system .presses .codes) c
+    (m .system .keys) clock to (w .clocks) in
+    let within = time-limits.advance-within own (m .gpio) (m .system .presses .times) (m .system .presses .codes) c
+    (m .system .keys) clock to (w .clocks)
     (load-fits (m .sram) 0x90A4 4) in
     record {
       registers = own-tidy (m .system .registers) _ (w .registers)
-          (moved-length own (m .gpio) (m .system .presses .times) (m .system .presses .codes) c (m .system .keys) clock (movedOf (c .times) to));
+          (moved-length own (m .gpio) (m .system .presses .times) (m .system .presses .codes) c (m .system .keys)
+          clock (movedOf (c .times) to));
       clocks = within;
-      rtc = later-latched (m .system .rtc) (m .system .devices .latch) (c .times .game) _ (w .clocks .times .game-limit) (within .times .game-limit)
+      rtc = later-latched (m .system .rtc) (m .system .devices .latch) (c .times .game) _
+          (w .clocks .times .game-limit) (within .times .game-limit)
           (later .game-later) (w .rtc);
       tone = w .tone;
       queue = w .queue;
-      keys = moved-keys own (m .gpio) (m .system .presses .times) (m .system .presses .codes) c (m .system .keys) clock (movedOf (c .times) to) (w .keys);
+      keys = moved-keys own (m .gpio) (m .system .presses .times) (m .system .presses .codes) c (m .system .keys)
+          clock (movedOf (c .times) to) (w .keys);
     }

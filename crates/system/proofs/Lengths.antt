@@ -7,6 +7,7 @@ use lib.Bits.{bitAnd}
 use lib.Dec.{eqb}
 use lib.Ieee.{Float}
 use lib.ListN.{length, take, drop, length-append, length-replicate, take-append-drop}
+use Rattle.map.specs.Numbers.{FLASH-SIZE, LCD-DATA, LCD-DMA}
 use Rattle.whole.specs.Words.{has}
 use Rattle.whole.proofs.Words.{either}
 use Rattle.registers.specs.declared.Registers.{Registers}
@@ -25,7 +26,7 @@ use Rattle.panel.specs.declared.Panel.{Panel}
 use Rattle.panel.specs.declared.Pen.{Pen}
 use Rattle.panel.specs.Lcd.{inkedBy, inked, codeOf, painted}
 use Rattle.panel.specs.Entries.{Screen}
-use Rattle.panel.specs.Runs.{ordered}
+use Rattle.panel.specs.Runs.{screenAfterCommand}
 use Rattle.panel.proofs.Touch.{put-length}
 use Rattle.clock.specs.declared.Moved.{Moved}
 use Rattle.clock.specs.declared.Moved.the-variants.{To, BadTime}
@@ -36,14 +37,15 @@ use Rattle.time.specs.Advance as move
 use Rattle.bus.specs.World.{Out}
 use Rattle.bus.specs.Chip.{boardOf, selectedOver, sentOver, selectWritten, sendWritten}
 use Rattle.bus.specs.Block.{Plain, plain, pokedAt, pokedOf, laidFrom, laidOf, table, blockOf}
-use Rattle.bus.specs.Screen.{Copied, copied, fedWord, dmaDone, acted, controlled}
-use Rattle.bus.specs.Write.{storedWord, wordOf, regWritten}
+use Rattle.bus.specs.Screen.{Copied, copied, fedWord, dmaDone, actResult, controlled}
+use Rattle.bus.specs.Write.{storedWord, wordAddress, regWritten}
 use Rattle.time.specs.Clocks.{clockIn}
 use Rattle.bus.proofs.Branches.{by-write, by-port}
 use Rattle.system.specs.declared.System.{System}
 use Rattle.system.specs.System.{Machine, worldIn}
 use Rattle.system.specs.Calls.{writing, writeOf, advanceOf, wipedOf}
-use Rattle.system.specs.Steps.{Op, read, write, advance, nextEvent, pending, turbo, live, hold, press, takeEvent, counters, pixel, wipe}
+use Rattle.system.specs.Steps.{Op, read, write, advance, nextEvent, pending, turbo, live, hold, press}
+use Rattle.system.specs.Steps.{takeEvent, counters, pixel, wipe}
 use Rattle.system.specs.Steps.{peek8, peek32, poke, keysHeld, irqWanted, step, withSystem, byPoke}
 use Rattle.system.specs.Lengths.{SameLengths}
 
@@ -51,16 +53,19 @@ use Rattle.system.specs.Lengths.{SameLengths}
 
 part-length : (k : ℕ) (l m : List ℕ) → length l ≡ length (take k m) → length (l ++ drop k m) ≡ length m
 part-length k l m e =
-    length-append l (drop k m) ∙ ap (λ (n : ℕ). n + length (drop k m)) e ∙ sym (length-append (take k m) (drop k m)) ∙ ap length (take-append-drop k m)
+    length-append l (drop k m) ∙ ap (λ (n : ℕ). n + length (drop k m)) e ∙ sym (length-append (take k m) (drop k m)) ∙
+    ap length (take-append-drop k m)
 
 module _ (c : Chip) (p m : List ℕ) where
   select-length : (on : Bool) → length (selectedOver c p m on .ram) ≡ length m
   unfolding selectedOver
-  select-length on = part-length 8388608 (flash.after (boardOf c p m) (cs on) .array) m (step-long (boardOf c p m) (cs on))
+  select-length on = part-length FLASH-SIZE (flash.afterStep (boardOf c p m) (cs on) .array) m
+      (step-long (boardOf c p m) (cs on))
 
   send-length : (b : ℕ) → length (sentOver c p m b .ram) ≡ length m
   unfolding sentOver
-  send-length b = part-length 8388608 (flash.after (boardOf c p m) (byte b) .array) m (step-long (boardOf c p m) (byte b))
+  send-length b = part-length FLASH-SIZE (flash.afterStep (boardOf c p m) (byte b) .array) m
+      (step-long (boardOf c p m) (byte b))
 
 -- ---- the pixels
 
@@ -71,7 +76,8 @@ ink-length (held.Byte h) fb p b = put-length fb (p .x) (p .y) h b
 paint-length : (p : Panel) (fb : List ℕ) (b : ℕ) → length (painted p fb b) ≡ length fb
 unfolding painted inked
 paint-length p fb b =
-    either (λ (l : List ℕ). length l ≡ length fb) (eqb (codeOf (p .cmd)) 0x2C) (inked fb (p .pen) b) fb (ink-length (p .pen .half) fb (p .pen) b) refl
+    either (λ (l : List ℕ). length l ≡ length fb) (eqb (codeOf (p .cmd)) 0x2C) (inked fb (p .pen) b) fb
+    (ink-length (p .pen .half) fb (p .pen) b) refl
 
 table-length : (f : ℕ → ℕ) (i n : ℕ) → length (table f i n) ≡ n
 unfolding table
@@ -89,20 +95,22 @@ module _ (r : Registers) (m s g : List ℕ) (t : Screen) where
 
   dma-length : SamePixels (dmaDone r m s g t)
   unfolding dmaDone blockOf
-  dma-length = either SamePixels (eqb (ownAt (r .own) 0xD050033C) 0) _ _ refl (table-length _ 0 (length (t .fb)))
+  dma-length = either SamePixels (eqb (ownAt (r .own) LCD-DMA) 0) _ _ refl (table-length _ 0 (length (t .fb)))
 
-  acted-length : (val : ℕ) → SamePixels (acted r m s g t val)
-  unfolding acted
+  acted-length : (val : ℕ) → SamePixels (actResult r m s g t val)
+  unfolding actResult
   acted-length val = by (eqb (bitAnd val 0xF0) 0x80) (eqb (bitAnd val 0xF0) 0xA0) (eqb (bitAnd val 0xF0) 0xD0)
     where
-      by : (a b c : Bool) → SamePixels (cond a (copied (r .own) (ordered t (ownAt (r .own) 0xD050016C % 256)))
-          (cond b (copied (r .own) (fedWord t (has val 0x2000) (ownAt (r .own) 0xD050016C))) (cond c (dmaDone r m s g t) (copied (r .own) t))))
+      by : (a b c : Bool) → SamePixels (cond a (copied (r .own) (screenAfterCommand t (ownAt (r .own) LCD-DATA % 256)))
+          (cond b (copied (r .own) (fedWord t (has val 0x2000) (ownAt (r .own) LCD-DATA)))
+          (cond c (dmaDone r m s g t) (copied (r .own) t))))
       by true b c = refl
-      by false true c = fed-length t (has val 0x2000) (ownAt (r .own) 0xD050016C)
+      by false true c = fed-length t (has val 0x2000) (ownAt (r .own) LCD-DATA)
       by false false true = dma-length
       by false false false = refl
 
-controlled-length : (r : Registers) (m s g : List ℕ) (t : Screen) (val : ℕ) → length (controlled r m s g t val .screen .fb) ≡ length (t .fb)
+controlled-length : (r : Registers) (m s g : List ℕ) (t : Screen) (val : ℕ)
+    → length (controlled r m s g t val .screen .fb) ≡ length (t .fb)
 unfolding controlled
 controlled-length r m s g t val =
     either (λ (x : Copied). length (x .screen .fb) ≡ length (t .fb)) (has val 1) _ _ (acted-length _ m s g t val) refl
@@ -119,11 +127,17 @@ write-lengths m a n v =
     (λ o g e. record { ram = store-length (m .ram) o n v; sram = refl; gpio = refl; fb = refl })
     (λ o g e. record { ram = refl; sram = store-length (m .sram) o n v; gpio = refl; fb = refl })
     (λ o g e. record { ram = refl; sram = refl; gpio = store-length (m .gpio) o n v; fb = refl })
-    (λ g e. by-port Kept (worldIn m) _ (wordOf a) _ _ _
+    (λ g e. by-port Kept (worldIn m) _ (wordAddress a) _ _ _
     (λ e. record { ram = select-length _ _ (m .ram) _; sram = refl; gpio = refl; fb = refl })
     (λ e. record { ram = send-length _ _ (m .ram) _; sram = refl; gpio = refl; fb = refl })
-    (λ e. record { ram = refl; sram = refl; gpio = refl; fb = controlled-length (m .system .registers) (m .ram) (m .sram) (m .gpio) _ _ })
-    (λ e. same-memories m _) (λ e₁ e₂ e₃ e₄ acts. same-memories m _) (λ e₁ e₂ e₃ e₄ acts. same-memories m _))
+    (λ e. record {
+      ram = refl;
+      sram = refl;
+      gpio = refl;
+      fb = controlled-length (m .system .registers) (m .ram)
+          (m .sram) (m .gpio) _ _;
+    })
+    (λ e. same-memories m _) (λ x e. same-memories m _) (λ p e s. same-memories m _))
     (λ g e. same-memories m _)
   where
     Kept : Out → Type 0
@@ -134,13 +148,16 @@ write-lengths m a n v =
 sync-length : (gpio : List ℕ) (applied : ℕ) (h : keys-held.Held) → length (syncOf gpio applied h .gpio) ≡ length gpio
 unfolding syncOf
 sync-length gpio applied h =
-    either (λ (l : Lines). length (l .gpio) ≡ length gpio) (eqb (wanted h) applied) _ _ refl (store-length gpio 0x20 4 _)
+    either (λ (l : Lines). length (l .gpio) ≡ length gpio) (eqb (wanted h) applied) _ _ refl
+    (store-length gpio 0x20 4 _)
 
-advance-length : (m : Machine) (to : Float) → length (advanceOf (m .system) (m .sram) (m .gpio) to .gpio) ≡ length (m .gpio)
+advance-length : (m : Machine) (to : Float) → length (advanceOf (m .system) (m .sram) (m .gpio) to .gpio) ≡ length
+    (m .gpio)
 unfolding advanceOf move.advanceOf move.moved move.movedTo
 advance-length m to = by (movedOf (m .system .devices .clocks .times) to)
   where
-    by : (x : Moved) → length (move.moved (m .system .registers .own) (m .gpio) (m .system .presses .times) (m .system .presses .codes)
+    by : (x : Moved) → length (move.moved (m .system .registers .own) (m .gpio) (m .system .presses .times)
+        (m .system .presses .codes)
         (m .system .devices .clocks) (m .system .keys) (clockIn (m .sram)) x .gpio) ≡ length (m .gpio)
     by (To t) = sync-length (m .gpio) _ _
     by BadTime = refl
@@ -152,9 +169,24 @@ module _ (m : Machine) where
   Poked p = SameLengths (byPoke m p .machine) m
 
   poked-lengths : (place : Place) (p : Plain) (b : ℕ) → Poked p → Poked (pokedAt place p b)
-  poked-lengths (Ram o) p b w = record { ram = store-length (p .ram) o 1 b ∙ w .ram; sram = w .sram; gpio = w .gpio; fb = refl }
-  poked-lengths (Sram o) p b w = record { ram = w .ram; sram = store-length (p .sram) o 1 b ∙ w .sram; gpio = w .gpio; fb = refl }
-  poked-lengths (Gpio o) p b w = record { ram = w .ram; sram = w .sram; gpio = store-length (p .gpio) o 1 b ∙ w .gpio; fb = refl }
+  poked-lengths (Ram o) p b w = record {
+    ram = store-length (p .ram) o 1 b ∙ w .ram;
+    sram = w .sram;
+    gpio = w .gpio;
+    fb = refl;
+  }
+  poked-lengths (Sram o) p b w = record {
+    ram = w .ram;
+    sram = store-length (p .sram) o 1 b ∙ w .sram;
+    gpio = w .gpio;
+    fb = refl;
+  }
+  poked-lengths (Gpio o) p b w = record {
+    ram = w .ram;
+    sram = w .sram;
+    gpio = store-length (p .gpio) o 1 b ∙ w .gpio;
+    fb = refl;
+  }
   poked-lengths Register p b w = w
   poked-lengths Stray p b w = w
 
@@ -188,6 +220,7 @@ step-lengths m wipe = record {
 }
 step-lengths m (peek8 a) = same-memories m _
 step-lengths m (peek32 a) = same-memories m _
-step-lengths m (poke a bytes) = laid-lengths m (plain (m .ram) (m .sram) (m .gpio)) a 0 bytes (same-memories m (m .system))
+step-lengths m (poke a bytes) = laid-lengths m (plain (m .ram) (m .sram) (m .gpio)) a 0 bytes
+    (same-memories m (m .system))
 step-lengths m keysHeld = same-memories m _
 step-lengths m irqWanted = same-memories m _

@@ -1,13 +1,16 @@
--- Every operation keeps the limits, refused or not, whatever it is given; so they hold after any operations from a wipe on.
+-- Every operation keeps the limits, refused or not, whatever it is given; so they hold after any operations from a
+-- wipe on.
 use Prim.Native.Nat.{ℕ}
 use mathlib.Core.List.{List, [], _∷_}
 use lib.ListN.{length}
 use Rattle.system.specs.System.{Machine}
 use Rattle.system.specs.Calls.{wipedOf}
-use Rattle.system.specs.Steps.{Op, read, write, advance, nextEvent, pending, turbo, live, hold, press, takeEvent, counters, pixel, wipe}
+use Rattle.system.specs.Steps.{Op, read, write, advance, nextEvent, pending, turbo, live, hold, press}
+use Rattle.system.specs.Steps.{takeEvent, counters, pixel, wipe}
 use Rattle.system.specs.Steps.{peek8, peek32, poke, keysHeld, irqWanted, step, after}
 use Rattle.system.specs.Limits.{WithinLimits}
-use Rattle.system.proofs.Kept.{fresh-limits, read-limits, live-limits, hold-limits, press-limits, take-limits, turbo-limits, advance-limits}
+use Rattle.system.proofs.Kept.{fresh-limits, read-limits, live-limits, hold-limits, press-limits, take-limits}
+use Rattle.system.proofs.Kept.{turbo-limits, advance-limits}
 use Rattle.system.proofs.Writes.{write-limits}
 
 pub step-limits : (m : Machine) (o : Op) → WithinLimits m → WithinLimits (step m o .machine)

@@ -44,7 +44,8 @@ module _ (m : Machine) where
   unfolding step readOf reads.readOf refusalOf firstOf given order
   read-order a n = by (goodSize n) (placeOf a)
     where
-      by : (b : Bool) (p : Place) → _≡_ {A = ℕ} (cond b (readAt p (m .system .registers) (m .ram) (m .sram) (m .gpio) (m .system .devices) a n)
+      by : (b : Bool) (p : Place) → _≡_ {A = ℕ}
+          (cond b (readAt p (m .system .registers) (m .ram) (m .sram) (m .gpio) (m .system .devices) a n)
           (reads.got (m .system .registers .own) (record { refusal = 9; value = 0 })) .got .refusal) (cond (not b) 9 0)
       by true (Ram o) = refl
       by true (Sram o) = refl
@@ -63,8 +64,10 @@ module _ (m : Machine) where
       c = m .system .devices .clocks
 
       by : (good back high : Bool) (t : Times)
-          → _≡_ {A = ℕ} (move.moved (m .system .registers .own) (m .gpio) (m .system .presses .times) (m .system .presses .codes) c (m .system .keys)
-          (clockIn (m .sram)) (cond good (cond back BadTime (cond high BadTime (To t))) BadTime) .refusal) (cond (not good || back || high) 1 0)
+          → _≡_ {A = ℕ} (move.moved (m .system .registers .own) (m .gpio) (m .system .presses .times)
+          (m .system .presses .codes) c (m .system .keys)
+          (clockIn (m .sram)) (cond good (cond back BadTime (cond high BadTime (To t))) BadTime) .refusal)
+          (cond (not good || back || high) 1 0)
       by false back high t = refl
       by true true high t = refl
       by true false true t = refl
@@ -73,7 +76,8 @@ module _ (m : Machine) where
   pub next-order : step m nextEvent .refusal ≡ refusalOf m nextEvent
   unfolding step nextOf next.nextOf next.answered refusalOf firstOf given order
   next-order =
-      by (next.finite (next.eventOf (m .system .registers .own) (m .system .presses .times) (m .system .devices .clocks) (m .system .keys) (clockIn (m .sram)))) _ _
+      by (next.finite (next.eventOf (m .system .registers .own) (m .system .presses .times)
+      (m .system .devices .clocks) (m .system .keys) (clockIn (m .sram)))) _ _
     where
       by : (b : Bool) (t z : Float) → _≡_ {A = ℕ} (cond b (nextTime 0 t) (nextTime 13 z) .refusal) (cond (not b) 13 0)
       by true t z = refl
@@ -83,7 +87,8 @@ module _ (m : Machine) where
   unfolding step turboOf pacedOf refusalOf firstOf given order
   turbo-order to = by (goodTurbo to) _
     where
-      by : (b : Bool) (t : Times) → _≡_ {A = ℕ} (pacing (m .system) (cond b (By t) BadTurbo) .refusal) (cond (not b) 2 0)
+      by : (b : Bool) (t : Times) → _≡_ {A = ℕ} (pacing (m .system) (cond b (By t) BadTurbo) .refusal)
+          (cond (not b) 2 0)
       by true t = refl
       by false t = refl
 
@@ -91,7 +96,8 @@ module _ (m : Machine) where
   unfolding step liveOf keys.liveOf refusalOf firstOf given order
   live-order key down = by (leb key 2) _
     where
-      by : (b : Bool) (k : Keys) → _≡_ {A = ℕ} (cond b (keys.outcome Done k) (keys.outcome BadKey (m .system .keys)) .refusal) (cond (not b) 8 0)
+      by : (b : Bool) (k : Keys) → _≡_ {A = ℕ}
+          (cond b (keys.outcome Done k) (keys.outcome BadKey (m .system .keys)) .refusal) (cond (not b) 8 0)
       by true k = refl
       by false k = refl
 
@@ -100,7 +106,8 @@ module _ (m : Machine) where
   hold-order key until = by (leb key 2) (goodTime until) _
     where
       by : (a b : Bool) (k : Keys)
-          → _≡_ {A = ℕ} (cond a (cond b (keys.outcome Done k) (keys.outcome keys-refusal.BadTime (m .system .keys))) (keys.outcome BadKey (m .system .keys)) .refusal)
+          → _≡_ {A = ℕ} (cond a (cond b (keys.outcome Done k) (keys.outcome keys-refusal.BadTime (m .system .keys)))
+          (keys.outcome BadKey (m .system .keys)) .refusal)
           (cond (not a) 8 (cond (not b) 1 0))
       by false b k = refl
       by true false k = refl
@@ -110,16 +117,19 @@ module _ (m : Machine) where
   unfolding step pressOf refusalOf firstOf given order
   press-order key at = keys-full _ key at _ ∙ by (leb key 2) (goodTime at) (keysFull (m .system))
     where
-      by : (a b c : Bool) → _≡_ {A = ℕ} (cond a (cond b (cond c 3 0) 1) 8) (cond (not a) 8 (cond (not b) 1 (cond c 3 0)))
+      by : (a b c : Bool) → _≡_ {A = ℕ} (cond a (cond b (cond c 3 0) 1) 8)
+          (cond (not a) 8 (cond (not b) 1 (cond c 3 0)))
       by false b c = refl
       by true false c = refl
       by true true c = refl
 
   pub take-order : step m takeEvent .refusal ≡ refusalOf m takeEvent
   unfolding step takeOf events.takeOf refusalOf firstOf given order
-  take-order = by (eqb (m .system .queue .ring .count) 0) _ _ ∙ ap (λ (n : ℕ). cond (eqb n 0) 12 0) (sym (waiting-count (m .system .queue)))
+  take-order = by (eqb (m .system .queue .ring .count) 0) _ _ ∙ ap (λ (n : ℕ). cond (eqb n 0) 12 0)
+      (sym (waiting-count (m .system .queue)))
     where
       by : (b : Bool) (e : Event) (q : Queue)
-          → _≡_ {A = ℕ} (cond b (events.takeOutcome NoEvent events.nothing (m .system .queue)) (events.takeOutcome events-refusal.Done e q) .refusal) (cond b 12 0)
+          → _≡_ {A = ℕ} (cond b (events.takeOutcome NoEvent events.nothing (m .system .queue))
+          (events.takeOutcome events-refusal.Done e q) .refusal) (cond b 12 0)
       by true e q = refl
       by false e q = refl

@@ -6,34 +6,37 @@ use mathlib.Core.List.{List, [], _∷_, _++_}
 use lib.ListN.{length}
 use lib.Dec.{eqb}
 use lib.Bits.{bitAnd}
-use borrow.Author.Tests.{ne-eqb}
+use Rattle.map.specs.Numbers.{LCD-DATA, LCD-DMA}
 use Rattle.whole.specs.Words.{has}
 use Rattle.registers.specs.declared.Registers.{Registers}
+use Rattle.registers.specs.declared.Port.{Port}
 use Rattle.registers.specs.Words.{ownAt, wordAt}
 use Rattle.memory.specs.Access.{mergedOf, writtenOf}
 use Rattle.timer.specs.Events.{fullOf}
 use Rattle.panel.specs.Entries.{Screen, screen}
 use Rattle.panel.specs.declared.Panel.{Panel}
 use Rattle.panel.specs.Runs.{Act, later}
-use Rattle.panel.specs.Runs.{acted as then}
+use Rattle.panel.specs.Runs.{screenAfterAct as then}
 use Rattle.bus.specs.World.{World, Out}
 use Rattle.bus.specs.Chip.{selectWritten, sendWritten}
-use Rattle.bus.specs.Screen.{fedWord, Copied, dmaDone, acted, withControl, controlled}
+use Rattle.bus.specs.Screen.{fedWord, Copied, dmaDone, actResult, withControl, controlled}
 use Rattle.bus.specs.Write as bus
-use Rattle.bus.specs.Write.{storedWord, wordOf, portWritten, regWritten}
+use Rattle.bus.specs.Write.{storedWord, wordAddress, portWritten, regWritten}
 use Rattle.time.specs.Clocks.{clockIn}
-use Rattle.bus.proofs.Branches.{by-port, by-write}
+use Rattle.bus.proofs.Branches.{by-port, by-write, by-stores}
 use Rattle.bus.proofs.Boards.{word-alone}
 use Rattle.system.specs.System.{Machine, worldIn}
 use Rattle.system.specs.Calls.{writeOf}
 use Rattle.system.specs.Steps.{Op, step, after}
-use Rattle.system.specs.Carried.{screenIn, Kind, writes, kindOf, lands, dataSent, copySent, actSent, panelWord, panelBy, panelActs, panelCarried, UnwipedBy, Unwiped}
+use Rattle.system.specs.Carried.{screenIn, Kind, writes, kindOf, lands, dataSent, copySent, actSent, panelAt}
+use Rattle.system.specs.Carried.{panelWord, panelBy, panelActs, panelCarried, UnwipedBy, Unwiped}
 use Rattle.system.proofs.ByKind.{by-kind}
 
 -- ---- the control word
 
 -- two branches on one test
-by-both : {A B : Type 0} (P : A → B → Type 0) (t : Bool) (x y : A) (u v : B) → P x u → P y v → P (cond t x y) (cond t u v)
+by-both : {A B : Type 0} (P : A → B → Type 0) (t : Bool) (x y : A) (u v : B) → P x u → P y v
+    → P (cond t x y) (cond t u v)
 by-both P true x y u v p q = p
 by-both P false x y u v p q = q
 
@@ -48,19 +51,21 @@ module _ (r : Registers) (m s g : List ℕ) (t : Screen) where
 
   copy-sent : Shows (dmaDone r m s g t) (copySent r m s g (length (t .fb)))
   unfolding dmaDone copySent later
-  copy-sent = by-both Shows (eqb (ownAt (r .own) 0xD050033C) 0) _ _ _ _ refl refl
+  copy-sent = by-both Shows (eqb (ownAt (r .own) LCD-DMA) 0) _ _ _ _ refl refl
 
-  act-sent : (val : ℕ) → Shows (acted r m s g t val) (actSent r m s g (length (t .fb)) val)
-  unfolding acted actSent later
+  act-sent : (val : ℕ) → Shows (actResult r m s g t val) (actSent r m s g (length (t .fb)) val)
+  unfolding actResult actSent later
   act-sent val =
       by-both Shows (eqb (bitAnd val 0xF0) 0x80) _ _ _ _ refl
-      (by-both Shows (eqb (bitAnd val 0xF0) 0xA0) _ _ _ _ (data-sent t (has val 0x2000) (ownAt (r .own) 0xD050016C))
+      (by-both Shows (eqb (bitAnd val 0xF0) 0xA0) _ _ _ _ (data-sent t (has val 0x2000) (ownAt (r .own) LCD-DATA))
       (by-both Shows (eqb (bitAnd val 0xF0) 0xD0) _ _ _ _ copy-sent refl))
 
 control-sent : (r : Registers) (m s g : List ℕ) (t : Screen) (val : ℕ)
-    → controlled r m s g t val .screen ≡ later t (cond (has val 1) (actSent (withControl r val) m s g (length (t .fb)) val) [])
+    → controlled r m s g t val .screen ≡ later t
+    (cond (has val 1) (actSent (withControl r val) m s g (length (t .fb)) val) [])
 unfolding controlled later
-control-sent r m s g t val = by-both (Shows r m s g t) (has val 1) _ _ _ _ (act-sent (withControl r val) m s g t val) refl
+control-sent r m s g t val = by-both (Shows r m s g t) (has val 1) _ _ _ _ (act-sent (withControl r val) m s g t val)
+    refl
 
 -- ---- a write
 
@@ -71,17 +76,20 @@ panel-port : (m : Machine) (full : Bool) (word old new part : ℕ)
     → screenOn (portWritten (worldIn m) full word old new part .world) ≡ later (screenIn m) (panelWord m word new)
 unfolding panelWord selectWritten sendWritten storedWord later
 panel-port m full word old new part =
-    by-port (λ (x : Out). screenOn (x .world) ≡ later (screenIn m) (panelWord m word new)) (worldIn m) full word old new part
+    by-port (λ (x : Out). screenOn (x .world) ≡ later (screenIn m) (panelWord m word new)) (worldIn m) full word old
+    new part
     (λ e. rw e)
     (λ e. rw e)
     (λ e. rw e (control-sent (m .system .registers) (m .ram) (m .sram) (m .gpio) (screenIn m) new))
     (λ e. rw e)
-    (λ h₁ h₂ h₃ h₄ a.
-    rw (ne-eqb _ _ h₃)
-    (ap (λ (p : Panel). screen p (m .fb)) (word-alone (m .system .registers .own) (m .system .devices) (clockIn (m .sram)) full word old new part .1)))
-    (λ h₁ h₂ h₃ h₄ a. rw (ne-eqb _ _ h₃))
+    (λ x e. rw e
+    (ap (λ (p : Panel). screen p (m .fb)) (word-alone (m .system .registers .own) (m .system .devices)
+    (clockIn (m .sram)) full x word old new part .1)))
+    (λ p e s. rw e (by-stores (λ (q : Port). screenIn m ≡ later (screenIn m) (panelAt q m new)) (λ v. refl) refl refl
+    p s))
 
-panel-write : (m : Machine) (full : Bool) (a n v : ℕ) → screenOn (bus.writeOf (worldIn m) full a n v .world) ≡ later (screenIn m) (panelBy m (writes a n v))
+panel-write : (m : Machine) (full : Bool) (a n v : ℕ) → screenOn (bus.writeOf (worldIn m) full a n v .world) ≡ later
+    (screenIn m) (panelBy m (writes a n v))
 unfolding lands regWritten later
 panel-write m full a n v =
     by-write (λ (x : Out). screenOn (x .world) ≡ later (screenIn m) (panelBy m (writes a n v))) (worldIn m) full a n v
@@ -90,12 +98,14 @@ panel-write m full a n v =
     (λ o g e. rw (g, e))
     (λ o g e. rw (g, e))
     (λ g e. rw (g, e)
-    (panel-port m full (wordOf a) (wordAt (m .system .registers) (wordOf a)) (mergedOf (wordAt (m .system .registers) (wordOf a)) a n v) (writtenOf a n v)))
+    (panel-port m full (wordAddress a) (wordAt (m .system .registers) (wordAddress a))
+    (mergedOf (wordAt (m .system .registers) (wordAddress a)) a n v) (writtenOf a n v)))
     (λ g e. rw (g, e))
 
 -- ---- an operation, and a run of them
 
-panel-step : (m : Machine) (o : Op) → UnwipedBy (kindOf o) → screenIn (step m o .machine) ≡ later (screenIn m) (panelActs m o)
+panel-step : (m : Machine) (o : Op) → UnwipedBy (kindOf o) → screenIn (step m o .machine) ≡ later (screenIn m)
+    (panelActs m o)
 unfolding writeOf later
 panel-step m o =
     by-kind m (λ (k : Kind) (x : Machine). UnwipedBy k → screenIn x ≡ later (screenIn m) (panelBy m k))
@@ -110,7 +120,8 @@ unfolding later
 later-join [] ys s = refl
 later-join (x ∷ xs) ys s = later-join xs ys (then s x)
 
-pub panel-carries : (os : List Op) (m : Machine) → Unwiped os → screenIn (after m os) ≡ later (screenIn m) (panelCarried m os)
+pub panel-carries : (os : List Op) (m : Machine) → Unwiped os → screenIn (after m os) ≡ later (screenIn m)
+    (panelCarried m os)
 unfolding after panelCarried later
 panel-carries [] m h = refl
 panel-carries (o ∷ os) m h =

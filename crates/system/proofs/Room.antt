@@ -1,33 +1,40 @@
 -- A register write is refused with 4 or 5 exactly where 01 says so, by the words alone.
-use Prim.Native.Nat.{ℕ, _+_, _*_, _-_, _%_, _<_, _≤_}
+use Prim.Native.Nat.{ℕ, _<_}
 use mathlib.Core.Path.{_≡_, refl, sym, ap, subst, _∙_}
 use mathlib.Core.Bool.{Bool, true, false, cond, not, true≢false, _&&_}
-use mathlib.Core.Logic.{_≢_, inl, inr}
+use mathlib.Core.Logic.{inl, inr}
 use native.Mathlib.Omega.{arith}
-use lib.Dec.{eqb, ltb, lit<}
-use borrow.Author.Tests.{eq-eqb, ne-eqb, lt-ltb, le-ltb, eqb-true, eqb-false}
+use lib.Bits.{bitAnd}
+use lib.Dec.{eqb, lit<}
+use borrow.Author.Tests.{eq-eqb, ne-eqb, eqb-true, eqb-false}
+use Rattle.map.specs.Numbers.{SOUND-TIMER, SOUND-CONTROL, SOUND-RELOAD, SOUND-COMPARE}
 use Rattle.registers.specs.declared.Registers.{Registers}
-use Rattle.registers.specs.Words.{wordsFrom, namedWords, ownWords, index, slotOf, unstored, wordAt, putWord}
+use Rattle.registers.specs.declared.Effect.{Effect}
+use Rattle.registers.specs.declared.Effect.the-variants.{TimerControl, DayField, Sound, LcdStatus, Tick, AdcControl}
+use Rattle.registers.specs.declared.Effect.the-variants.{Power, SpiSend}
+use Rattle.registers.specs.declared.Port.{Port}
+use Rattle.registers.specs.declared.Port.the-variants.{Select, Send, LcdControl, RtcCommand, Acts, Shows, Holds, Other}
+use Rattle.registers.specs.Ports.{namedRows, wordsFrom, namedWords, ownWords, index, slotOf, slotWord, portAt}
+use Rattle.registers.specs.Ports.{dayWord, portOf, timerOf}
+use Rattle.registers.specs.Words.{unstored, wordAt, putWord}
 use Rattle.registers.specs.Within.{Tidy, nonZero, Full}
-use Rattle.registers.proofs.Choice.{by-test, by-same, by-less}
-use Rattle.registers.proofs.Own.{timer-own}
+use Rattle.whole.proofs.Choice.{both, by-test}
+use Rattle.registers.proofs.Own.{slot-hit, by-slot}
+use Rattle.registers.proofs.Slots.{every, at-each, port-slot, port-none, port-own, hasSlot, slot-no-day}
 use Rattle.registers.proofs.Count.{full-exactly}
 use Rattle.timer.specs.declared.Sounded.the-variants.{Same, Change, SoundFull}
 use Rattle.timer.specs.Timers.{writtenOf}
 use Rattle.timer.specs.Sound.{differOf, soundedOf}
 use Rattle.state.specs.declared.Devices.{Devices}
-use Rattle.bus.specs.World.{Said}
+use Rattle.bus.specs.World.{OwnOut}
 use Rattle.bus.specs.Sounds.{soundOf, sounding, soundWritten}
-use Rattle.bus.specs.Words.{controlAt, fieldAt, actsOf, adcWritten, wordWritten}
+use Rattle.bus.specs.Words.{adcWritten, wordWritten}
 use Rattle.bus.proofs.Branches.{by-timer}
+use Rattle.bus.proofs.Slots.{day-unstored}
 use Rattle.system.specs.Refusals.{noRoom, soundWord, storedOf, toneThen, addsEvent}
 use Rattle.system.proofs.Unchanged.{StoreNumber, put-number}
 
 -- ---- room for a word
-
-both : (a b : Bool) → (a && b) ≡ true → (a ≡ true) × (b ≡ true)
-both true b h = (refl, h)
-both false b h = absurd (true≢false (sym h))
 
 other-way : (b : Bool) → not b ≡ true → b ≡ false
 other-way false h = refl
@@ -77,50 +84,115 @@ module _ (r : Registers) (word new : ℕ) where
       by f (inl z) = z
       by f (inr e) = absurd (true≢false (sym (full-room (full-exactly r word new tidy .0 e)) ∙ f))
 
--- ---- timer 4's words
+-- ---- the words that the sound follows, by their ports
 
--- timer n's control word stands at 0x20 n after the first
-control-is : (word : ℕ) → controlAt word < 6 → word ≡ 0xC0020000 + 0x20 * controlAt word
-unfolding controlAt
-control-is word h =
-    by-less word 0xC0020000
-    (λ l. absurd (out (lt-ltb _ _ l)))
-    (λ g. by-less (word - 0xC0020000) 0xC0
-    (λ l. by-same ((word - 0xC0020000) % 0x20) 0
-    (λ e. rw (le-ltb _ _ g, lt-ltb _ _ l, eq-eqb _ _ e) (omega arith))
-    (λ n. absurd (in-none (le-ltb _ _ g) (lt-ltb _ _ l) (ne-eqb _ _ n))))
-    (λ l. absurd (past (le-ltb _ _ g) (le-ltb _ _ l))))
+-- control, reload and compare of one timer; of a control word, which timer it is of decides
+abbrev followedBy : Effect → ℕ → Bool
+followedBy TimerControl n = eqb n SOUND-TIMER
+followedBy DayField n = false
+followedBy Sound n = true
+followedBy LcdStatus n = false
+followedBy Tick n = false
+followedBy AdcControl n = false
+followedBy Power n = false
+followedBy SpiSend n = false
+
+abbrev controlBy : Effect → ℕ → Bool
+controlBy TimerControl n = eqb n SOUND-TIMER
+controlBy DayField n = false
+controlBy Sound n = false
+controlBy LcdStatus n = false
+controlBy Tick n = false
+controlBy AdcControl n = false
+controlBy Power n = false
+controlBy SpiSend n = false
+
+-- a test of the effect, of no other port
+abbrev pub onEffect : (Effect → ℕ → Bool) → Port → ℕ → Bool
+onEffect f Select n = false
+onEffect f Send n = false
+onEffect f LcdControl n = false
+onEffect f RtcCommand n = false
+onEffect f (Acts e) n = f e n
+onEffect f (Shows v) n = false
+onEffect f Holds n = false
+onEffect f Other n = false
+
+abbrev same : Bool → Bool → Bool
+same true b = b
+same false b = not b
+
+same-is : (a b : Bool) → same a b ≡ true → a ≡ b
+same-is true true h = refl
+same-is true false h = sym h
+same-is false true h = h
+same-is false false h = refl
+
+all-followed : every (λ s. same (soundWord (slotWord s)) (onEffect followedBy (portAt s) (timerOf (slotWord s)))) 76 ≡
+    true
+unfolding portAt ownWords wordsFrom namedWords namedRows
+all-followed = refl
+
+all-controls : every (λ s. same (eqb (slotWord s) SOUND-CONTROL)
+    (onEffect controlBy (portAt s) (timerOf (slotWord s)))) 76 ≡ true
+unfolding portAt ownWords wordsFrom namedWords namedRows
+all-controls = refl
+
+-- a test of words that passes none without a slot and is decided in each slot by the port
+module _ (t : ℕ → Bool) (f : Effect → ℕ → Bool)
+    (each : every (λ s. same (t (slotWord s)) (onEffect f (portAt s) (timerOf (slotWord s)))) 76 ≡ true)
+    (outside : (word : ℕ) → slotOf word ≡ 76 → t word ≡ false) (no-field : (n : ℕ) → f DayField n ≡ false) where
+  by-effect : (word : ℕ) → t word ≡ onEffect f (portOf word) (timerOf word)
+  by-effect word =
+      by-slot word
+      (λ less. let w : slotWord (slotOf word) ≡ word = slot-hit word less in
+      let e = same-is _ _ (at-each (λ s. same (t (slotWord s)) (onEffect f (portAt s) (timerOf (slotWord s)))) 76 each
+      (slotOf word) less) in
+      subst (λ (a : ℕ). t a ≡ onEffect f (portOf a) (timerOf a)) w
+      (e ∙ ap (λ (p : Port). onEffect f p (timerOf (slotWord (slotOf word)))) (sym (port-slot (slotOf word) less))))
+      (λ none. outside word none ∙ sym (ap (λ (p : Port). onEffect f p (timerOf word)) (port-none word none) ∙ field
+      (dayWord word)))
+    where
+      field : (b : Bool) → onEffect f (cond b (Acts DayField) Other) (timerOf word) ≡ false
+      field true = no-field (timerOf word)
+      field false = refl
+
+-- a word without a slot is none of a timer's
+else : (word k : ℕ) → slotOf k < 76 → slotOf word ≡ 76 → eqb word k ≡ false
+else word k less none = ne-eqb word k (λ e. let z = ap slotOf e in omega arith)
+
+sound-port : (word : ℕ) → soundWord word ≡ onEffect followedBy (portOf word) (timerOf word)
+unfolding slotOf ownWords wordsFrom namedWords namedRows index
+sound-port =
+    by-effect soundWord followedBy all-followed
+    (λ word none. rw (
+      else word SOUND-CONTROL (lit< tt) none,
+      else word SOUND-RELOAD (lit< tt) none,
+      else word
+          SOUND-COMPARE (lit< tt) none,
+    ))
+    (λ n. refl)
+
+control-port : (word : ℕ) → eqb word SOUND-CONTROL ≡ onEffect controlBy (portOf word) (timerOf word)
+unfolding slotOf ownWords wordsFrom namedWords namedRows index
+control-port = by-effect (λ a. eqb a SOUND-CONTROL) controlBy all-controls
+    (λ word none. else word SOUND-CONTROL (lit< tt) none) (λ n. refl)
+
+-- the time of day's words are never stored
+day-never : (word : ℕ) → portOf word ≡ Acts DayField → unstored word ≡ true
+day-never word e =
+    by-slot word
+    (λ less. absurd (slot-no-day (slotOf word) less (sym (port-slot (slotOf word) less) ∙ ap portOf
+    (slot-hit word less) ∙ e)))
+    (λ none. by-test (dayWord word) (λ t. day-unstored word t)
+    (λ f. absurd (true≢false (sym (ap acting e) ∙ ap acting (port-none word none) ∙ closed (dayWord word) f))))
   where
-    out : ltb word 0xC0020000 ≡ true → ⊥
-    out e = omega (arith, rw e at h)
+    acting : Port → Bool
+    acting p = onEffect (λ x n. true) p 0
 
-    past : ltb word 0xC0020000 ≡ false → ltb (word - 0xC0020000) 0xC0 ≡ false → ⊥
-    past e f = omega (arith, rw (e, f) at h)
-
-    in-none : ltb word 0xC0020000 ≡ false → ltb (word - 0xC0020000) 0xC0 ≡ true → eqb ((word - 0xC0020000) % 0x20) 0 ≡ false → ⊥
-    in-none e f g = omega (arith, rw (e, f, g) at h)
-
--- a word that the sound does not follow
-pub no-sound : (word : ℕ) → word ≢ 0xC0020080 → word ≢ 0xC0020088 → word ≢ 0xC002008C → soundWord word ≡ false
-no-sound word a b c = rw (ne-eqb word 0xC0020080 a, ne-eqb word 0xC0020088 b, ne-eqb word 0xC002008C c)
-
-acts-not : (word : ℕ) → 6 ≤ controlAt word → word ≢ 0xC0040000 → word ≢ 0xC0040004 → word ≢ 0xC0040008 → word ≢ 0xD050018C → word ≢ 0xC00C0004
-    → word ≢ 0xC0040054 → word ≢ 0xD0000078 → word ≢ 0xC0080008 → word ≢ 0xC0020088 → word ≢ 0xC002008C → actsOf word ≡ false
-unfolding actsOf fieldAt
-acts-not word c n₀ n₁ n₂ n₃ n₄ n₅ n₆ n₇ n₈ n₉ =
-    rw (
-      le-ltb (controlAt word) 6 c,
-      ne-eqb word 0xC0040000 n₀,
-      ne-eqb word 0xC0040004 n₁,
-      ne-eqb word 0xC0040008 n₂,
-      ne-eqb word 0xD050018C n₃,
-      ne-eqb word 0xC00C0004 n₄,
-      ne-eqb word 0xC0040054 n₅,
-      ne-eqb word 0xD0000078 n₆,
-      ne-eqb word 0xC0080008 n₇,
-      ne-eqb word 0xC0020088 n₈,
-      ne-eqb word 0xC002008C n₉,
-    )
+    closed : (b : Bool) → b ≡ false → acting (cond b (Acts DayField) Other) ≡ false
+    closed true h = h
+    closed false h = refl
 
 module _ (r : Registers) (d : Devices) (clock : ℕ) (full : Bool) (word new : ℕ) where
   -- 4, 5 or 0, by the words
@@ -137,57 +209,76 @@ module _ (r : Registers) (d : Devices) (clock : ℕ) (full : Bool) (word new : �
   sound-order : (next : Devices) (v : ℕ) → slotOf word < 76 → soundWord word ≡ true → v ≡ storedOf word new
       → soundWritten (r .own) d next clock full word v .wrote .refusal ≡ wordNumber
   unfolding soundWritten soundOf soundedOf addsEvent
-  sound-order next v less follows e = rw (room-own r word new less, follows, e) (by (differOf (toneThen (r .own) clock word new) (d .tone)) full)
+  sound-order next v less follows e = rw (room-own r word new less, follows, e)
+      (by (differOf (toneThen (r .own) clock word new) (d .tone)) full)
     where
-      by : (a b : Bool) → _≡_ {A = ℕ} (sounding (cond a (cond b SoundFull (Change (toneThen (r .own) clock word new))) Same) (r .own) d next word (storedOf word new) .wrote .refusal)
+      by : (a b : Bool) → _≡_ {A = ℕ} (sounding (cond a (cond b SoundFull (Change (toneThen (r .own) clock word new)))
+          Same) (r .own) d next word (storedOf word new) .wrote .refusal)
           (cond (a && b) 5 0)
       by true true = refl
       by true false = refl
       by false b = refl
 
   module _ (old part : ℕ) where
-    abbrev Ordered : Type 0
-    Ordered = wordWritten (r .own) d clock full word old new part .wrote .refusal ≡ wordNumber
+    abbrev Ordered : Effect → Type 0
+    Ordered e = wordWritten e (r .own) d clock full word old new part .wrote .refusal ≡ wordNumber
+
+    -- a word that has its own storage, and that the sound does not follow
+    silent : (e : Effect) → portOf word ≡ Acts e → hasSlot (Acts e) ≡ true → followedBy e (timerOf word) ≡ false
+        → 0 ≡ wordNumber
+    silent e p h k =
+        number-none (room-own r word new (port-own word (ap hasSlot p ∙ h)))
+        (sound-port word ∙ ap (λ (q : Port). onEffect followedBy q (timerOf word)) p ∙ k)
 
     -- a control word
-    timer-order : controlAt word < 6 → Ordered
-    unfolding wordWritten writtenOf
-    timer-order h =
-        let here : word ≡ 0xC0020000 + 0x20 * controlAt word = control-is word h in
-        let less : slotOf word < 76 = timer-own word (omega arith) (omega arith) (omega arith) in
-        rw (lt-ltb _ _ h)
-        (by-timer (λ (x : Said). x .wrote .refusal ≡ wordNumber) (r .own) d clock full (controlAt word) word old new _ refl
-        (λ four. let e : word ≡ 0xC0020080 = omega arith in sound-order _ _ less (ap soundWord e) (ap (λ (k : ℕ). storedOf k new) (sym e)))
-        (λ other. number-none (room-own r word new less) (no-sound word (λ e. other (omega arith)) (λ e. omega arith) (λ e. omega arith))))
-
-    -- a word k that makes no event
-    fixed : (k : ℕ) → word ≡ k → wordWritten (r .own) d clock full k old new part .wrote .refusal ≡ 0 → noRoom r k new ≡ false → soundWord k ≡ false
-        → Ordered
-    fixed k e done room silent =
-        ap (λ (i : ℕ). wordWritten (r .own) d clock full i old new part .wrote .refusal) e ∙ done
-        ∙ number-none (ap (λ (i : ℕ). noRoom r i new) e ∙ room) (ap soundWord e ∙ silent)
+    timer-order : portOf word ≡ Acts TimerControl → Ordered TimerControl
+    unfolding writtenOf
+    timer-order p =
+        let less : slotOf word < 76 = port-own word (ap hasSlot p) in
+        by-timer (λ (x : OwnOut). x .wrote .refusal ≡ wordNumber) (r .own) d clock full (timerOf word) word old new _
+        refl
+        (λ four. sound-order _ _ less
+        (sound-port word ∙ ap (λ (q : Port). onEffect followedBy q (timerOf word)) p ∙ eq-eqb _ _ four)
+        (sym (stored-control (control-port word ∙ ap (λ (q : Port). onEffect controlBy q (timerOf word)) p ∙ eq-eqb _
+        _ four))))
+        (λ other. silent TimerControl p refl (ne-eqb _ _ other))
+      where
+        stored-control : eqb word SOUND-CONTROL ≡ true → storedOf word new ≡ bitAnd new 0xFFFF7FFF
+        stored-control e = rw e
 
     -- reload or compare
-    followed : (k : ℕ) → word ≡ k → wordWritten (r .own) d clock full k old new part ≡ soundWritten (r .own) d d clock full k new → slotOf k < 76
-        → soundWord k ≡ true → new ≡ storedOf k new → Ordered
-    followed k e sounds less follows stays =
-        let here : wordWritten (r .own) d clock full word old new part ≡ soundWritten (r .own) d d clock full word new =
-        subst (λ (i : ℕ). wordWritten (r .own) d clock full i old new part ≡ soundWritten (r .own) d d clock full i new) (sym e) sounds in
-        ap (λ (x : Said). x .wrote .refusal) here
-        ∙ sound-order d new (subst (λ (i : ℕ). slotOf i < 76) (sym e) less) (ap soundWord e ∙ follows) (stays ∙ ap (λ (i : ℕ). storedOf i new) (sym e))
+    followed : portOf word ≡ Acts Sound → Ordered Sound
+    followed p =
+        sound-order d new (port-own word (ap hasSlot p))
+        (sound-port word ∙ ap (λ (q : Port). onEffect followedBy q (timerOf word)) p)
+        (sym (stored (control-port word ∙ ap (λ (q : Port). onEffect controlBy q (timerOf word)) p)))
+      where
+        stored : eqb word SOUND-CONTROL ≡ false → storedOf word new ≡ new
+        stored e = rw e
 
-    pub word-order : actsOf word ≡ true → Ordered
-    unfolding wordWritten controlAt fieldAt actsOf adcWritten slotOf ownWords wordsFrom namedWords index unstored
-    word-order acts =
-        by-less (controlAt word) 6 timer-order
-        (λ c. by-same word 0xC0040000 (λ e. fixed 0xC0040000 e refl (room-never r 0xC0040000 new refl) refl)
-        (λ n₀. by-same word 0xC0040004 (λ e. fixed 0xC0040004 e refl (room-never r 0xC0040004 new refl) refl)
-        (λ n₁. by-same word 0xC0040008 (λ e. fixed 0xC0040008 e refl (room-never r 0xC0040008 new refl) refl)
-        (λ n₂. by-same word 0xD050018C (λ e. fixed 0xD050018C e refl (room-own r 0xD050018C new (lit< tt)) refl)
-        (λ n₃. by-same word 0xC00C0004 (λ e. fixed 0xC00C0004 e refl (room-own r 0xC00C0004 new (lit< tt)) refl)
-        (λ n₄. by-same word 0xC0040054 (λ e. fixed 0xC0040054 e refl (room-own r 0xC0040054 new (lit< tt)) refl)
-        (λ n₅. by-same word 0xD0000078 (λ e. fixed 0xD0000078 e refl (room-own r 0xD0000078 new (lit< tt)) refl)
-        (λ n₆. by-same word 0xC0080008 (λ e. fixed 0xC0080008 e refl (room-own r 0xC0080008 new (lit< tt)) refl)
-        (λ n₇. by-same word 0xC0020088 (λ e. followed 0xC0020088 e refl (lit< tt) refl refl)
-        (λ n₈. by-same word 0xC002008C (λ e. followed 0xC002008C e refl (lit< tt) refl refl)
-        (λ n₉. absurd (true≢false (sym acts ∙ acts-not word c n₀ n₁ n₂ n₃ n₄ n₅ n₆ n₇ n₈ n₉)))))))))))))
+    pub word-order : (e : Effect) → portOf word ≡ Acts e → Ordered e
+    unfolding adcWritten
+    word-order TimerControl p = timer-order p
+    word-order DayField p =
+        number-none (room-never r word new (day-never word p))
+        (sound-port word ∙ ap (λ (q : Port). onEffect followedBy q (timerOf word)) p)
+    word-order Sound p = followed p
+    word-order LcdStatus p = silent LcdStatus p refl refl
+    word-order Tick p = silent Tick p refl refl
+    word-order AdcControl p = silent AdcControl p refl refl
+    word-order Power p = silent Power p refl refl
+    word-order SpiSend p = silent SpiSend p refl refl
+
+-- a port that is none that acts is none that the sound follows
+pub port-silent : (word : ℕ) → onEffect (λ e n. true) (portOf word) 0 ≡ false → soundWord word ≡ false
+port-silent word h = sound-port word ∙ by (portOf word) h
+  where
+    by : (p : Port) → onEffect (λ e n. true) p 0 ≡ false → onEffect followedBy p (timerOf word) ≡ false
+    by Select h = refl
+    by Send h = refl
+    by LcdControl h = refl
+    by RtcCommand h = refl
+    by (Acts e) h = absurd (true≢false h)
+    by (Shows v) h = refl
+    by Holds h = refl
+    by Other h = refl

@@ -14,4 +14,7 @@ use Rattle.system.proofs.Judged as registers
 
 pub starred-hold : (array : List ℕ) → Good array → All (starred array)
 starred-hold array good =
-    all-flatten (tables array) (timer.judged, (registers.judged, (memory.judged, (flash.judged array good, (panel.judged, (clock.judged, tt))))))
+    all-flatten (tables array) (
+      timer.judged,
+      (registers.judged, (memory.judged, (flash.judged array good, (panel.judged, (clock.judged, tt))))),
+    )

@@ -9,6 +9,7 @@ use lib.Ieee.{Float}
 use Rattle.whole.specs.Limits.{goodTime}
 use Rattle.whole.proofs.Words.{either}
 use Rattle.registers.specs.declared.Registers.{Registers}
+use Rattle.registers.specs.declared.Effect.{Effect}
 use Rattle.registers.specs.Words as words
 use Rattle.registers.specs.Words.{putWord}
 use Rattle.registers.proofs.Spots.{put-cases}
@@ -31,19 +32,22 @@ use Rattle.time.specs.declared.NextTime.{NextTime}
 use Rattle.time.specs.Advance as move
 use Rattle.time.specs.Next as next
 use Rattle.state.specs.declared.Devices.{Devices}
-use Rattle.bus.specs.World.{World, Out, out, Said, said, answer}
+use Rattle.bus.specs.World.{World, Out, out, OwnOut, ownOut, answer}
 use Rattle.bus.specs.Sounds.{soundWritten}
 use Rattle.bus.specs.Words.{adcWritten, wordWritten}
 use Rattle.bus.specs.Write as bus
-use Rattle.bus.specs.Write.{storedWord, wordOf, regWritten}
+use Rattle.bus.specs.Write.{storedWord, wordAddress, regWritten}
 use Rattle.time.specs.Clocks.{clockIn}
 use Rattle.bus.specs.Read as reads
 use Rattle.bus.specs.Read.{ReadOut, readAt}
 use Rattle.bus.proofs.Branches.{by-write, by-port, by-word, by-sound, by-timer}
 use Rattle.system.specs.System.{Machine, worldIn, withKeys}
-use Rattle.system.specs.Calls.{changed, reading, moving, readOf, writing, writeOf, advanceOf, nextOf, pacing, turboOf, taking, takeOf, liveOf, holdOf, pressing, pressOf}
-use Rattle.system.specs.Steps.{Op, read, write, advance, nextEvent, pending, turbo, live, hold, press, takeEvent, counters, pixel, wipe}
-use Rattle.system.specs.Steps.{peek8, peek32, poke, keysHeld, irqWanted, step, Outcome, plainly, byChange, byRead, byLeft, byMove, byNext, byTaken}
+use Rattle.system.specs.Calls.{changed, reading, moving, readOf, writing, writeOf, advanceOf, nextOf, pacing}
+use Rattle.system.specs.Calls.{turboOf, taking, takeOf, liveOf, holdOf, pressing, pressOf}
+use Rattle.system.specs.Steps.{Op, read, write, advance, nextEvent, pending, turbo, live, hold, press}
+use Rattle.system.specs.Steps.{takeEvent, counters, pixel, wipe}
+use Rattle.system.specs.Steps.{peek8, peek32, poke, keysHeld, irqWanted, step, Outcome, plainly, byChange}
+use Rattle.system.specs.Steps.{byRead, byLeft, byMove, byNext, byTaken}
 
 -- ---- a word that is put
 
@@ -65,46 +69,56 @@ put-number r a v =
 -- ---- a write on the bus
 
 -- what was answered left the own words and the devices as they were
-abbrev SaidPlainly : List ℕ → Devices → Said → Type 0
-SaidPlainly own d x = x .wrote .refusal ≢ 0 → x ≡ said own (answer (x .wrote .refusal) d)
+abbrev SaidPlainly : List ℕ → Devices → OwnOut → Type 0
+SaidPlainly own d x = x .wrote .refusal ≢ 0 → x ≡ ownOut own (answer (x .wrote .refusal) d)
 
 module _ (own : List ℕ) (d : Devices) (clock : ℕ) (full : Bool) where
   sound-plain : (next : Devices) (word v : ℕ) → SaidPlainly own d (soundWritten own d next clock full word v)
   sound-plain next word v =
-      by-sound (SaidPlainly own d) own d clock full next word v (λ e h. refl) (λ e h. absurd (h refl)) (λ tone e h. absurd (h refl))
+      by-sound (SaidPlainly own d) own d clock full next word v (λ e h. refl) (λ e h. absurd (h refl))
+      (λ tone e h. absurd (h refl))
 
-  word-plain : (word old new part : ℕ) → SaidPlainly own d (wordWritten own d clock full word old new part)
+  word-plain : (e : Effect) (word old new part : ℕ)
+      → SaidPlainly own d (wordWritten e own d clock full word old new part)
   unfolding adcWritten
-  word-plain word old new part =
-      by-word (SaidPlainly own d) own d clock full word old new part
-      (λ l. by-timer (SaidPlainly own d) own d clock full _ word old new _ refl (λ e. sound-plain _ word _) (λ e h. absurd (h refl)))
-      (λ l h. absurd (h refl)) (λ e h. absurd (h refl)) (λ e h. absurd (h refl)) (λ e h. absurd (h refl)) (λ e h. absurd (h refl))
-      (λ e h. absurd (h refl)) (sound-plain d word new)
+  word-plain e word old new part =
+      by-word (SaidPlainly own d) own d clock full e word old new part
+      (λ k. by-timer (SaidPlainly own d) own d clock full _ word old new _ refl (λ e. sound-plain _ word _)
+      (λ e h. absurd (h refl)))
+      (λ h. absurd (h refl)) (sound-plain d word new) (λ h. absurd (h refl)) (λ h. absurd (h refl))
+      (λ h. absurd (h refl))
+      (λ h. absurd (h refl)) (λ h. absurd (h refl))
 
 -- the bus is as it was, and no event was made
 abbrev BusPlainly : World → Out → Type 0
 BusPlainly w x = x .refusal ≢ 0 → x ≡ out w (x .refusal) false
 
-store-plain : (w : World) (word new : ℕ) → BusPlainly w (bus.byStore w (storedWord (w .registers) (w .devices) word new))
+store-plain : (w : World) (word new : ℕ)
+    → BusPlainly w (bus.byStore w (storedWord (w .registers) (w .devices) word new))
 unfolding storedWord
 store-plain w word new h = by (put-number (w .registers) word new)
   where
-    kept : (x : words.Outcome) → x .registers ≡ w .registers → bus.byStore w (bus.settled x (w .devices)) ≡ out w (x .refusal) false
+    kept : (x : words.Outcome) → x .registers ≡ w .registers → bus.byStore w (bus.settled x (w .devices)) ≡ out w
+        (x .refusal) false
     kept x e = rw e
 
     by : StoreNumber (putWord (w .registers) word new .refusal)
-        → bus.byStore w (bus.settled (putWord (w .registers) word new) (w .devices)) ≡ out w (putWord (w .registers) word new .refusal) false
+        → bus.byStore w (bus.settled (putWord (w .registers) word new) (w .devices)) ≡ out w
+        (putWord (w .registers) word new .refusal) false
     by (inl z) = absurd (h z)
     by (inr e) = kept (putWord (w .registers) word new) (refused-stays (w .registers) word new e)
 
 write-plain : (w : World) (full : Bool) (a n v : ℕ) → BusPlainly w (bus.writeOf w full a n v)
 unfolding regWritten
 write-plain w full a n v =
-    by-write (BusPlainly w) w full a n v (λ g h. refl) (λ o g e h. absurd (h refl)) (λ o g e h. absurd (h refl)) (λ o g e h. absurd (h refl))
-    (λ g e. by-port (BusPlainly w) w full (wordOf a) _ _ _ (λ e h. absurd (h refl)) (λ e h. absurd (h refl)) (λ e h. absurd (h refl))
+    by-write (BusPlainly w) w full a n v (λ g h. refl) (λ o g e h. absurd (h refl)) (λ o g e h. absurd (h refl))
+    (λ o g e h. absurd (h refl))
+    (λ g e. by-port (BusPlainly w) w full (wordAddress a) _ _ _ (λ e h. absurd (h refl)) (λ e h. absurd (h refl))
     (λ e h. absurd (h refl))
-    (λ e₁ e₂ e₃ e₄ acts h. ap (bus.byWord w) (word-plain (w .registers .own) (w .devices) (clockIn (w .sram)) full (wordOf a) _ _ (writtenOf a n v) h))
-    (λ e₁ e₂ e₃ e₄ acts. store-plain w (wordOf a) _))
+    (λ e h. absurd (h refl))
+    (λ x e h. ap (bus.byWord w) (word-plain (w .registers .own) (w .devices) (clockIn (w .sram)) full x
+    (wordAddress a) _ _ (writtenOf a n v) h))
+    (λ p e s. store-plain w (wordAddress a) _))
     (λ g e h. refl)
 
 -- ---- each operation
@@ -129,20 +143,23 @@ module _ (m : Machine) where
 
   write-plainly : (a n v : ℕ) → Plainly m (step m (write a n v))
   unfolding step writeOf
-  write-plainly a n v h = ap (λ (x : Out). byLeft (writing m x)) (write-plain (worldIn m) (fullOf (m .system .queue .ring)) a n v h)
+  write-plainly a n v h = ap (λ (x : Out). byLeft (writing m x))
+      (write-plain (worldIn m) (fullOf (m .system .queue .ring)) a n v h)
 
   advance-plainly : (to : Float) → Plainly m (step m (advance to))
   unfolding step advanceOf move.advanceOf move.moved move.movedTo
   advance-plainly to = by (movedOf (m .system .devices .clocks .times) to)
     where
-      by : (x : Moved) → Plainly m (byMove m (moving (m .system) (move.moved (m .system .registers .own) (m .gpio) (m .system .presses .times)
+      by : (x : Moved) → Plainly m (byMove m
+          (moving (m .system) (move.moved (m .system .registers .own) (m .gpio) (m .system .presses .times)
           (m .system .presses .codes) (m .system .devices .clocks) (m .system .keys) (clockIn (m .sram)) x)))
       by (To t) h = absurd (h refl)
       by BadTime h = refl
 
   next-plainly : Plainly m (step m nextEvent)
   unfolding step nextOf next.nextOf next.answered
-  next-plainly = either (λ (x : NextTime). Plainly m (byNext m x)) (next.finite _) _ _ (λ h. absurd (h refl)) (λ h. refl)
+  next-plainly = either (λ (x : NextTime). Plainly m (byNext m x)) (next.finite _) _ _ (λ h. absurd (h refl))
+      (λ h. refl)
 
   turbo-plainly : (to : Float) → Plainly m (step m (turbo to))
   unfolding step turboOf
@@ -155,7 +172,8 @@ module _ (m : Machine) where
   take-plainly : Plainly m (step m takeEvent)
   unfolding step takeOf events.takeOf
   take-plainly =
-      either (λ (x : TakeOutcome). Plainly m (byTaken m (taking (m .system) x))) (eqb (m .system .queue .ring .count) 0) _ _ (λ h. refl)
+      either (λ (x : TakeOutcome). Plainly m (byTaken m (taking (m .system) x)))
+      (eqb (m .system .queue .ring .count) 0) _ _ (λ h. refl)
       (λ h. absurd (h refl))
 
   -- a live key or a tap
@@ -169,12 +187,14 @@ module _ (m : Machine) where
   hold-plainly : (key : ℕ) (until : Float) → Plainly m (step m (hold key until))
   unfolding step holdOf keys.holdOf
   hold-plainly key until =
-      either LivePlainly (leb key 2) _ _ (either LivePlainly (goodTime until) _ _ (λ h. absurd (h refl)) (λ h. refl)) (λ h. refl)
+      either LivePlainly (leb key 2) _ _ (either LivePlainly (goodTime until) _ _ (λ h. absurd (h refl)) (λ h. refl))
+      (λ h. refl)
 
   press-plainly : (key : ℕ) (at : Float) → Plainly m (step m (press key at))
   unfolding step pressOf
   press-plainly key at =
-      press-each _ key at _ (λ (x : script.Outcome). Plainly m (byChange m (pressing (m .system) x))) (λ h. refl) (λ h. refl) (λ h. refl)
+      press-each _ key at _ (λ (x : script.Outcome). Plainly m (byChange m (pressing (m .system) x))) (λ h. refl)
+      (λ h. refl) (λ h. refl)
       (λ k t l h. absurd (h refl))
 
 -- A REFUSAL CHANGES NOTHING

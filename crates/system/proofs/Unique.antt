@@ -10,11 +10,13 @@ use Rattle.system.specs.Calls.{Moved, moved}
 
 -- of a write: the answer, the state and the four memories
 pub one-write : (d : Left) (m n : Machine) (i j : ℕ) → left m i ≡ d → left n j ≡ d → (m ≡ n) × (i ≡ j)
-one-write d m n i j h k = let e : left m i ≡ left n j = unique h k in (ap (λ (o : Left). o .machine) e, ap (λ (o : Left). o .refusal) e)
+one-write d m n i j h k = let e : left m i ≡ left n j = unique h k in
+    (ap (λ (o : Left). o .machine) e, ap (λ (o : Left). o .refusal) e)
 
 -- of an advance: the answer, the state and the GPIO memory
 pub one-advance : (d : Moved) (r s : Changed) (g h : List ℕ) → moved r g ≡ d → moved s h ≡ d → (r ≡ s) × (g ≡ h)
-one-advance d r s g h i k = let e : moved r g ≡ moved s h = unique i k in (ap (λ (o : Moved). o .changed) e, ap (λ (o : Moved). o .gpio) e)
+one-advance d r s g h i k = let e : moved r g ≡ moved s h = unique i k in
+    (ap (λ (o : Moved). o .changed) e, ap (λ (o : Moved). o .gpio) e)
 
 -- of a wipe: the state and the four memories
 pub one-wipe : (d : Machine) (s t : System) (m n r q g h f b : List ℕ) → machine s m r g f ≡ d → machine t n q h b ≡ d

@@ -33,10 +33,12 @@ unfolding step
 wipe-same m n same = rw (same .ram, same .sram, same .gpio, same .fb)
 
 -- the machine after a wipe and whatever came later
-pub wipe-after : (m n : Machine) (before others later : List Op) → SameLengths m n → after m (before ++ (wipe ∷ later)) ≡ after n (others ++ (wipe ∷ later))
+pub wipe-after : (m n : Machine) (before others later : List Op) → SameLengths m n
+    → after m (before ++ (wipe ∷ later)) ≡ after n (others ++ (wipe ∷ later))
 unfolding after
 wipe-after m n before others later same =
-    after-both m before (wipe ∷ later) ∙ ap (λ (x : Outcome). after (x .machine) later) (wipe-same (after m before) (after n others) lengths)
+    after-both m before (wipe ∷ later) ∙ ap (λ (x : Outcome). after (x .machine) later)
+    (wipe-same (after m before) (after n others) lengths)
     ∙ sym (after-both n others (wipe ∷ later))
   where
     lengths : SameLengths (after m before) (after n others)

@@ -1,6 +1,6 @@
 -- A write keeps the limits, whatever its address, its size and its value.
 use Prim.Native.Nat.{ℕ, _^_, _<_}
-use mathlib.Core.Path.{_≡_, refl, subst, _∙_}
+use mathlib.Core.Path.{_≡_, refl, ap, subst, _∙_}
 use mathlib.Core.Bool.{Bool, true, false, cond}
 use mathlib.Core.List.{List}
 use native.Mathlib.Omega.{arith}
@@ -9,7 +9,12 @@ use lib.Bits.{bitAnd}
 use lib.Dec.{eqb}
 use Rattle.whole.specs.Words.{has}
 use Rattle.whole.proofs.Words.{either}
+use Rattle.map.specs.Numbers.{SOUND-CONTROL, SOUND-RELOAD, SOUND-COMPARE, LCD-DMA}
 use Rattle.registers.specs.declared.Registers.{Registers}
+use Rattle.registers.specs.declared.Effect.{Effect}
+use Rattle.registers.specs.declared.Port.the-variants.{Acts}
+use Rattle.registers.specs.Ports.{portOf, timerOf}
+use Rattle.registers.proofs.Slots.{port-timer}
 use Rattle.registers.specs.Words.{registersOf, ownAt, ownWith, wordAt}
 use Rattle.registers.specs.Within.{Tidy}
 use Rattle.registers.proofs.Own.{own-length}
@@ -25,8 +30,8 @@ use Rattle.timer.specs.Canonical.{Canonical}
 use Rattle.timer.specs.Events.{fullOf}
 use Rattle.timer.specs.Timers as timers
 use Rattle.timer.specs.Sound.{toneOf, differOf, soundedOf}
-use Rattle.timer.specs.Within.{Held}
-use Rattle.timer.proofs.Held.{held}
+use Rattle.timer.specs.Within.{ToneWithin}
+use Rattle.timer.proofs.Tones.{tone-within}
 use Rattle.timer.proofs.Tidy.{put-canonical}
 use Rattle.clock.specs.Within.{Latched}
 use Rattle.clock.specs.Rtc.{rtcOf}
@@ -36,13 +41,13 @@ use Rattle.time.specs.Within.{ClocksWithin}
 use Rattle.time.proofs.Limits.{timer-within, day-within, adc-within}
 use Rattle.state.specs.Parts.{none, devicesOf, withClocks}
 use Rattle.state.specs.declared.Devices.{Devices}
-use Rattle.bus.specs.World.{World, Out, Said}
+use Rattle.bus.specs.World.{World, Out, OwnOut}
 use Rattle.bus.specs.Chip.{selectWritten, sendWritten}
 use Rattle.bus.specs.Rtc.{commandWritten}
-use Rattle.bus.specs.Screen.{Copied, copied, dmaDone, acted, controlled}
+use Rattle.bus.specs.Screen.{Copied, copied, dmaDone, actResult, controlled}
 use Rattle.bus.specs.Sounds.{timerSet, soundOf, soundWritten, timerWritten}
-use Rattle.bus.specs.Words.{controlAt, spiSent, adcWritten, daySet, wordWritten}
-use Rattle.bus.specs.Write.{storedWord, wordOf, regWritten}
+use Rattle.bus.specs.Words.{spiSent, adcWritten, daySet, wordWritten}
+use Rattle.bus.specs.Write.{storedWord, wordAddress, regWritten}
 use Rattle.time.specs.Clocks.{clockIn}
 use Rattle.bus.specs.Write as write
 use Rattle.bus.proofs.Branches.{by-write, by-port, by-word, by-sound, by-timer}
@@ -57,7 +62,7 @@ record BusWithin (r : Registers) (c : List ℕ) (d : Devices) : Type 0 where
   registers : Tidy r
   clocks : ClocksWithin (d .clocks)
   rtc : Latched c (d .latch) (d .clocks .times .game)
-  tone : Held (d .tone)
+  tone : ToneWithin (d .tone)
 
 -- ---- the panel's words keep their number
 
@@ -67,19 +72,22 @@ module _ (r : Registers) (m s g : List ℕ) (t : Screen) where
 
   dma-length : SameLength (dmaDone r m s g t)
   unfolding dmaDone
-  dma-length = either SameLength (eqb (ownAt (r .own) 0xD050033C) 0) _ _ refl (own-length (r .own) _ _)
+  dma-length = either SameLength (eqb (ownAt (r .own) LCD-DMA) 0) _ _ refl (own-length (r .own) _ _)
 
-  acted-length : (val : ℕ) → SameLength (acted r m s g t val)
-  unfolding acted
+  acted-length : (val : ℕ) → SameLength (actResult r m s g t val)
+  unfolding actResult
   acted-length val = by (eqb (bitAnd val 0xF0) 0x80) (eqb (bitAnd val 0xF0) 0xA0) (eqb (bitAnd val 0xF0) 0xD0) _ _
     where
-      by : (a b c : Bool) (x y : Screen) → SameLength (cond a (copied (r .own) x) (cond b (copied (r .own) y) (cond c (dmaDone r m s g t) (copied (r .own) t))))
+      by : (a b c : Bool) (x y : Screen)
+          → SameLength (cond a (copied (r .own) x)
+          (cond b (copied (r .own) y) (cond c (dmaDone r m s g t) (copied (r .own) t))))
       by true b c x y = refl
       by false true c x y = refl
       by false false true x y = dma-length
       by false false false x y = refl
 
-controlled-length : (r : Registers) (m s g : List ℕ) (t : Screen) (val : ℕ) → length (controlled r m s g t val .own) ≡ length (r .own)
+controlled-length : (r : Registers) (m s g : List ℕ) (t : Screen) (val : ℕ) → length (controlled r m s g t val .own) ≡
+    length (r .own)
 unfolding controlled
 controlled-length r m s g t val =
     either (λ (x : Copied). length (x .own) ≡ length (r .own)) (has val 1) _ _
@@ -87,18 +95,20 @@ controlled-length r m s g t val =
 
 -- ---- the tone of a change is one that timer 4's words give
 
-changed-held : (own : List ℕ) (state tone : Tone) (clock : ℕ) (full : Bool) (word v : ℕ) → clock < 2 ^ 32 → soundOf own state clock full word v ≡ Change tone
-    → Held tone
+changed-held : (own : List ℕ) (state tone : Tone) (clock : ℕ) (full : Bool) (word v : ℕ) → clock < 2 ^ 32
+    → soundOf own state clock full word v ≡ Change tone
+    → ToneWithin tone
 unfolding soundOf soundedOf
 changed-held own state tone clock full word v h e = by (differOf new state) full e
   where
     new : Tone
     new =
-        toneOf clock (cond (eqb word 0xC0020080) v (ownAt own 0xC0020080)) (cond (eqb word 0xC0020088) v (ownAt own 0xC0020088))
-        (cond (eqb word 0xC002008C) v (ownAt own 0xC002008C))
+        toneOf clock (cond (eqb word SOUND-CONTROL) v (ownAt own SOUND-CONTROL))
+        (cond (eqb word SOUND-RELOAD) v (ownAt own SOUND-RELOAD))
+        (cond (eqb word SOUND-COMPARE) v (ownAt own SOUND-COMPARE))
 
-    by : (a b : Bool) → cond a (cond b SoundFull (Change new)) Same ≡ Change tone → Held tone
-    by true false e = let same : new ≡ tone = cc in subst Held same (held clock _ _ _ h)
+    by : (a b : Bool) → cond a (cond b SoundFull (Change new)) Same ≡ Change tone → ToneWithin tone
+    by true false e = let same : new ≡ tone = cc in subst ToneWithin same (tone-within clock _ _ _ h)
     by true true e = absurd (let z : _≡_ {A = ℕ} 0 1 = cc in omega arith)
     by false b e = absurd (let z : _≡_ {A = ℕ} 0 1 = cc in omega arith)
 
@@ -109,18 +119,33 @@ module _ (r : Registers) (c : List ℕ) (d : Devices) (w : BusWithin r c d) wher
   Kept own e = BusWithin (registersOf own (r .addresses) (r .values)) c e
 
   -- neither clocks nor RTC nor tone change
-  apart : (own : List ℕ) (f : Chip) (p : Panel) (off : Bool) → length own ≡ length (r .own) → Kept own (devicesOf f p (d .clocks) (d .latch) (d .tone) off)
-  apart own f p off e = record { registers = own-tidy r own (w .registers) e; clocks = w .clocks; rtc = w .rtc; tone = w .tone }
+  apart : (own : List ℕ) (f : Chip) (p : Panel) (off : Bool) → length own ≡ length (r .own)
+      → Kept own (devicesOf f p (d .clocks) (d .latch) (d .tone) off)
+  apart own f p off e = record {
+    registers = own-tidy r own (w .registers) e;
+    clocks = w .clocks;
+    rtc = w .rtc;
+    tone =
+        w .tone;
+  }
 
   -- of the clocks all but game time may change
-  clocked : (own : List ℕ) (k : Clocks) → length own ≡ length (r .own) → k .times ≡ d .clocks .times → ClocksWithin k → Kept own (withClocks d k)
-  clocked own k e t h = record { registers = own-tidy r own (w .registers) e; clocks = h; rtc = rw t (w .rtc); tone = w .tone }
+  clocked : (own : List ℕ) (k : Clocks) → length own ≡ length (r .own) → k .times ≡ d .clocks .times → ClocksWithin k
+      → Kept own (withClocks d k)
+  clocked own k e t h = record {
+    registers = own-tidy r own (w .registers) e;
+    clocks = h;
+    rtc = rw t (w .rtc);
+    tone =
+        w .tone;
+  }
 
   module _ (clock : ℕ) (full : Bool) (small : clock < 2 ^ 32) where
-    abbrev SaidKept : Said → Type 0
+    abbrev SaidKept : OwnOut → Type 0
     SaidKept x = Kept (x .own) (x .wrote .devices)
 
-    sound-kept : (next : Devices) (word v : ℕ) → Kept (ownWith (r .own) word v) next → SaidKept (soundWritten (r .own) d next clock full word v)
+    sound-kept : (next : Devices) (word v : ℕ) → Kept (ownWith (r .own) word v) next
+        → SaidKept (soundWritten (r .own) d next clock full word v)
     sound-kept next word v h =
         by-sound SaidKept (r .own) d clock full next word v (λ e. w) (λ e. h)
         (λ tone e. record {
@@ -135,46 +160,58 @@ module _ (r : Registers) (c : List ℕ) (d : Devices) (w : BusWithin r c d) wher
         let x = timers.writtenOf (getD (d .clocks .timers) n none) (d .clocks .times .now) new old in
         let next : Kept (ownWith (r .own) word (x .control)) (timerSet d n (x .timer)) =
         clocked _ _ (own-length (r .own) _ _) refl (timer-within (d .clocks) (w .clocks) n new old h) in
-        by-timer SaidKept (r .own) d clock full n word old new x refl (λ e. sound-kept _ word (x .control) next) (λ e. next)
+        by-timer SaidKept (r .own) d clock full n word old new x refl (λ e. sound-kept _ word (x .control) next)
+        (λ e. next)
 
-    word-kept : (word old new part : ℕ) → SaidKept (wordWritten (r .own) d clock full word old new part)
+    word-kept : (e : Effect) (word old new part : ℕ) → portOf word ≡ Acts e
+        → SaidKept (wordWritten e (r .own) d clock full word old new part)
     unfolding daySet adcWritten spiSent
-    word-kept word old new part =
-        by-word SaidKept (r .own) d clock full word old new part
-        (λ h. timer-kept (controlAt word) word old new h)
-        (λ h. clocked _ _ refl refl (day-within (d .clocks) (w .clocks) _ new))
-        (λ e. apart _ _ _ _ (own-length (r .own) _ _))
-        (λ e. clocked _ _ (own-length (r .own) _ _) refl (adc-within (d .clocks) (w .clocks) _))
-        (λ e. apart _ _ _ _ (own-length (r .own) _ _))
-        (λ e. apart _ _ _ _ (own-length (r .own) _ _))
-        (λ e. apart _ _ _ _ (own-length _ _ _ ∙ own-length _ _ _ ∙ own-length (r .own) _ _))
+    word-kept e word old new part p =
+        by-word SaidKept (r .own) d clock full e word old new part
+        (λ k. timer-kept (timerOf word) word old new (port-timer word (p ∙ ap Acts k)))
+        (clocked _ _ refl refl (day-within (d .clocks) (w .clocks) _ new))
         (sound-kept d word new (apart _ _ _ _ (own-length (r .own) _ _)))
+        (apart _ _ _ _ (own-length (r .own) _ _))
+        (apart _ _ _ _ (own-length (r .own) _ _))
+        (clocked _ _ (own-length (r .own) _ _) refl (adc-within (d .clocks) (w .clocks) _))
+        (apart _ _ _ _ (own-length (r .own) _ _))
+        (apart _ _ _ _ (own-length _ _ _ ∙ own-length _ _ _ ∙ own-length (r .own) _ _))
 
 abbrev WorldKept : Out → Type 0
 WorldKept x = BusWithin (x .world .registers) (x .world .rtc) (x .world .devices)
 
-reg-kept : (w : World) (full : Bool) (a n v : ℕ) → BusWithin (w .registers) (w .rtc) (w .devices) → WorldKept (regWritten w full a n v)
+reg-kept : (w : World) (full : Bool) (a n v : ℕ) → BusWithin (w .registers) (w .rtc) (w .devices)
+    → WorldKept (regWritten w full a n v)
 unfolding regWritten selectWritten sendWritten commandWritten storedWord
 reg-kept w full a n v h =
     let r = w .registers in
-    let old = wordAt r (wordOf a) in
+    let old = wordAt r (wordAddress a) in
     let new = mergedOf old a n v in
-    by-port WorldKept w full (wordOf a) old new (writtenOf a n v)
+    by-port WorldKept w full (wordAddress a) old new (writtenOf a n v)
     (λ e. apart r (w .rtc) (w .devices) h _ _ _ _ (own-length (r .own) _ _))
     (λ e. apart r (w .rtc) (w .devices) h _ _ _ _ (own-length (r .own) _ _))
     (λ e. apart r (w .rtc) (w .devices) h _ _ _ _ (controlled-length r (w .ram) (w .sram) (w .gpio) _ new))
     (λ e. record {
       registers = own-tidy r _ (h .registers) (own-length (r .own) _ _);
       clocks = h .clocks;
-      rtc = commands-latched (rtcOf (w .rtc) (w .devices .latch)) (w .devices .clocks .times .game) _ _ new (h .rtc) (h .clocks .times .game-limit);
+      rtc = commands-latched (rtcOf (w .rtc) (w .devices .latch)) (w .devices .clocks .times .game) _ _ new (h .rtc)
+          (h .clocks .times .game-limit);
       tone = h .tone;
     })
-    (λ e₁ e₂ e₃ e₄ acts. word-kept r (w .rtc) (w .devices) h (clockIn (w .sram)) full (load-fits (w .sram) 0x90A4 4) (wordOf a) old new (writtenOf a n v))
-    (λ e₁ e₂ e₃ e₄ acts. record { registers = tidy-put r (wordOf a) new (h .registers); clocks = h .clocks; rtc = h .rtc; tone = h .tone })
+    (λ x e. word-kept r (w .rtc) (w .devices) h (clockIn (w .sram)) full (load-fits (w .sram) 0x90A4 4) x
+    (wordAddress a) old new (writtenOf a n v) e)
+    (λ p e s. record {
+      registers = tidy-put r (wordAddress a) new (h .registers);
+      clocks = h .clocks;
+      rtc = h .rtc;
+      tone = h .tone;
+    })
 
-write-kept : (w : World) (full : Bool) (a n v : ℕ) → BusWithin (w .registers) (w .rtc) (w .devices) → WorldKept (write.writeOf w full a n v)
+write-kept : (w : World) (full : Bool) (a n v : ℕ) → BusWithin (w .registers) (w .rtc) (w .devices)
+    → WorldKept (write.writeOf w full a n v)
 write-kept w full a n v h =
-    by-write WorldKept w full a n v (λ g. h) (λ o g e. h) (λ o g e. h) (λ o g e. h) (λ g e. reg-kept w full a n v h) (λ g e. h)
+    by-write WorldKept w full a n v (λ g. h) (λ o g e. h) (λ o g e. h) (λ o g e. h) (λ g e. reg-kept w full a n v h)
+    (λ g e. h)
 
 -- ---- a write of the machine
 
@@ -183,7 +220,13 @@ unfolding writeOf
 write-limits m a n v w =
     let x = write.writeOf (worldIn m) (fullOf (m .system .queue .ring)) a n v in
     let h : WorldKept x =
-    write-kept (worldIn m) _ a n v (record { registers = w .registers; clocks = w .clocks; rtc = w .rtc; tone = w .tone }) in
+    write-kept (worldIn m) _ a n v (record {
+      registers = w .registers;
+      clocks = w .clocks;
+      rtc = w .rtc;
+      tone =
+          w .tone;
+    }) in
     record {
       registers = h .registers;
       clocks = h .clocks;

@@ -4,6 +4,7 @@ use mathlib.Core.Bool.{Bool}
 use mathlib.Core.List.{List}
 use lib.Ieee.{Float}
 use lib.ListN.{replicate}
+use Rattle.map.specs.Numbers.{DONE, BAD-TURBO}
 use Rattle.clock.specs.declared.Paced.{Paced}
 use Rattle.clock.specs.declared.Paced.the-variants.{By, BadTurbo}
 use Rattle.clock.specs.Times.{pacedOf}
@@ -28,7 +29,8 @@ use Rattle.system.specs.declared.Read.{Read}
 use Rattle.system.specs.declared.Taken.{Taken}
 use Rattle.system.specs.declared.Counters.{Counters}
 use Rattle.bus.specs.Sounds.{noted}
-use Rattle.system.specs.System.{Machine, machine, Left, left, presses, withOwn, withClocks, withTimes, withKeys, withPresses, withQueue, worldIn, withWorld, freshSystem}
+use Rattle.system.specs.System.{Machine, machine, Left, left, presses, withOwn, withClocks, withTimes, withKeys}
+use Rattle.system.specs.System.{withPresses, withQueue, worldIn, withWorld, freshSystem}
 
 abbrev pub changed : ℕ → System → Changed
 changed n s = record { refusal = n; system = s }
@@ -39,7 +41,7 @@ abbrev pub reading : System → ReadOut → Read
 reading s x = record { refusal = x .got .refusal; value = x .got .value; system = withOwn s (x .own) }
 
 unfoldable pub readOf : System → List ℕ → List ℕ → List ℕ → ℕ → ℕ → Read
-readOf s m r g a n = reading s (read.readOf (s .registers) m r g (s .devices) a n)
+readOf s ram sram gpio a n = reading s (read.readOf (s .registers) ram sram gpio (s .devices) a n)
 
 abbrev pub writing : Machine → Out → Left
 writing m x = left (withWorld m (x .world) (noted (m .system .queue) (x .world .devices) (x .event))) (x .refusal)
@@ -55,22 +57,24 @@ pub record Moved : Type 0 where
   pub gpio : List ℕ
 
 abbrev pub moved : Changed → List ℕ → Moved
-moved c g = record { changed = c; gpio = g }
+moved c gpio = record { changed = c; gpio = gpio }
 
 abbrev pub moving : System → move.Outcome → Moved
 moving s x =
-    moved (changed (x .refusal) (withKeys (withClocks (withOwn s (x .own)) (x .clocks)) (withApplied (s .keys) (x .applied)))) (x .gpio)
+    moved (changed (x .refusal) (withKeys (withClocks (withOwn s (x .own)) (x .clocks))
+    (withApplied (s .keys) (x .applied)))) (x .gpio)
 
 unfoldable pub advanceOf : System → List ℕ → List ℕ → Float → Moved
-advanceOf s r g to =
-    moving s (move.advanceOf (s .registers .own) g (s .presses .times) (s .presses .codes) (s .devices .clocks) (s .keys) (clockIn r) to)
+advanceOf s sram gpio to =
+    moving s (move.advanceOf (s .registers .own) gpio (s .presses .times) (s .presses .codes) (s .devices .clocks)
+    (s .keys) (clockIn sram) to)
 
 unfoldable pub nextOf : System → List ℕ → NextTime
-nextOf s r = next.nextOf (s .registers .own) (s .presses .times) (s .devices .clocks) (s .keys) (clockIn r)
+nextOf s sram = next.nextOf (s .registers .own) (s .presses .times) (s .devices .clocks) (s .keys) (clockIn sram)
 
 abbrev pub pacing : System → Paced → Changed
-pacing s (By t) = changed 0 (withTimes s t)
-pacing s BadTurbo = changed 2 s
+pacing s (By t) = changed DONE (withTimes s t)
+pacing s BadTurbo = changed BAD-TURBO s
 
 unfoldable pub turboOf : System → Float → Changed
 turboOf s to = pacing s (pacedOf (s .devices .clocks .times) to)
@@ -90,18 +94,22 @@ takeOf s = taking s (events.takeOf (s .queue))
 -- ---- keys
 
 unfoldable pub liveOf : System → ℕ → Bool → Changed
-liveOf s key down = changed (live.liveOf (s .keys) key down .refusal) (withKeys s (live.liveOf (s .keys) key down .keys))
+liveOf s key down = changed (live.liveOf (s .keys) key down .refusal)
+    (withKeys s (live.liveOf (s .keys) key down .keys))
 
 unfoldable pub holdOf : System → ℕ → Float → Changed
-holdOf s key until = changed (live.holdOf (s .keys) key until .refusal) (withKeys s (live.holdOf (s .keys) key until .keys))
+holdOf s key until = changed (live.holdOf (s .keys) key until .refusal)
+    (withKeys s (live.holdOf (s .keys) key until .keys))
 
 abbrev pub pressing : System → script.Outcome → Changed
 pressing s x =
-    changed (x .refusal) (withPresses (withKeys s (withCount (s .keys) (x .script .count))) (presses (x .script .times) (x .script .codes)))
+    changed (x .refusal) (withPresses (withKeys s (withCount (s .keys) (x .script .count)))
+    (presses (x .script .times) (x .script .codes)))
 
 unfoldable pub pressOf : System → ℕ → Float → Changed
 pressOf s key at =
-    pressing s (script.pressOf (script.script (s .presses .times) (s .presses .codes) (s .keys .count)) key at (s .devices .clocks .times .now))
+    pressing s (script.pressOf (script.script (s .presses .times) (s .presses .codes) (s .keys .count)) key at
+    (s .devices .clocks .times .now))
 
 unfoldable pub heldOf : System → Held
 heldOf s = live.heldOf (s .presses .times) (s .presses .codes) (s .keys) (s .devices .clocks .times .now)
@@ -109,8 +117,13 @@ heldOf s = live.heldOf (s .presses .times) (s .presses .codes) (s .keys) (s .dev
 -- ---- counters, wipe
 
 abbrev pub countersOf : System → Counters
-countersOf s = record { frames = s .devices .panel .pen .frames; writes = s .devices .flash .writes; off = s .devices .off }
+countersOf s = record {
+  frames = s .devices .panel .pen .frames;
+  writes = s .devices .flash .writes;
+  off =
+      s .devices .off;
+}
 
 -- of memories of these lengths
 unfoldable pub wipedOf : ℕ → ℕ → ℕ → ℕ → Machine
-wipedOf m r g f = machine freshSystem (replicate m 0) (replicate r 0) (replicate g 0) (replicate f 0)
+wipedOf ram sram gpio fb = machine freshSystem (replicate ram 0) (replicate sram 0) (replicate gpio 0) (replicate fb 0)

@@ -7,6 +7,10 @@ use lib.Dec.{eqb}
 use lib.Bits.{bitAnd}
 use Rattle.whole.specs.Words.{has}
 use Rattle.registers.specs.declared.Registers.{Registers}
+use Rattle.map.specs.Numbers.{FLASH-SIZE, LCD-DATA, LCD-DMA}
+use Rattle.registers.specs.declared.Port.{Port}
+use Rattle.registers.specs.declared.Port.the-variants.{Select, Send, LcdControl, RtcCommand, Acts, Shows, Holds, Other}
+use Rattle.registers.specs.Ports.{portOf}
 use Rattle.registers.specs.Words.{ownAt, wordAt}
 use Rattle.memory.specs.declared.Place.{Place}
 use Rattle.memory.specs.declared.Place.the-variants.{Ram, Sram, Gpio, Register, Stray}
@@ -20,7 +24,7 @@ use Rattle.panel.specs.Runs as panel
 use Rattle.panel.specs.Runs.{Act}
 use Rattle.bus.specs.Block.{blockOf}
 use Rattle.bus.specs.Screen.{withControl}
-use Rattle.bus.specs.Write.{wordOf}
+use Rattle.bus.specs.Write.{wordAddress}
 use Rattle.system.specs.System.{Machine}
 use Rattle.system.specs.Refusals.{isRegister}
 use Rattle.system.specs.Steps.{
@@ -48,7 +52,7 @@ use Rattle.system.specs.Steps.{
 
 -- the first 8 MiB of RAM
 unfoldable pub arrayIn : List ℕ → List ℕ
-arrayIn ram = take 8388608 ram
+arrayIn ram = take FLASH-SIZE ram
 
 -- the flash's chip, the page's running AND, and its array
 abbrev pub boardIn : Machine → Board
@@ -95,12 +99,21 @@ lands a n = goodSize n && isRegister (placeOf a)
 
 -- what the word becomes
 abbrev pub mergedIn : Machine → ℕ → ℕ → ℕ → ℕ
-mergedIn m a n v = mergedOf (wordAt (m .system .registers) (wordOf a)) a n v
+mergedIn m a n v = mergedOf (wordAt (m .system .registers) (wordAddress a)) a n v
 
--- a select or a deselect, by bit 6; or the low byte
+-- what a write to a port carries to the flash: a select or a deselect, by bit 6; or the low byte
+abbrev pub flashAt : Port → ℕ → List Step
+flashAt Select new = flash.cs (has new 0x40) ∷ []
+flashAt Send new = flash.byte (new % 256) ∷ []
+flashAt LcdControl new = []
+flashAt RtcCommand new = []
+flashAt (Acts e) new = []
+flashAt (Shows v) new = []
+flashAt Holds new = []
+flashAt Other new = []
+
 unfoldable pub flashWord : ℕ → ℕ → List Step
-flashWord word new =
-    cond (eqb word 0xC0150000) (flash.cs (has new 0x40) ∷ []) (cond (eqb word 0xC0150008) (flash.byte (new % 256) ∷ []) [])
+flashWord word new = flashAt (portOf word) new
 
 -- one data byte or two, the high one first
 unfoldable pub dataSent : Bool → ℕ → List Act
@@ -109,35 +122,45 @@ dataSent one w =
     (panel.input (panel.byte (w % 256)) ∷ [])
     (panel.input (panel.byte (w / 256 % 256)) ∷ panel.input (panel.byte (w % 256)) ∷ [])
 
--- as many bytes as the framebuffer has, from the address in 0xD050033C on, unless that is 0
+-- as many bytes as the framebuffer has, from the address in LCD-DMA on, unless that is 0
 unfoldable pub copySent : Registers → List ℕ → List ℕ → List ℕ → ℕ → List Act
-copySent r m s g n =
-    cond (eqb (ownAt (r .own) 0xD050033C) 0) [] (panel.input (panel.copy (blockOf r m s g (ownAt (r .own) 0xD050033C) n)) ∷ [])
+copySent r ram sram gpio n =
+    cond (eqb (ownAt (r .own) LCD-DMA) 0) []
+    (panel.input (panel.copy (blockOf r ram sram gpio (ownAt (r .own) LCD-DMA) n)) ∷ [])
 
 -- bits 4 to 7: 0x80 a command, 0xA0 data, 0xD0 a DMA
 unfoldable pub actSent : Registers → List ℕ → List ℕ → List ℕ → ℕ → ℕ → List Act
-actSent r m s g n val =
-    cond (eqb (bitAnd val 0xF0) 0x80) (panel.order (ownAt (r .own) 0xD050016C % 256) ∷ [])
-    (cond (eqb (bitAnd val 0xF0) 0xA0) (dataSent (has val 0x2000) (ownAt (r .own) 0xD050016C))
-    (cond (eqb (bitAnd val 0xF0) 0xD0) (copySent r m s g n) []))
+actSent r ram sram gpio n val =
+    cond (eqb (bitAnd val 0xF0) 0x80) (panel.order (ownAt (r .own) LCD-DATA % 256) ∷ [])
+    (cond (eqb (bitAnd val 0xF0) 0xA0) (dataSent (has val 0x2000) (ownAt (r .own) LCD-DATA))
+    (cond (eqb (bitAnd val 0xF0) 0xD0) (copySent r ram sram gpio n) []))
 
--- the control word, stored, acts where bit 0 is set
+-- and to the panel: its control word, stored, acts where bit 0 is set
+abbrev pub panelAt : Port → Machine → ℕ → List Act
+panelAt Select m new = []
+panelAt Send m new = []
+panelAt LcdControl m new =
+    cond (has new 1) (actSent (withControl (m .system .registers) new) (m .ram) (m .sram) (m .gpio) (length (m .fb))
+    new) []
+panelAt RtcCommand m new = []
+panelAt (Acts e) m new = []
+panelAt (Shows v) m new = []
+panelAt Holds m new = []
+panelAt Other m new = []
+
 unfoldable pub panelWord : Machine → ℕ → ℕ → List Act
-panelWord m word new =
-    cond (eqb word 0xD0500140 && has new 1)
-    (actSent (withControl (m .system .registers) new) (m .ram) (m .sram) (m .gpio) (length (m .fb)) new)
-    []
+panelWord m word new = panelAt (portOf word) m new
 
 -- ---- what one operation carries, and what a run of them carries
 
 abbrev pub flashBy : Machine → Kind → List Step
-flashBy m (writes a n v) = cond (lands a n) (flashWord (wordOf a) (mergedIn m a n v)) []
+flashBy m (writes a n v) = cond (lands a n) (flashWord (wordAddress a) (mergedIn m a n v)) []
 flashBy m (lays a bytes) = []
 flashBy m wipes = []
 flashBy m other = []
 
 abbrev pub panelBy : Machine → Kind → List Act
-panelBy m (writes a n v) = cond (lands a n) (panelWord m (wordOf a) (mergedIn m a n v)) []
+panelBy m (writes a n v) = cond (lands a n) (panelWord m (wordAddress a) (mergedIn m a n v)) []
 panelBy m (lays a bytes) = []
 panelBy m wipes = []
 panelBy m other = []
@@ -159,22 +182,23 @@ panelCarried m (o ∷ os) = panelActs m o ++ panelCarried (step m o .machine) os
 
 -- ---- what the flash answers in a run
 
--- its answer, which 0xC015000C reads, for each byte of these steps
-abbrev pub heardAt : List Step → ℕ → List ℕ
-heardAt [] answer = []
-heardAt (flash.cs on ∷ xs) answer = heardAt xs answer
-heardAt (flash.byte b ∷ xs) answer = answer ∷ heardAt xs answer
+-- its answer, which SPIFC-ANSWER reads, for each byte of these steps
+abbrev pub answersAt : List Step → ℕ → List ℕ
+answersAt [] answer = []
+answersAt (flash.cs on ∷ xs) answer = answersAt xs answer
+answersAt (flash.byte b ∷ xs) answer = answer ∷ answersAt xs answer
 
 -- the answer after each operation that carries a byte
-unfoldable pub heard : Machine → List Op → List ℕ
-heard m [] = []
-heard m (o ∷ os) = heardAt (flashSteps m o) (step m o .machine .system .devices .flash .rx) ++ heard (step m o .machine) os
+unfoldable pub flashAnswers : Machine → List Op → List ℕ
+flashAnswers m [] = []
+flashAnswers m (o ∷ os) = answersAt (flashSteps m o) (step m o .machine .system .devices .flash .rx) ++ flashAnswers
+    (step m o .machine) os
 
 -- ---- operations that leave the flash's array to its chip
 
 -- not in the first 8 MiB of RAM
 abbrev pub Past : Place → Type 0
-Past (Ram o) = 8388608 ≤ o
+Past (Ram o) = FLASH-SIZE ≤ o
 Past (Sram o) = Unit {0}
 Past (Gpio o) = Unit {0}
 Past Register = Unit {0}

@@ -1,5 +1,5 @@
--- 01's table of refusals, each a condition on what an operation is given and on the machine that it comes to; and their order. How a
--- step comes to its answer is not asked here.
+-- 01's table of refusals, each a condition on what an operation is given and on the machine that it comes to; and
+-- their order. How a step comes to its answer is not asked here.
 use Prim.Native.Nat.{ℕ}
 use mathlib.Core.Bool.{Bool, true, false, cond, not, _&&_, _||_}
 use mathlib.Core.List.{List, [], _∷_}
@@ -8,8 +8,10 @@ use lib.Dec.{eqb, leb}
 use lib.ListN.{length}
 use lib.Ieee.{Float, binary64, ofBits, lt}
 use Rattle.whole.specs.Limits.{goodTime, goodTurbo}
+use Rattle.map.specs.Numbers.{SOUND-CONTROL, SOUND-RELOAD, SOUND-COMPARE}
 use Rattle.registers.specs.declared.Registers.{Registers}
-use Rattle.registers.specs.Words.{slotOf, unstored, ownAt, wordAt}
+use Rattle.registers.specs.Words.{unstored, ownAt, wordAt}
+use Rattle.registers.specs.Ports.{slotOf}
 use Rattle.registers.specs.Within.{nonZero}
 use Rattle.memory.specs.declared.Place.{Place}
 use Rattle.memory.specs.declared.Place.the-variants.{Ram, Sram, Gpio, Register, Stray}
@@ -23,11 +25,12 @@ use Rattle.clock.specs.declared.Times.{Times}
 use Rattle.clock.specs.Times.{gameAfter}
 use Rattle.keys.specs.Script.{placesOf, waitingIn}
 use Rattle.time.specs.Next.{finite, eventOf}
-use Rattle.bus.specs.Write.{wordOf}
+use Rattle.bus.specs.Write.{wordAddress}
 use Rattle.time.specs.Clocks.{clockIn}
 use Rattle.system.specs.declared.System.{System}
 use Rattle.system.specs.System.{Machine}
-use Rattle.system.specs.Steps.{Op, read, write, advance, nextEvent, pending, turbo, live, hold, press, takeEvent, counters, pixel, wipe}
+use Rattle.system.specs.Steps.{Op, read, write, advance, nextEvent, pending, turbo, live, hold, press}
+use Rattle.system.specs.Steps.{takeEvent, counters, pixel, wipe}
 use Rattle.system.specs.Steps.{peek8, peek32, poke, keysHeld, irqWanted}
 
 -- ---- what an operation is given
@@ -72,34 +75,36 @@ isRegister Stray = false
 abbrev pub strayWrite : ℕ → Bool
 strayWrite a = isStray (placeOf a)
 
--- the new value is not zero, the word holds zero, it has no storage of its own (and is not one that is never stored), and 256 others
--- are non-zero
+-- the new value is not zero, the word holds zero, it has no storage of its own (and is not one that is never stored),
+-- and 256 others are non-zero
 unfoldable pub noRoom : Registers → ℕ → ℕ → Bool
 noRoom r word new =
-    not (eqb new 0) && eqb (wordAt r word) 0 && eqb (slotOf word) 76 && not (unstored word) && eqb (nonZero (r .values)) 256
+    not (eqb new 0) && eqb (wordAt r word) 0 && eqb (slotOf word) 76 && not (unstored word) && eqb
+    (nonZero (r .values)) 256
 
 -- the word that a write would make of the one that it reaches
 abbrev pub newWord : Registers → ℕ → ℕ → ℕ → ℕ
-newWord r a n v = mergedOf (wordAt r (wordOf a)) a n v
+newWord r a n v = mergedOf (wordAt r (wordAddress a)) a n v
 
 -- 4
 abbrev pub registersFull : Registers → ℕ → ℕ → ℕ → Bool
-registersFull r a n v = isRegister (placeOf a) && noRoom r (wordOf a) (newWord r a n v)
+registersFull r a n v = isRegister (placeOf a) && noRoom r (wordAddress a) (newWord r a n v)
 
 -- control, reload and compare of timer 4, which the sound follows
 abbrev pub soundWord : ℕ → Bool
-soundWord word = eqb word 0xC0020080 || eqb word 0xC0020088 || eqb word 0xC002008C
+soundWord word = eqb word SOUND-CONTROL || eqb word SOUND-RELOAD || eqb word SOUND-COMPARE
 
 -- what is stored of it: of a control word all but bit 15
 abbrev pub storedOf : ℕ → ℕ → ℕ
-storedOf word new = cond (eqb word 0xC0020080) (bitAnd new 0xFFFF7FFF) new
+storedOf word new = cond (eqb word SOUND-CONTROL) (bitAnd new 0xFFFF7FFF) new
 
 -- what word w then holds
 abbrev pub thenAt : List ℕ → ℕ → ℕ → ℕ → ℕ
 thenAt own word new w = cond (eqb word w) (storedOf word new) (ownAt own w)
 
 abbrev pub toneThen : List ℕ → ℕ → ℕ → ℕ → Tone
-toneThen own clock word new = toneOf clock (thenAt own word new 0xC0020080) (thenAt own word new 0xC0020088) (thenAt own word new 0xC002008C)
+toneThen own clock word new = toneOf clock (thenAt own word new SOUND-CONTROL) (thenAt own word new SOUND-RELOAD)
+    (thenAt own word new SOUND-COMPARE)
 
 -- a write adds an event where the tone that timer 4's words then give is another
 unfoldable pub addsEvent : List ℕ → Tone → ℕ → ℕ → ℕ → Bool
@@ -108,7 +113,8 @@ addsEvent own tone clock word new = soundWord word && differOf (toneThen own clo
 -- 5: a write would add an event while 256 wait
 abbrev pub soundFull : System → List ℕ → ℕ → ℕ → ℕ → Bool
 soundFull s sram a n v =
-    isRegister (placeOf a) && addsEvent (s .registers .own) (s .devices .tone) (clockIn sram) (wordOf a) (newWord (s .registers) a n v)
+    isRegister (placeOf a) && addsEvent (s .registers .own) (s .devices .tone) (clockIn sram) (wordAddress a)
+    (newWord (s .registers) a n v)
     && eqb (length (waiting (s .queue))) 256
 
 -- ---- keys, events
@@ -123,7 +129,8 @@ noEvent q = eqb (length (waiting q)) 0
 
 -- 13: the next event time is not finite
 abbrev pub noNextTime : System → List ℕ → Bool
-noNextTime s sram = not (finite (eventOf (s .registers .own) (s .presses .times) (s .devices .clocks) (s .keys) (clockIn sram)))
+noNextTime s sram = not (finite (eventOf (s .registers .own) (s .presses .times) (s .devices .clocks) (s .keys)
+    (clockIn sram)))
 
 -- ---- which refusals an operation can be given, and the order
 

@@ -1,22 +1,25 @@
--- Every operation in one definition: what it is given, what it answers, what it leaves. Demand 2's definition of the whole.
+-- Every operation in one definition: what it is given, what it answers, what it leaves. Demand 2's definition of the
+-- whole.
 use Prim.Native.Nat.{ℕ, _+_, _*_}
 use mathlib.Core.Bool.{Bool}
 use mathlib.Core.List.{List, [], _∷_}
-use lib.Ieee.{Float, binary64, ofBits}
+use lib.Ieee.{Float}
 use lib.ListN.{length}
+use Rattle.whole.specs.Forms.{nought}
 use Rattle.whole.specs.Forms.{bit}
 use Rattle.panel.specs.declared.Colours.{Colours}
 use Rattle.panel.specs.Colour.{pixelAt}
 use Rattle.keys.specs.declared.Held.{Held}
 use Rattle.time.specs.declared.NextTime.{NextTime}
-use Rattle.bus.specs.Block.{Plain, plain, peekOf, wordOf, laidOf}
+use Rattle.bus.specs.Block.{Plain, plain, peekOf, peeked32, laidOf}
 use Rattle.system.specs.declared.System.{System}
 use Rattle.system.specs.declared.Changed.{Changed}
 use Rattle.system.specs.declared.Read.{Read}
 use Rattle.system.specs.declared.Taken.{Taken}
 use Rattle.system.specs.declared.Counters.{Counters}
 use Rattle.system.specs.System.{Machine, machine, Left}
-use Rattle.system.specs.Calls.{Moved, readOf, writeOf, advanceOf, nextOf, turboOf, pendingOf, wantedOf, takeOf, liveOf, holdOf, pressOf, heldOf, countersOf, wipedOf}
+use Rattle.system.specs.Calls.{Moved, readOf, writeOf, advanceOf, nextOf, turboOf, pendingOf, wantedOf, takeOf}
+use Rattle.system.specs.Calls.{liveOf, holdOf, pressOf, heldOf, countersOf, wipedOf}
 
 -- read and write: address, size, value; keys: the key, and whether it is down or its time
 pub data Op : Type 0 where
@@ -49,9 +52,6 @@ pub record Outcome : Type 0 where
   pub x : Float
   pub y : Float
   pub z : Float
-
-abbrev pub nought : Float
-nought = ofBits binary64 0
 
 abbrev pub words : Machine → ℕ → ℕ → ℕ → ℕ → Outcome
 words m n a b c = record { machine = m; refusal = n; a = a; b = b; c = c; x = nought; y = nought; z = nought }
@@ -115,7 +115,7 @@ step m counters = byCounters m (countersOf (m .system))
 step m (pixel k) = byColours m (pixelAt (m .fb) k)
 step m wipe = plainly (wipedOf (length (m .ram)) (length (m .sram)) (length (m .gpio)) (length (m .fb))) 0
 step m (peek8 a) = words m 0 (peekOf (m .system .registers) (m .ram) (m .sram) (m .gpio) a) 0 0
-step m (peek32 a) = words m 0 (wordOf (m .system .registers) (m .ram) (m .sram) (m .gpio) a) 0 0
+step m (peek32 a) = words m 0 (peeked32 (m .system .registers) (m .ram) (m .sram) (m .gpio) a) 0 0
 step m (poke a bytes) = byPoke m (laidOf (plain (m .ram) (m .sram) (m .gpio)) a bytes)
 step m keysHeld = byHeld m (heldOf (m .system))
 step m irqWanted = words m 0 (bit (wantedOf (m .system))) 0 0

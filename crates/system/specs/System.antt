@@ -33,7 +33,7 @@ pub record Machine : Type 0 where
   pub fb : List ℕ
 
 abbrev pub machine : System → List ℕ → List ℕ → List ℕ → List ℕ → Machine
-machine s m r g f = record { system = s; ram = m; sram = r; gpio = g; fb = f }
+machine s ram sram gpio fb = record { system = s; ram = ram; sram = sram; gpio = gpio; fb = fb }
 
 -- what a write leaves, and 01's number
 pub record Left : Type 0 where
@@ -53,10 +53,12 @@ presses t c = record { times = t; codes = c }
 
 abbrev pub withOwn : System → List ℕ → System
 withOwn s own =
-    systemOf (registersOf own (s .registers .addresses) (s .registers .values)) (s .rtc) (s .page) (s .devices) (s .queue) (s .presses) (s .keys)
+    systemOf (registersOf own (s .registers .addresses) (s .registers .values)) (s .rtc) (s .page) (s .devices)
+    (s .queue) (s .presses) (s .keys)
 
 abbrev pub withClocks : System → Clocks → System
-withClocks s c = systemOf (s .registers) (s .rtc) (s .page) (part.withClocks (s .devices) c) (s .queue) (s .presses) (s .keys)
+withClocks s c = systemOf (s .registers) (s .rtc) (s .page) (part.withClocks (s .devices) c) (s .queue) (s .presses)
+    (s .keys)
 
 abbrev pub withTimes : System → Times → System
 withTimes s t = withClocks s (timesWith (s .devices .clocks) t)
@@ -73,11 +75,13 @@ withQueue s q = systemOf (s .registers) (s .rtc) (s .page) (s .devices) q (s .pr
 -- ---- the bus's world in it
 
 abbrev pub worldIn : Machine → World
-worldIn m = world.world (m .system .registers) (m .system .rtc) (m .system .page) (m .ram) (m .sram) (m .gpio) (m .fb) (m .system .devices)
+worldIn m = world.world (m .system .registers) (m .system .rtc) (m .system .page) (m .ram) (m .sram) (m .gpio) (m .fb)
+    (m .system .devices)
 
 abbrev pub withWorld : Machine → World → Queue → Machine
 withWorld m w q =
-    machine (systemOf (w .registers) (w .rtc) (w .page) (w .devices) q (m .system .presses) (m .system .keys)) (w .ram) (w .sram) (w .gpio) (w .fb)
+    machine (systemOf (w .registers) (w .rtc) (w .page) (w .devices) q (m .system .presses) (m .system .keys))
+    (w .ram) (w .sram) (w .gpio) (w .fb)
 
 -- ---- after a wipe; the flash is in the Rust's mode
 
@@ -86,4 +90,5 @@ freshDevices = devicesOf (madeIn Rust .chip) freshPanel freshClocks (freshRtc .l
 
 unfoldable pub freshSystem : System
 freshSystem =
-    systemOf freshRegisters (freshRtc .regs) (madeIn Rust .page) freshDevices emptyQueue (presses (freshButtons .times) (freshButtons .codes)) (freshButtons .keys)
+    systemOf freshRegisters (freshRtc .regs) (madeIn Rust .page) freshDevices emptyQueue
+    (presses (freshButtons .times) (freshButtons .codes)) (freshButtons .keys)

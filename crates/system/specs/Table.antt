@@ -2,8 +2,9 @@
 use Prim.Native.Nat.{ℕ}
 use mathlib.Core.List.{List, [], _∷_}
 use Rattle.whole.specs.Table.{Example}
+use Rattle.map.specs.Numbers.{LCD-STATUS}
 use Rattle.registers.specs.Words.{ownWith, wordAt}
-use Rattle.bus.specs.Write.{wordOf}
+use Rattle.bus.specs.Write.{wordAddress}
 use Rattle.system.specs.System.{Machine, machine, withOwn, freshSystem}
 use Rattle.system.specs.Steps.{step, write}
 
@@ -17,12 +18,12 @@ holding word v = machine (withOwn freshSystem (ownWith (freshSystem .registers .
 
 -- the word that an address lies in, once v is written there
 abbrev pub written : Machine → ℕ → ℕ → ℕ → ℕ
-written m a n v = wordAt (step m (write a n v) .machine .system .registers) (wordOf a)
+written m a n v = wordAt (step m (write a n v) .machine .system .registers) (wordAddress a)
 
 abbrev pub table : List Example
 table =
-    record { given = written (holding 0xD050018C 0x2040) 0xD050018C 1 0x40 ∷ []; said = 0 ∷ [] }
-    ∷ record { given = written (holding 0xD050018C 0x2040) 0xD050018C 4 0x40 ∷ []; said = 0x2000 ∷ [] }
-    ∷ record { given = written fresh 0xC0100002 4 0x11223344 ∷ []; said = 0x33440000 ∷ [] }
-    ∷ record { given = written fresh 0xC0100003 2 0xBEEF ∷ []; said = 0xEF000000 ∷ [] }
+    record { given = written (holding LCD-STATUS 0x2040) LCD-STATUS 1 0x40 ∷ []; expected = 0 ∷ [] }
+    ∷ record { given = written (holding LCD-STATUS 0x2040) LCD-STATUS 4 0x40 ∷ []; expected = 0x2000 ∷ [] }
+    ∷ record { given = written fresh 0xC0100002 4 0x11223344 ∷ []; expected = 0x33440000 ∷ [] }
+    ∷ record { given = written fresh 0xC0100003 2 0xBEEF ∷ []; expected = 0xEF000000 ∷ [] }
     ∷ []

@@ -52,8 +52,10 @@ pub fn write(
     size: u32,
     value: u32,
 ) -> Changed
-    ensures { λ r. ⌜ left (machine (r .system) (now (ram .exit)) (now (sram .exit)) (now (gpio .exit)) (now (fb .exit))) (r .refusal)
-        ≡ writeOf (machine s (now (ram .entry)) (now (sram .entry)) (now (gpio .entry)) (now (fb .entry))) addr size value ⌝ }
+    ensures { λ r. ⌜ left (machine (r .system) (now (ram .exit)) (now (sram .exit)) (now (gpio .exit))
+        (now (fb .exit))) (r .refusal)
+        ≡ writeOf (machine s (now (ram .entry)) (now (sram .entry)) (now (gpio .entry)) (now (fb .entry))) addr size
+        value ⌝ }
 {
     let registers = s.registers;
     let mut own = registers.own;

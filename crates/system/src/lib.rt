@@ -1,8 +1,8 @@
 // The whole: `System` of core/src/sys.rs by value, beside the lent memories.
 //
-// Each call takes the state and gives the later one. What is lent is a memory of any length: what lies past its end reads as 0
-// and is not stored. A caller that steps often uses the functions of crates bus and time, which these are around, and wipe's
-// reset and wipe_all, over lent arrays.
+// Each call takes the state and gives the later one. What is lent is a memory of any length: what lies past its end
+// reads as 0 and is not stored. A caller that steps often uses the functions of crates bus and time, which these are
+// around, and wipe's reset and wipe_all, over lent arrays.
 pub mod access;
 pub mod buttons;
 pub mod look;

@@ -1,7 +1,7 @@
 // What can be seen without a change: counters, and bytes of the bus.
 ghost use mathlib.Core.Path.{_≡_};
 ghost use lib.ListN.{length};
-ghost use Rattle.bus.specs.Block.{block, readOf, peekOf, wordOf};
+ghost use Rattle.bus.specs.Block.{block, readOf, peekOf, peeked32};
 ghost use Rattle.system.specs.Calls.{countersOf};
 use crate::Counters;
 use crate::System;
@@ -31,7 +31,7 @@ pub fn peek8(s: System, ram: &[u8], sram: &[u8], gpio: &[u8], addr: u32) -> u8
 }
 
 pub fn peek32(s: System, ram: &[u8], sram: &[u8], gpio: &[u8], addr: u32) -> u32
-    ensures { λ r. ⌜ r ≡ wordOf (s .registers) (now (ram .entry)) (now (sram .entry)) (now (gpio .entry)) addr ⌝ }
+    ensures { λ r. ⌜ r ≡ peeked32 (s .registers) (now (ram .entry)) (now (sram .entry)) (now (gpio .entry)) addr ⌝ }
 {
     let registers = s.registers;
     let own = registers.own;
@@ -48,7 +48,8 @@ pub fn read_block(
     addr: u32,
     buf: &mut [u8],
 ) -> bool
-    ensures { λ r. ⌜ block r (now (buf .exit)) ≡ readOf (s .registers) (now (ram .entry)) (now (sram .entry)) (now (gpio .entry)) addr (length (now (buf .entry))) ⌝ }
+    ensures { λ r. ⌜ block r (now (buf .exit)) ≡ readOf (s .registers) (now (ram .entry)) (now (sram .entry))
+        (now (gpio .entry)) addr (length (now (buf .entry))) ⌝ }
 {
     let registers = s.registers;
     let own = registers.own;

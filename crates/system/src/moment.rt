@@ -23,7 +23,7 @@ pub fn advance(s: System, sram: &[u8], gpio: &mut [u8], to: f64) -> Changed
     let mut cells = [0; CELLS];
     let mut floats = [0.0; FLOATS];
     state::wholes::put_parts(&mut cells, &mut floats, parts_of(s));
-    let refusal = time::moves::advance(
+    let refusal = time::advancing::advance(
         &mut own,
         &mut cells,
         &mut floats,

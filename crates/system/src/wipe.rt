@@ -24,7 +24,7 @@ use timer::Ring;
 fn fresh_clocks() -> Clocks
     ensures { λ r. ⌜ r ≡ freshClocks ⌝ }
 {
-    let times = clock::time::fresh();
+    let times = clock::pace::fresh();
     let timer = timer::fresh();
     let irq = clock::day::fresh();
     Clocks {

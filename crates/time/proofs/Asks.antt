@@ -33,7 +33,8 @@ use Rattle.time.specs.Bank.{Asked, asked, pacedPut, keysAsked, pressed, 
 
 -- ---- turbo
 
-pub paced-by : (x : Parts) (t : Times) {to : Paced} {y : Parts} → to ≡ By t → t ≡ turboWith (x .devices .clocks .times) (t .turbo) → y ≡ turboPut x (t .turbo)
+pub paced-by : (x : Parts) (t : Times) {to : Paced} {y : Parts} → to ≡ By t
+    → t ≡ turboWith (x .devices .clocks .times) (t .turbo) → y ≡ turboPut x (t .turbo)
     → asked y 0 ≡ pacedPut x to
 paced-by x t {to} {y} h k e = rw h (ap (λ (z : Parts). asked z 0) (e ∙ ap (λ (z : Times). timesPut x z) (sym k)))
 
@@ -41,7 +42,8 @@ pub paced-bad : (x : Parts) {to : Paced} → to ≡ BadTurbo → asked x 2 ≡ p
 paced-bad x h = rw h
 
 -- set_turbo moves the turbo alone
-pub paced-turbo : {s : Times} (f : List Float) (to : Float) {p : Paced} (t : Times) → s ≡ timesIn f → p ≡ pacedOf s to → p ≡ By t
+pub paced-turbo : {s : Times} (f : List Float) (to : Float) {p : Paced} (t : Times) → s ≡ timesIn f → p ≡ pacedOf s to
+    → p ≡ By t
     → t ≡ turboWith (timesIn f) (t .turbo)
 unfolding pacedOf
 paced-turbo {s} f to t a b e = by (goodTurbo to) (sym (b ∙ ap (λ (z : Times). pacedOf z to) a) ∙ e)
@@ -50,7 +52,8 @@ paced-turbo {s} f to t a b e = by (goodTurbo to) (sym (b ∙ ap (λ (z : Times).
     by true h = let z : turboWith (timesIn f) to ≡ t = cc in rw (← z)
     by false h = absurd (let z : _≡_ {A = ℕ} 0 1 = cc in omega arith)
 
-pub paced-of : {K : Type 0} (x : Parts) (f : List Float) (to : Float) {times : Times} {p : Paced} {a : Asked} → times ≡ timesIn f → p ≡ pacedOf times to
+pub paced-of : {K : Type 0} (x : Parts) (f : List Float) (to : Float) {times : Times} {p : Paced} {a : Asked}
+    → times ≡ timesIn f → p ≡ pacedOf times to
     → (a ≡ pacedPut x p) × K → (a ≡ pacedPut x (pacedOf (timesIn f) to)) × K
 paced-of x f to t e h = (h .0 ∙ ap (λ (z : Paced). pacedPut x z) (e ∙ ap (λ (z : Times). pacedOf z to) t), h .1)
 
@@ -74,40 +77,56 @@ pub hold-of : {K : Type 0} (x : Parts) (key : ℕ) (until : Float) {t : Tap} {a 
     → (a ≡ keysAsked x (tapPut (x .keys) key t)) × K → (a ≡ keysAsked x (holdOf (x .keys) key until)) × K
 hold-of x key until e i = (i .0 ∙ ap (λ (o : live.Outcome). keysAsked x o) (hold-by (x .keys) key until e), i .1)
 
-pub press-of : (t : List Float) (c l : List ℕ) (f : List Float) (key : ℕ) (at : Float) {moment : Times} {before : Keys} {k n m : ℕ} {t′ : List Float} {c′ : List ℕ} {y : Parts}
+pub press-of : (t : List Float) (c l : List ℕ) (f : List Float) (key : ℕ) (at : Float) {moment : Times}
+    {before : Keys} {k n m : ℕ} {t′ : List Float} {c′ : List ℕ} {y : Parts}
     → moment ≡ timesIn f → before ≡ keysIn l f
-    → record { refusal = k; script = script.script t′ c′ n } ≡ pressOf (script.script t c (before .count)) key at (moment .now) → y ≡ countPut (partsIn l f) n → m ≡ k
-    → pressed t′ c′ (asked y m) ≡ pressedOf (partsIn l f) (pressOf (script.script t c (keysIn l f .count)) key at (timesIn f .now))
+    → record { refusal = k; script = script.script t′ c′ n } ≡ pressOf (script.script t c (before .count)) key at
+    (moment .now) → y ≡ countPut (partsIn l f) n → m ≡ k
+    → pressed t′ c′ (asked y m) ≡ pressedOf (partsIn l f) (pressOf (script.script t c (keysIn l f .count)) key at
+    (timesIn f .now))
 press-of t c l f key at {moment} {before} {k} {n} {m} {t′} {c′} {y} a b e h i =
-    let o : record { refusal = k; script = script.script t′ c′ n } ≡ pressOf (script.script t c (keysIn l f .count)) key at (timesIn f .now)
-    = e ∙ ap (λ (z : Keys). pressOf (script.script t c (z .count)) key at (moment .now)) b ∙ ap (λ (z : Times). pressOf (script.script t c (keysIn l f .count)) key at (z .now)) a in
-    ap (λ (z : Parts). pressed t′ c′ (asked z m)) h ∙ ap (λ (z : ℕ). pressed t′ c′ (asked (countPut (partsIn l f) n) z)) i
+    let o : record { refusal = k; script = script.script t′ c′ n } ≡ pressOf (script.script t c (keysIn l f .count))
+    key at (timesIn f .now)
+    = e ∙ ap (λ (z : Keys). pressOf (script.script t c (z .count)) key at (moment .now)) b ∙ ap
+    (λ (z : Times). pressOf (script.script t c (keysIn l f .count)) key at (z .now)) a in
+    ap (λ (z : Parts). pressed t′ c′ (asked z m)) h ∙ ap
+    (λ (z : ℕ). pressed t′ c′ (asked (countPut (partsIn l f) n) z)) i
     ∙ ap (λ (z : script.Outcome). pressedOf (partsIn l f) z) o
 
 -- refused, the count is as it was
-pub count-still : (t : List Float) (c l : List ℕ) (f : List Float) (key : ℕ) (at now : Float) {before : Keys} {k n : ℕ} {t′ : List Float} {c′ : List ℕ}
-    → before ≡ keysIn l f → record { refusal = k; script = script.script t′ c′ n } ≡ pressOf (script.script t c (before .count)) key at now → k ≢ 0
+pub count-still : (t : List Float) (c l : List ℕ) (f : List Float) (key : ℕ) (at now : Float) {before : Keys}
+    {k n : ℕ} {t′ : List Float} {c′ : List ℕ}
+    → before ≡ keysIn l f → record { refusal = k; script = script.script t′ c′ n } ≡ pressOf
+    (script.script t c (before .count)) key at now → k ≢ 0
     → partsIn l f ≡ countPut (partsIn l f) n
 count-still t c l f key at now {before} {k} {n} b e h =
     let s : script.Script = script.script t c (before .count) in
-    let z : pressOf s key at now .script ≡ s = press-still s key at now (λ w. h (ap (λ (o : script.Outcome). o .refusal) e ∙ w)) in
+    let z : pressOf s key at now .script ≡ s = press-still s key at now
+    (λ w. h (ap (λ (o : script.Outcome). o .refusal) e ∙ w)) in
     let m : n ≡ keysIn l f .count
-    = ap (λ (o : script.Outcome). o .script .count) e ∙ ap (λ (o : script.Script). o .count) z ∙ ap (λ (o : Keys). o .count) b in
+    = ap (λ (o : script.Outcome). o .script .count) e ∙ ap (λ (o : script.Script). o .count) z ∙ ap
+    (λ (o : Keys). o .count) b in
     ap (λ (o : ℕ). countPut (partsIn l f) o) (sym m)
 
 -- ---- sound events
 
-pub take-of : (a f u : List Float) (l : List ℕ) (v : List Float) {ring q : Ring} {e : Event} {k m : ℕ} {a′ f′ u′ : List Float} {y : Parts} → ring ≡ ringIn l
-    → record { refusal = k; event = e; queue = queueOf a′ f′ u′ q } ≡ takeOf (queueOf a f u ring) → y ≡ ringPut (partsIn l v) q → m ≡ k
+pub take-of : (a f u : List Float) (l : List ℕ) (v : List Float) {ring q : Ring} {e : Event} {k m : ℕ}
+    {a′ f′ u′ : List Float} {y : Parts} → ring ≡ ringIn l
+    → record { refusal = k; event = e; queue = queueOf a′ f′ u′ q } ≡ takeOf (queueOf a f u ring)
+    → y ≡ ringPut (partsIn l v) q → m ≡ k
     → took a′ f′ u′ (asked y m) e ≡ tookOf (partsIn l v) (takeOf (queueOf a f u (ringIn l)))
 take-of a f u l v {ring} {q} {e} {k} {m} {a′} {f′} {u′} {y} r o h i =
-    ap (λ (z : Parts). took a′ f′ u′ (asked z m) e) h ∙ ap (λ (z : ℕ). took a′ f′ u′ (asked (ringPut (partsIn l v) q) z) e) i
+    ap (λ (z : Parts). took a′ f′ u′ (asked z m) e) h ∙ ap
+    (λ (z : ℕ). took a′ f′ u′ (asked (ringPut (partsIn l v) q) z) e) i
     ∙ ap (λ (z : TakeOutcome). tookOf (partsIn l v) z) (o ∙ ap (λ (z : Ring). takeOf (queueOf a f u z)) r)
 
 -- where none waits, the ring is as it was
-pub ring-still : (a f u : List Float) (l : List ℕ) (v : List Float) {ring q : Ring} {e : Event} {k : ℕ} {a′ f′ u′ : List Float} → ring ≡ ringIn l
-    → record { refusal = k; event = e; queue = queueOf a′ f′ u′ q } ≡ takeOf (queueOf a f u ring) → k ≢ 0 → partsIn l v ≡ ringPut (partsIn l v) q
+pub ring-still : (a f u : List Float) (l : List ℕ) (v : List Float) {ring q : Ring} {e : Event} {k : ℕ}
+    {a′ f′ u′ : List Float} → ring ≡ ringIn l
+    → record { refusal = k; event = e; queue = queueOf a′ f′ u′ q } ≡ takeOf (queueOf a f u ring) → k ≢ 0
+    → partsIn l v ≡ ringPut (partsIn l v) q
 ring-still a f u l v {ring} {q} r o h =
-    let z : takeOf (queueOf a f u ring) .queue ≡ queueOf a f u ring = take-still (queueOf a f u ring) (λ w. h (ap (λ (x : TakeOutcome). x .refusal) o ∙ w)) in
+    let z : takeOf (queueOf a f u ring) .queue ≡ queueOf a f u ring = take-still (queueOf a f u ring)
+    (λ w. h (ap (λ (x : TakeOutcome). x .refusal) o ∙ w)) in
     let m : q ≡ ringIn l = ap (λ (x : TakeOutcome). x .queue .ring) o ∙ ap (λ (x : Queue). x .ring) z ∙ r in
     ap (λ (x : Ring). ringPut (partsIn l v) x) (sym m)

@@ -10,15 +10,16 @@ use Rattle.clock.specs.declared.Times.{Times}
 use Rattle.keys.specs.declared.Keys.{Keys}
 use Rattle.keys.specs.Edges.{minOf}
 use Rattle.state.specs.declared.Clocks.{Clocks}
-use Rattle.time.specs.Clocks.{controlAt, reloadAt}
+use Rattle.time.specs.Clocks.{controlWord, reloadWord}
 use Rattle.time.specs.Irq.{pendingAt, timerLine, wantedOf}
 use Rattle.state.specs.Parts.{none}
 use Rattle.time.specs.Next.{timerNext, runs, pends, anyPends, withTimer, withTimers, earliest, eventOf}
 use Rattle.time.specs.Next.{finite, answered}
 
 -- ---- the next event
-module _ (own : List ℕ) (n : ℕ) (t : Timer) (clock : ℕ) (so : Float) (control : ℕ) (b : Bool) (h : control ≡ controlAt own n) (e : b ≡ runs control) where
-  pub timer-runs : {u : Timer} {reload : ℕ} {next r : Float} → b ≡ true → reload ≡ reloadAt own n → u ≡ t
+module _ (own : List ℕ) (n : ℕ) (t : Timer) (clock : ℕ) (so : Float) (control : ℕ) (b : Bool)
+    (h : control ≡ controlWord own n) (e : b ≡ runs control) where
+  pub timer-runs : {u : Timer} {reload : ℕ} {next r : Float} → b ≡ true → reload ≡ reloadWord own n → u ≡ t
       → next ≡ timerNext u clock control reload → r ≡ minOf so next → r ≡ withTimer own n t clock so
   unfolding withTimer
   timer-runs y k u f g = rw (← h, ← e, y, ← k, ← u, ← f) g
@@ -27,9 +28,12 @@ module _ (own : List ℕ) (n : ℕ) (t : Timer) (clock : ℕ) (so : Float) (cont
   unfolding withTimer
   timer-stands y = rw (← h, ← e, y)
 
-pub timers-ahead : (own : List ℕ) (ts : List Timer) (clock : ℕ) (so a b c d e f : Float) → a ≡ withTimer own 0 (getD ts 0 none) clock so
-    → b ≡ withTimer own 1 (getD ts 1 none) clock a → c ≡ withTimer own 2 (getD ts 2 none) clock b → d ≡ withTimer own 3 (getD ts 3 none) clock c
-    → e ≡ withTimer own 4 (getD ts 4 none) clock d → f ≡ withTimer own 5 (getD ts 5 none) clock e → f ≡ withTimers own ts clock so
+pub timers-ahead : (own : List ℕ) (ts : List Timer) (clock : ℕ) (so a b c d e f : Float)
+    → a ≡ withTimer own 0 (getD ts 0 none) clock so
+    → b ≡ withTimer own 1 (getD ts 1 none) clock a → c ≡ withTimer own 2 (getD ts 2 none) clock b
+    → d ≡ withTimer own 3 (getD ts 3 none) clock c
+    → e ≡ withTimer own 4 (getD ts 4 none) clock d → f ≡ withTimer own 5 (getD ts 5 none) clock e
+    → f ≡ withTimers own ts clock so
 unfolding withTimers
 timers-ahead own ts clock so a b c d e f g h i j k l = rw (← g, ← h, ← i, ← j, ← k) l
 

@@ -9,7 +9,9 @@ use lib.Dec.{ltb}
 use lib.Ieee.{Float}
 use lib.ListN.{getD, set}
 use borrow.Author.Tests.{eq-eqb, ltb-true}
-use Rattle.registers.specs.Words.{slotOf, ownAt, ownWith}
+use Rattle.map.specs.Numbers.{ADC-CONTROL, ADC-RESULT, LCD-STATUS, RTC-IRQ-STATUS}
+use Rattle.registers.specs.Words.{ownAt, ownWith}
+use Rattle.registers.specs.Ports.{slotOf}
 use Rattle.clock.specs.declared.Times.{Times}
 use Rattle.clock.specs.declared.RtcIrq.{RtcIrq}
 use Rattle.clock.specs.declared.Signal.{Signal}
@@ -26,14 +28,16 @@ use Rattle.keys.specs.Live.{heldOf}
 use Rattle.keys.specs.Lines.{lines, syncOf}
 use Rattle.timer.specs.declared.Timer.{Timer}
 use Rattle.timer.specs.Timers.{advancedOf}
-use Rattle.time.specs.Clocks.{clockIn, controlAt, reloadAt}
+use Rattle.time.specs.Clocks.{clockIn, controlWord, reloadWord}
 use Rattle.time.specs.Advance as move
-use Rattle.time.specs.Advance.{timerAfter, timersAfter, syncedOf, convertedIn, tickedIn, devicesOf, Outcome, outcome, movedTo, moved, advanceOf}
+use Rattle.time.specs.Advance.{timerAfter, timersAfter, syncedOf, convertedIn, tickedIn, devicesOf, Outcome}
+use Rattle.time.specs.Advance.{outcome, movedTo, moved, advanceOf}
 use Rattle.state.specs.declared.Clocks.{Clocks}
 use Rattle.state.specs.declared.Parts.{Parts}
-use Rattle.state.specs.Parts.{none, timersPut, timerPut, timesPut, vsyncPut, convertingPut, irqPut, appliedPut, clocksPut}
+use Rattle.state.specs.Parts.{none, timersPut, timerPut, timesPut, vsyncPut, convertingPut, irqPut, appliedPut}
+use Rattle.state.specs.Parts.{clocksPut}
 use Rattle.state.specs.Bank.{timersIn, partsIn}
-use Rattle.time.specs.Bank.{Went, went, syncedPut, convertedPut, tickedPut, wentOf, Moves, moves, movesOf}
+use Rattle.time.specs.Bank.{Went, went, syncedPut, convertedPut, tickedPut, wentOf, MovedBank, movedBank, movesOf}
 
 -- ---- where nothing happens the same values would be put back, which changes nothing
 
@@ -62,54 +66,66 @@ signal-still n seen status bit e h =
 
 -- ---- the timers
 
-pub timer-stepped : (own l : List ℕ) (f : List Float) (n : ℕ) (now : Float) (clock : ℕ) {control reload : ℕ} {t r : Timer} {y : Parts}
-    → control ≡ controlAt own n → reload ≡ reloadAt own n → t ≡ getD (timersIn l f) n none → r ≡ advancedOf t now clock control reload → y ≡ timerPut (partsIn l f) n r
+pub timer-stepped : (own l : List ℕ) (f : List Float) (n : ℕ) (now : Float) (clock : ℕ) {control reload : ℕ}
+    {t r : Timer} {y : Parts}
+    → control ≡ controlWord own n → reload ≡ reloadWord own n → t ≡ getD (timersIn l f) n none
+    → r ≡ advancedOf t now clock control reload → y ≡ timerPut (partsIn l f) n r
     → y ≡ timerPut (partsIn l f) n (timerAfter own n (getD (timersIn l f) n none) now clock)
 unfolding timerAfter
 timer-stepped own l f n now clock c d e h i = rw (i, h, e, c, d)
 
 -- a timer that does not run
 pub timer-stays : (own l : List ℕ) (f : List Float) (n : ℕ) (now : Float) (clock : ℕ) {control : ℕ}
-    → control ≡ controlAt own n → bitAnd control 0x2000 ≡ 0
+    → control ≡ controlWord own n → bitAnd control 0x2000 ≡ 0
     → partsIn l f ≡ timerPut (partsIn l f) n (timerAfter own n (getD (timersIn l f) n none) now clock)
 unfolding advancedOf
 timer-stays own l f n now clock {control} c h =
     let t : Timer = getD (timersIn l f) n none in
-    timer-stepped own l f n now clock {reload = reloadAt own n} {t = t} {r = t} c refl refl (rw (eq-eqb _ _ h))
+    timer-stepped own l f n now clock {reload = reloadWord own n} {t = t} {r = t} c refl refl (rw (eq-eqb _ _ h))
     (ap (λ (z : List Timer). timersPut (partsIn l f) z) (sym (put-same (timersIn l f) n none)))
 
 abbrev stepped : List ℕ → Float → ℕ → Parts → ℕ → Parts
 stepped own now clock x n = timerPut x n (timerAfter own n (getD (x .devices .clocks .timers) n none) now clock)
 
-pub timers-stepped : (own l : List ℕ) (f : List Float) (now : Float) (clock : ℕ) {a b c d e g : Parts} → a ≡ stepped own now clock (partsIn l f) 0 → b ≡ stepped own now clock a 1
-    → c ≡ stepped own now clock b 2 → d ≡ stepped own now clock c 3 → e ≡ stepped own now clock d 4 → g ≡ stepped own now clock e 5
+pub timers-stepped : (own l : List ℕ) (f : List Float) (now : Float) (clock : ℕ) {a b c d e g : Parts}
+    → a ≡ stepped own now clock (partsIn l f) 0 → b ≡ stepped own now clock a 1
+    → c ≡ stepped own now clock b 2 → d ≡ stepped own now clock c 3 → e ≡ stepped own now clock d 4
+    → g ≡ stepped own now clock e 5
     → g ≡ timersPut (partsIn l f) (timersAfter own (timersIn l f) now clock)
 unfolding timersAfter
 timers-stepped own l f now clock h i j k m n = rw (n, m, k, j, i, h)
 
 module _ (own : List ℕ) (x : Parts) where
-  pub vsync-went : (now : Float) {status last : ℕ} {s : Signal} {o : List ℕ} {y : Parts} → status ≡ ownAt own 0xD050018C → last ≡ x .devices .clocks .vsync → s ≡ vsyncOf last now status
-      → o ≡ ownWith own 0xD050018C (s .status) → y ≡ vsyncPut x (s .seen) → went o y ≡ syncedPut x (syncedOf own (x .devices .clocks .vsync) now)
+  pub vsync-went : (now : Float) {status last : ℕ} {s : Signal} {o : List ℕ} {y : Parts}
+      → status ≡ ownAt own LCD-STATUS → last ≡ x .devices .clocks .vsync → s ≡ vsyncOf last now status
+      → o ≡ ownWith own LCD-STATUS (s .status) → y ≡ vsyncPut x (s .seen)
+      → went o y ≡ syncedPut x (syncedOf own (x .devices .clocks .vsync) now)
   unfolding syncedOf
   vsync-went now a b e h i = rw (h, i, e, b, a)
 
-  pub adc-went : {control result : ℕ} {on : Bool} {adc : Adc} {mid o : List ℕ} {y : Parts} → control ≡ ownAt own 0xC00C0004 → result ≡ ownAt own 0xC00C0008
-      → on ≡ x .devices .clocks .converting → adc ≡ convertedOf (record { converting = on; control = control; result = result }) → mid ≡ ownWith own 0xC00C0008 (adc .result)
-      → o ≡ ownWith mid 0xC00C0004 (adc .control) → y ≡ convertingPut x (adc .converting) → went o y ≡ convertedPut x (convertedIn own (x .devices .clocks .converting))
+  pub adc-went : {control result : ℕ} {on : Bool} {adc : Adc} {mid o : List ℕ} {y : Parts}
+      → control ≡ ownAt own ADC-CONTROL → result ≡ ownAt own ADC-RESULT
+      → on ≡ x .devices .clocks .converting
+      → adc ≡ convertedOf (record { converting = on; control = control; result = result })
+      → mid ≡ ownWith own ADC-RESULT (adc .result)
+      → o ≡ ownWith mid ADC-CONTROL (adc .control) → y ≡ convertingPut x (adc .converting)
+      → went o y ≡ convertedPut x (convertedIn own (x .devices .clocks .converting))
   unfolding convertedIn
   adc-went a b c e h i j = rw (i, h, j, e, c, a, b)
 
-  pub irq-went : (game : Float) {status : ℕ} {irq : RtcIrq} {t : Ticked} {o : List ℕ} {y : Parts} → status ≡ ownAt own 0xC0040054 → irq ≡ x .devices .clocks .irq → t ≡ tickedOf irq game status
-      → o ≡ ownWith own 0xC0040054 (t .status) → y ≡ irqPut x (t .irq) → went o y ≡ tickedPut x (tickedIn own (x .devices .clocks .irq) game)
+  pub irq-went : (game : Float) {status : ℕ} {irq : RtcIrq} {t : Ticked} {o : List ℕ} {y : Parts}
+      → status ≡ ownAt own RTC-IRQ-STATUS → irq ≡ x .devices .clocks .irq → t ≡ tickedOf irq game status
+      → o ≡ ownWith own RTC-IRQ-STATUS (t .status) → y ≡ irqPut x (t .irq)
+      → went o y ≡ tickedPut x (tickedIn own (x .devices .clocks .irq) game)
   unfolding tickedIn
   irq-went game a b e h i = rw (h, i, e, b, a)
 
   -- no period has passed
-  pub vsync-stays : (now : Float) {status last : ℕ} {s : Signal} → status ≡ ownAt own 0xD050018C
+  pub vsync-stays : (now : Float) {status last : ℕ} {s : Signal} → status ≡ ownAt own LCD-STATUS
       → last ≡ x .devices .clocks .vsync → s ≡ vsyncOf last now status → s .seen ≡ last
       → went own x ≡ syncedPut x (syncedOf own (x .devices .clocks .vsync) now)
   vsync-stays now a b e h =
-      vsync-went now a b e (own-same own 0xD050018C (signal-still _ _ _ _ e h ∙ a))
+      vsync-went now a b e (own-same own LCD-STATUS (signal-still _ _ _ _ e h ∙ a))
       (ap (λ (v : ℕ). vsyncPut x v) (sym (h ∙ b)))
 
   -- nothing converts
@@ -118,12 +134,12 @@ module _ (own : List ℕ) (x : Parts) where
   unfolding convertedOf
   adc-stays {on = true} c h = absurd (false≢true h)
   adc-stays {on = false} c h =
-      let adc : Adc = record { converting = false; control = ownAt own 0xC00C0004; result = ownAt own 0xC00C0008 } in
+      let adc : Adc = record { converting = false; control = ownAt own ADC-CONTROL; result = ownAt own ADC-RESULT } in
       adc-went {adc = adc} refl refl c refl
-      (own-same own 0xC00C0008 refl) (own-same own 0xC00C0004 refl) (ap (λ (b : Bool). convertingPut x b) (sym c))
+      (own-same own ADC-RESULT refl) (own-same own ADC-CONTROL refl) (ap (λ (b : Bool). convertingPut x b) (sym c))
 
   -- no second has passed
-  pub irq-stays : (game : Float) {status : ℕ} {irq : RtcIrq} {t : Ticked} → status ≡ ownAt own 0xC0040054
+  pub irq-stays : (game : Float) {status : ℕ} {irq : RtcIrq} {t : Ticked} → status ≡ ownAt own RTC-IRQ-STATUS
       → irq ≡ x .devices .clocks .irq → t ≡ tickedOf irq game status → t .irq .fired ≡ irq .fired
       → went own x ≡ tickedPut x (tickedIn own (x .devices .clocks .irq) game)
   irq-stays game {status} {irq} {t} a b e h =
@@ -132,54 +148,69 @@ module _ (own : List ℕ) (x : Parts) where
       = ap (λ (z : Ticked). z .status) e ∙ signal-still _ _ _ _ {s = tickOf (irq .fired) game status} refl k in
       let i : t .irq ≡ irq
       = ap (λ (z : Ticked). z .irq) e ∙ ap (λ (z : ℕ). record { fired = z; base = irq .base; set = irq .set }) k in
-      irq-went game a b e (own-same own 0xC0040054 (s ∙ a)) (ap (λ (z : RtcIrq). irqPut x z) (sym (i ∙ b)))
+      irq-went game a b e (own-same own RTC-IRQ-STATUS (s ∙ a)) (ap (λ (z : RtcIrq). irqPut x z) (sym (i ∙ b)))
 
 pub devices-went : (own : List ℕ) (x : Parts) (clock : ℕ) (t : Times) {o₁ o₂ o₃ : List ℕ} {x₁ x₂ x₃ x₄ x₅ : Parts}
-    → x₁ ≡ timersPut x (timersAfter own (x .devices .clocks .timers) (t .now) clock) → went o₁ x₂ ≡ syncedPut x₁ (syncedOf own (x₁ .devices .clocks .vsync) (t .now))
-    → went o₂ x₃ ≡ convertedPut x₂ (convertedIn o₁ (x₂ .devices .clocks .converting)) → went o₃ x₄ ≡ tickedPut x₃ (tickedIn o₂ (x₃ .devices .clocks .irq) (t .game))
+    → x₁ ≡ timersPut x (timersAfter own (x .devices .clocks .timers) (t .now) clock)
+    → went o₁ x₂ ≡ syncedPut x₁ (syncedOf own (x₁ .devices .clocks .vsync) (t .now))
+    → went o₂ x₃ ≡ convertedPut x₂ (convertedIn o₁ (x₂ .devices .clocks .converting))
+    → went o₃ x₄ ≡ tickedPut x₃ (tickedIn o₂ (x₃ .devices .clocks .irq) (t .game))
     → x₅ ≡ timesPut x₄ t → went o₃ x₅ ≡ wentOf x (devicesOf own (x .devices .clocks) clock t)
 unfolding devicesOf
 devices-went own x clock t {o₁} {o₂} {o₃} {x₁} {x₂} {x₃} {x₄} {x₅} a b c d e =
     let b₀ : o₁ ≡ syncedOf own (x₁ .devices .clocks .vsync) (t .now) .own = ap (λ (z : Went). z .own) b in
-    let b₁ : x₂ ≡ vsyncPut x₁ (syncedOf own (x₁ .devices .clocks .vsync) (t .now) .vsync) = ap (λ (z : Went). z .parts) b in
+    let b₁ : x₂ ≡ vsyncPut x₁ (syncedOf own (x₁ .devices .clocks .vsync) (t .now) .vsync) = ap
+    (λ (z : Went). z .parts) b in
     let c₀ : o₂ ≡ convertedIn o₁ (x₂ .devices .clocks .converting) .own = ap (λ (z : Went). z .own) c in
-    let c₁ : x₃ ≡ convertingPut x₂ (convertedIn o₁ (x₂ .devices .clocks .converting) .converting) = ap (λ (z : Went). z .parts) c in
+    let c₁ : x₃ ≡ convertingPut x₂ (convertedIn o₁ (x₂ .devices .clocks .converting) .converting) = ap
+    (λ (z : Went). z .parts) c in
     let d₀ : o₃ ≡ tickedIn o₂ (x₃ .devices .clocks .irq) (t .game) .own = ap (λ (z : Went). z .own) d in
     let d₁ : x₄ ≡ irqPut x₃ (tickedIn o₂ (x₃ .devices .clocks .irq) (t .game) .irq) = ap (λ (z : Went). z .parts) d in
     rw (e, d₁, d₀, c₁, c₀, b₁, b₀, a)
 
-moved-to : (own gpio : List ℕ) (times : List Float) (codes : List ℕ) (c : Clocks) (k : Keys) (clock : ℕ) (t : Times) (o g : List ℕ) (clocks : Clocks)
+moved-to : (own gpio : List ℕ) (times : List Float) (codes : List ℕ) (c : Clocks) (k : Keys) (clock : ℕ) (t : Times)
+    (o g : List ℕ) (clocks : Clocks)
     (held : Held) (applied : ℕ) → move.devices o clocks ≡ devicesOf own c clock t → held ≡ heldOf times codes k (t .now)
-    → lines g applied ≡ syncOf gpio (k .applied) held → outcome o g 0 clocks applied ≡ movedTo own gpio times codes c k clock t
+    → lines g applied ≡ syncOf gpio (k .applied) held → outcome o g 0 clocks applied ≡ movedTo own gpio times codes c
+    k clock t
 unfolding movedTo
 moved-to own gpio times codes c k clock t o g clocks held applied d h l = rw (← d, ← h, ← l)
 
 module _ (own gpio : List ℕ) (times : List Float) (codes : List ℕ) (x : Parts) (clock : ℕ) where
-  pub moved-went : (t : Times) {o g : List ℕ} {y z : Parts} {k : Keys} {held : Held} {applied : ℕ} → went o y ≡ wentOf x (devicesOf own (x .devices .clocks) clock t)
-      → k ≡ y .keys → held ≡ heldOf times codes k (t .now) → lines g applied ≡ syncOf gpio (k .applied) held → z ≡ appliedPut y applied
-      → moves o g 0 z ≡ movesOf x (movedTo own gpio times codes (x .devices .clocks) (x .keys) clock t)
+  pub moved-went : (t : Times) {o g : List ℕ} {y z : Parts} {k : Keys} {held : Held} {applied : ℕ}
+      → went o y ≡ wentOf x (devicesOf own (x .devices .clocks) clock t)
+      → k ≡ y .keys → held ≡ heldOf times codes k (t .now) → lines g applied ≡ syncOf gpio (k .applied) held
+      → z ≡ appliedPut y applied
+      → movedBank o g 0 z ≡ movesOf x (movedTo own gpio times codes (x .devices .clocks) (x .keys) clock t)
   moved-went t {o} {g} {y} {z} {k} {held} {applied} d h i l e =
       let p : y ≡ clocksPut x (devicesOf own (x .devices .clocks) clock t .clocks) = ap (λ (w : Went). w .parts) d in
       let q : k ≡ x .keys = h ∙ ap (λ (w : Parts). w .keys) p in
-      let c : move.devices o (y .devices .clocks) ≡ devicesOf own (x .devices .clocks) clock t = ap (λ (w : Went). move.devices (w .own) (w .parts .devices .clocks)) d in
-      let s : outcome o g 0 (y .devices .clocks) applied ≡ movedTo own gpio times codes (x .devices .clocks) (x .keys) clock t
-      = moved-to own gpio times codes (x .devices .clocks) (x .keys) clock t o g (y .devices .clocks) held applied c (rw q at i) (rw q at l) in
-      let u : z ≡ appliedPut (clocksPut x (y .devices .clocks)) applied = e ∙ ap (λ (w : Parts). appliedPut w applied) (p ∙ ap (λ (w : Parts). clocksPut x (w .devices .clocks)) (sym p)) in
-      ap (λ (w : Parts). moves o g 0 w) u ∙ ap (λ (w : Outcome). movesOf x w) s
+      let c : move.devices o (y .devices .clocks) ≡ devicesOf own (x .devices .clocks) clock t = ap
+      (λ (w : Went). move.devices (w .own) (w .parts .devices .clocks)) d in
+      let s : outcome o g 0 (y .devices .clocks) applied ≡ movedTo own gpio times codes (x .devices .clocks) (x .keys)
+      clock t
+      = moved-to own gpio times codes (x .devices .clocks) (x .keys) clock t o g (y .devices .clocks) held applied c
+      (rw q at i) (rw q at l) in
+      let u : z ≡ appliedPut (clocksPut x (y .devices .clocks)) applied = e ∙ ap (λ (w : Parts). appliedPut w applied)
+      (p ∙ ap (λ (w : Parts). clocksPut x (w .devices .clocks)) (sym p)) in
+      ap (λ (w : Parts). movedBank o g 0 w) u ∙ ap (λ (w : Outcome). movesOf x w) s
 
 module _ (own gpio : List ℕ) (times : List Float) (codes : List ℕ) (x : Parts) (sram : List ℕ) (m : Moved) where
-  pub goes : (t : Times) {clock : ℕ} {r : Moves} → m ≡ To t → clock ≡ clockIn sram
+  pub goes : (t : Times) {clock : ℕ} {r : MovedBank} → m ≡ To t → clock ≡ clockIn sram
       → r ≡ movesOf x (movedTo own gpio times codes (x .devices .clocks) (x .keys) clock t)
       → r ≡ movesOf x (moved own gpio times codes (x .devices .clocks) (x .keys) (clockIn sram) m)
   unfolding moved
   goes t h c i = rw (h, ← c) i
 
-  pub rests : m ≡ BadTime → moves own gpio 1 x ≡ movesOf x (moved own gpio times codes (x .devices .clocks) (x .keys) (clockIn sram) m)
+  pub rests : m ≡ BadTime → movedBank own gpio 1 x ≡ movesOf x (moved own gpio times codes (x .devices .clocks)
+      (x .keys) (clockIn sram) m)
   unfolding moved
   rests h = rw h
 
-  pub goes-by : (to : Float) {times₀ : Times} {r : Moves} → times₀ ≡ x .devices .clocks .times → m ≡ movedOf times₀ to
+  pub goes-by : (to : Float) {times₀ : Times} {r : MovedBank} → times₀ ≡ x .devices .clocks .times
+      → m ≡ movedOf times₀ to
       → r ≡ movesOf x (moved own gpio times codes (x .devices .clocks) (x .keys) (clockIn sram) m)
       → r ≡ movesOf x (advanceOf own gpio times codes (x .devices .clocks) (x .keys) (clockIn sram) to)
   unfolding advanceOf
-  goes-by to h e i = let k : m ≡ movedOf (x .devices .clocks .times) to = e ∙ ap (λ (z : Times). movedOf z to) h in rw (← k) i
+  goes-by to h e i = let k : m ≡ movedOf (x .devices .clocks .times) to = e ∙ ap (λ (z : Times). movedOf z to) h in rw
+      (← k) i

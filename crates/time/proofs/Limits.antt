@@ -26,9 +26,10 @@ use Rattle.clock.proofs.DayLimits.{later-day, sets-day, fresh-day}
 use Rattle.clock.proofs.SourceLimits.{ticks-seconds, vsyncs-seen, fresh-seconds, fresh-syncs}
 use Rattle.keys.specs.declared.Keys.{Keys}
 use Rattle.state.specs.declared.Clocks.{Clocks}
-use Rattle.time.specs.Clocks.{freshClocks, controlAt, reloadAt}
+use Rattle.time.specs.Clocks.{freshClocks, controlWord, reloadWord}
 use Rattle.state.specs.Parts.{none, timesWith, timerWith, irqWith, convertingWith}
-use Rattle.time.specs.Advance.{timerAfter, timersAfter, syncedOf, convertedIn, tickedIn, devicesOf, movedTo, moved, advanceOf}
+use Rattle.time.specs.Advance.{timerAfter, timersAfter, syncedOf, convertedIn, tickedIn, devicesOf, movedTo}
+use Rattle.time.specs.Advance.{moved, advanceOf}
 use Rattle.time.specs.Within.{ClocksWithin}
 
 -- ---- what holds of each of six timers
@@ -45,7 +46,8 @@ six P a b c d e f p q r s t u (suc (suc (suc (suc (suc (suc n)))))) h = absurd (
     over : (n : ℕ) → suc (suc (suc (suc (suc (suc n))))) < 6 → ⊥
     over n h = omega arith
 
-replaced : (P : Timer → Type 0) (ts : List Timer) (n : ℕ) (t : Timer) (i : ℕ) → P t → P (getD ts i none) → P (getD (set ts n t) i none)
+replaced : (P : Timer → Type 0) (ts : List Timer) (n : ℕ) (t : Timer) (i : ℕ) → P t → P (getD ts i none)
+    → P (getD (set ts n t) i none)
 replaced P [] n t i p q = q
 replaced P (x ∷ ts) zero t zero p q = p
 replaced P (x ∷ ts) zero t (suc i) p q = q
@@ -66,22 +68,26 @@ fresh-within = record {
     started = fresh-started (freshTimes .now) tt
 
 -- ---- an advance
-module _ (own : List ℕ) (c : Clocks) (clock : ℕ) (t : Times) (w : ClocksWithin c) (h : clock < 2 ^ 32) (v : Within t) (l : Later (c .times) t) where
+module _ (own : List ℕ) (c : Clocks) (clock : ℕ) (t : Times) (w : ClocksWithin c) (h : clock < 2 ^ 32) (v : Within t)
+    (l : Later (c .times) t) where
   each : (n : ℕ) → n < 6 → Started (timerAfter own n (getD (c .timers) n none) (t .now) clock) (t .now)
   unfolding timerAfter
   each n i =
-      advance-started (getD (c .timers) n none) (t .now) clock (controlAt own n)
-      (later-started (getD (c .timers) n none) (c .times .now) (t .now) (w .timers n i) (w .times .now-good) (v .now-good) (l .now-later))
-      (v .now-good) h (reloadAt own n)
+      advance-started (getD (c .timers) n none) (t .now) clock (controlWord own n)
+      (later-started (getD (c .timers) n none) (c .times .now) (t .now) (w .timers n i) (w .times .now-good)
+      (v .now-good) (l .now-later))
+      (v .now-good) h (reloadWord own n)
 
   timers-started : (n : ℕ) → n < 6 → Started (getD (timersAfter own (c .timers) (t .now) clock) n none) (t .now)
   unfolding timersAfter
   timers-started =
-      six (λ (u : Timer). Started u (t .now)) _ _ _ _ _ _ (each 0 (lit< tt)) (each 1 (lit< tt)) (each 2 (lit< tt)) (each 3 (lit< tt))
+      six (λ (u : Timer). Started u (t .now)) _ _ _ _ _ _ (each 0 (lit< tt)) (each 1 (lit< tt)) (each 2 (lit< tt))
+      (each 3 (lit< tt))
       (each 4 (lit< tt)) (each 5 (lit< tt))
 
   day-later : DaySet (c .irq) (t .game)
-  day-later = later-day (c .irq) (c .times .game) (t .game) (w .times .game-limit) (v .game-limit) (l .game-later) (w .day)
+  day-later = later-day (c .irq) (c .times .game) (t .game) (w .times .game-limit) (v .game-limit) (l .game-later)
+      (w .day)
 
   devices-within : ClocksWithin (devicesOf own c clock t .clocks)
   unfolding devicesOf syncedOf convertedIn tickedIn
@@ -89,18 +95,22 @@ module _ (own : List ℕ) (c : Clocks) (clock : ℕ) (t : Times) (w : ClocksWith
     times = v;
     timers = timers-started;
     day = record { base = day-later .base; set = day-later .set };
-    seconds = ticks-seconds (c .irq .fired) _ (c .times .game) (t .game) (w .seconds) (w .times .game-limit) (v .game-limit) (l .game-later);
-    syncs = vsyncs-seen (c .vsync) _ (c .times .now) (t .now) (w .syncs) (w .times .now-good) (v .now-good) (l .now-later);
+    seconds = ticks-seconds (c .irq .fired) _ (c .times .game) (t .game) (w .seconds) (w .times .game-limit)
+        (v .game-limit) (l .game-later);
+    syncs = vsyncs-seen (c .vsync) _ (c .times .now) (t .now) (w .syncs) (w .times .now-good) (v .now-good)
+        (l .now-later);
   }
 
-module _ (own gpio : List ℕ) (times : List Float) (codes : List ℕ) (c : Clocks) (k : Keys) (clock : ℕ) (to : Float) (w : ClocksWithin c) where
+module _ (own gpio : List ℕ) (times : List Float) (codes : List ℕ) (c : Clocks) (k : Keys) (clock : ℕ) (to : Float)
+    (w : ClocksWithin c) where
   -- AN ADVANCE KEEPS THE LIMITS
   pub advance-within : clock < 2 ^ 32 → ClocksWithin (advanceOf own gpio times codes c k clock to .clocks)
   unfolding advanceOf moved movedTo
   advance-within h = by (movedOf (c .times) to) refl
     where
       by : (m : Moved) → movedOf (c .times) to ≡ m → ClocksWithin (moved own gpio times codes c k clock m .clocks)
-      by (To t) e = let p : Within t × Later (c .times) t = moves-within (c .times) t to (w .times) e in devices-within own c clock t w h (p .0) (p .1)
+      by (To t) e = let p : Within t × Later (c .times) t = moves-within (c .times) t to (w .times) e in
+          devices-within own c clock t w h (p .0) (p .1)
       by BadTime e = w
 
   -- and neither time goes back
@@ -108,7 +118,8 @@ module _ (own gpio : List ℕ) (times : List Float) (codes : List ℕ) (c : Cloc
   unfolding advanceOf moved movedTo devicesOf
   later-times = by (movedOf (c .times) to) refl
     where
-      by : (m : Moved) → movedOf (c .times) to ≡ m → Later (c .times) (moved own gpio times codes c k clock m .clocks .times)
+      by : (m : Moved) → movedOf (c .times) to ≡ m
+          → Later (c .times) (moved own gpio times codes c k clock m .clocks .times)
       by (To t) e = moves-within (c .times) t to (w .times) e .1
       by BadTime e = record {
         now-later = le-refl-clear (c .times .now) (good-clear (c .times .now) (w .times .now-good));
@@ -117,11 +128,14 @@ module _ (own gpio : List ℕ) (times : List Float) (codes : List ℕ) (c : Cloc
 
 -- ---- a write of a register, and another turbo
 module _ (c : Clocks) (w : ClocksWithin c) where
-  pub timer-within : (n val old : ℕ) → n < 6 → ClocksWithin (timerWith c n (writtenOf (getD (c .timers) n none) (c .times .now) val old .timer))
+  pub timer-within : (n val old : ℕ) → n < 6
+      → ClocksWithin (timerWith c n (writtenOf (getD (c .timers) n none) (c .times .now) val old .timer))
   timer-within n val old h = record {
     times = w .times;
-    timers = λ i. λ l. replaced (λ (t : Timer). Started t (c .times .now)) (c .timers) n (writtenOf (getD (c .timers) n none) (c .times .now) val old .timer) i
-        (write-started (getD (c .timers) n none) (c .times .now) val old (w .timers n h) (w .times .now-good)) (w .timers i l);
+    timers = λ i. λ l. replaced (λ (t : Timer). Started t (c .times .now)) (c .timers) n
+        (writtenOf (getD (c .timers) n none) (c .times .now) val old .timer) i
+        (write-started (getD (c .timers) n none) (c .times .now) val old (w .timers n h) (w .times .now-good))
+        (w .timers i l);
     day = w .day;
     seconds = w .seconds;
     syncs = w .syncs;
@@ -138,11 +152,19 @@ module _ (c : Clocks) (w : ClocksWithin c) where
   }
 
   pub adc-within : (converting : Bool) → ClocksWithin (convertingWith c converting)
-  adc-within converting = record { times = w .times; timers = w .timers; day = w .day; seconds = w .seconds; syncs = w .syncs }
+  adc-within converting = record {
+    times = w .times;
+    timers = w .timers;
+    day = w .day;
+    seconds = w .seconds;
+    syncs =
+        w .syncs;
+  }
 
   pub turbo-within : (t : Times) (to : Float) → pacedOf (c .times) to ≡ By t → ClocksWithin (timesWith c t)
   turbo-within t to e =
-      let p : Within t × (t .now ≡ c .times .now) × (t .game ≡ c .times .game) = paces-within (c .times) t to (w .times) e in
+      let p : Within t × (t .now ≡ c .times .now) × (t .game ≡ c .times .game) = paces-within (c .times) t to
+      (w .times) e in
       record {
         times = p .0;
         timers = λ n. λ l. rw (p .1) (w .timers n l);

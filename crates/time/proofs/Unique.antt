@@ -1,5 +1,5 @@
--- What meets a contract that is an equation is the only thing that does. The bank's later parts are one; from a packed bank
--- the later words are then one too (crate state, one-later).
+-- What meets a contract that is an equation is the only thing that does. The bank's later parts are one; from a
+-- packed bank the later words are then one too (crate state, one-later).
 use Prim.Native.Nat.{ℕ}
 use mathlib.Core.Path.{_≡_, ap}
 use mathlib.Core.List.{List}
@@ -8,17 +8,18 @@ use Rattle.whole.proofs.Unique.{unique}
 use Rattle.timer.specs.declared.Event.{Event}
 use Rattle.state.specs.declared.Parts.{Parts}
 use Rattle.time.specs.declared.NextTime.{NextTime}
-use Rattle.time.specs.Bank.{Moves, moves, Asked, asked, Pressed, pressed, Took, took}
+use Rattle.time.specs.Bank.{MovedBank, movedBank, Asked, asked, Pressed, pressed, Took, took}
 
 -- of an advance there is one answer, and the later words, lines and parts are one
-pub one-advance : (d : Moves) (o p g h : List ℕ) (m n : ℕ) (x y : Parts) → moves o g m x ≡ d → moves p h n y ≡ d
+pub one-advance : (d : MovedBank) (o p g h : List ℕ) (m n : ℕ) (x y : Parts) → movedBank o g m x ≡ d
+    → movedBank p h n y ≡ d
     → (o ≡ p) × (g ≡ h) × (m ≡ n) × (x ≡ y)
 one-advance d o p g h m n x y a b =
-    let e : moves o g m x ≡ moves p h n y = unique a b in (
-      ap (λ (z : Moves). z .own) e,
-      ap (λ (z : Moves). z .gpio) e,
-      ap (λ (z : Moves). z .refusal) e,
-      ap (λ (z : Moves). z .parts) e,
+    let e : movedBank o g m x ≡ movedBank p h n y = unique a b in (
+      ap (λ (z : MovedBank). z .own) e,
+      ap (λ (z : MovedBank). z .gpio) e,
+      ap (λ (z : MovedBank). z .refusal) e,
+      ap (λ (z : MovedBank). z .parts) e,
     )
 
 -- of a next event there is one answer
@@ -36,7 +37,8 @@ one-press d t u c k x y a b =
     let e : pressed t c x ≡ pressed u k y = unique a b in
     (ap (λ (z : Pressed). z .times) e, ap (λ (z : Pressed). z .codes) e, ap (λ (z : Pressed). z .asked) e)
 
-pub one-take : (d : Took) (t u f g v w : List Float) (x y : Asked) (i j : Event) → took t f v x i ≡ d → took u g w y j ≡ d
+pub one-take : (d : Took) (t u f g v w : List Float) (x y : Asked) (i j : Event) → took t f v x i ≡ d
+    → took u g w y j ≡ d
     → (t ≡ u) × (f ≡ g) × (v ≡ w) × (x ≡ y) × (i ≡ j)
 one-take d t u f g v w x y i j a b =
     let e : took t f v x i ≡ took u g w y j = unique a b in (

@@ -1,10 +1,12 @@
--- Time goes on: advance, timer_advance, adc_advance, rtc_irq_advance. Where the Rust leaves a word alone the same value is put back,
--- which changes nothing.
+-- Time goes on: advance, timer_advance, adc_advance, rtc_irq_advance. Where the Rust leaves a word alone the same
+-- value is put back, which changes nothing.
 use Prim.Native.Nat.{ℕ}
 use mathlib.Core.Bool.{Bool}
-use mathlib.Core.List.{List, [], _∷_}
+use mathlib.Core.List.{List}
 use lib.ListN.{getD}
 use lib.Ieee.{Float}
+use Rattle.state.specs.Each.{listOf}
+use Rattle.map.specs.Numbers.{ADC-CONTROL, ADC-RESULT, LCD-STATUS, RTC-IRQ-STATUS, TIMER-COUNT}
 use Rattle.registers.specs.Words.{ownAt, ownWith}
 use Rattle.timer.specs.declared.Timer.{Timer}
 use Rattle.timer.specs.Timers.{advancedOf}
@@ -22,23 +24,16 @@ use Rattle.keys.specs.declared.Keys.{Keys}
 use Rattle.keys.specs.Live.{heldOf}
 use Rattle.keys.specs.Lines.{syncOf}
 use Rattle.state.specs.declared.Clocks.{Clocks}
-use Rattle.time.specs.Clocks.{controlAt, reloadAt}
+use Rattle.time.specs.Clocks.{controlWord, reloadWord}
 use Rattle.state.specs.Parts.{none}
 
 -- ---- the timers
 
 unfoldable pub timerAfter : List ℕ → ℕ → Timer → Float → ℕ → Timer
-timerAfter own n t now clock = advancedOf t now clock (controlAt own n) (reloadAt own n)
+timerAfter own n t now clock = advancedOf t now clock (controlWord own n) (reloadWord own n)
 
 unfoldable pub timersAfter : List ℕ → List Timer → Float → ℕ → List Timer
-timersAfter own ts now clock =
-    timerAfter own 0 (getD ts 0 none) now clock
-    ∷ timerAfter own 1 (getD ts 1 none) now clock
-    ∷ timerAfter own 2 (getD ts 2 none) now clock
-    ∷ timerAfter own 3 (getD ts 3 none) now clock
-    ∷ timerAfter own 4 (getD ts 4 none) now clock
-    ∷ timerAfter own 5 (getD ts 5 none) now clock
-    ∷ []
+timersAfter own ts now clock = listOf (λ n. timerAfter own n (getD ts n none) now clock) 0 TIMER-COUNT
 
 -- ---- the panel's vertical sync
 
@@ -51,10 +46,10 @@ abbrev pub synced : List ℕ → ℕ → Synced
 synced own vsync = record { own = own; vsync = vsync }
 
 abbrev pub signalled : List ℕ → Signal → Synced
-signalled own s = synced (ownWith own 0xD050018C (s .status)) (s .seen)
+signalled own s = synced (ownWith own LCD-STATUS (s .status)) (s .seen)
 
 unfoldable pub syncedOf : List ℕ → ℕ → Float → Synced
-syncedOf own last now = signalled own (vsyncOf last now (ownAt own 0xD050018C))
+syncedOf own last now = signalled own (vsyncOf last now (ownAt own LCD-STATUS))
 
 -- ---- the ADC
 
@@ -67,11 +62,17 @@ abbrev pub converted : List ℕ → Bool → Converted
 converted own converting = record { own = own; converting = converting }
 
 abbrev pub storedIn : List ℕ → Adc → Converted
-storedIn own adc = converted (ownWith (ownWith own 0xC00C0008 (adc .result)) 0xC00C0004 (adc .control)) (adc .converting)
+storedIn own adc = converted (ownWith (ownWith own ADC-RESULT (adc .result)) ADC-CONTROL (adc .control))
+    (adc .converting)
 
 unfoldable pub convertedIn : List ℕ → Bool → Converted
 convertedIn own converting =
-    storedIn own (convertedOf (record { converting = converting; control = ownAt own 0xC00C0004; result = ownAt own 0xC00C0008 }))
+    storedIn own (convertedOf (record {
+      converting = converting;
+      control = ownAt own ADC-CONTROL;
+      result = ownAt own
+          ADC-RESULT;
+    }))
 
 -- ---- the 1 Hz tick
 
@@ -84,10 +85,10 @@ abbrev pub ticked : List ℕ → RtcIrq → Ticking
 ticked own irq = record { own = own; irq = irq }
 
 abbrev pub tickedWith : List ℕ → Ticked → Ticking
-tickedWith own t = ticked (ownWith own 0xC0040054 (t .status)) (t .irq)
+tickedWith own t = ticked (ownWith own RTC-IRQ-STATUS (t .status)) (t .irq)
 
 unfoldable pub tickedIn : List ℕ → RtcIrq → Float → Ticking
-tickedIn own irq game = tickedWith own (tickedOf irq game (ownAt own 0xC0040054))
+tickedIn own irq game = tickedWith own (tickedOf irq game (ownAt own RTC-IRQ-STATUS))
 
 -- ---- all devices, at later times t
 
@@ -119,7 +120,13 @@ pub record Outcome : Type 0 where
   pub applied : ℕ
 
 abbrev pub outcome : List ℕ → List ℕ → ℕ → Clocks → ℕ → Outcome
-outcome own gpio refusal clocks applied = record { own = own; gpio = gpio; refusal = refusal; clocks = clocks; applied = applied }
+outcome own gpio refusal clocks applied = record {
+  own = own;
+  gpio = gpio;
+  refusal = refusal;
+  clocks = clocks;
+  applied = applied;
+}
 
 -- the devices, and the keys that are down at the new time
 unfoldable pub movedTo : List ℕ → List ℕ → List Float → List ℕ → Clocks → Keys → ℕ → Times → Outcome

@@ -9,7 +9,8 @@ use Rattle.timer.specs.Events.{TakeOutcome}
 use Rattle.keys.specs.Live as live
 use Rattle.keys.specs.Script as script
 use Rattle.state.specs.declared.Parts.{Parts}
-use Rattle.state.specs.Parts.{clocksPut, timesPut, vsyncPut, convertingPut, irqPut, ringPut, keysPut, countPut, appliedPut}
+use Rattle.state.specs.Parts.{clocksPut, timesPut, vsyncPut, convertingPut, irqPut, ringPut, keysPut, countPut}
+use Rattle.state.specs.Parts.{appliedPut}
 use Rattle.time.specs.Advance as move
 use Rattle.time.specs.Advance.{Synced, Converted, Ticking}
 
@@ -36,17 +37,17 @@ abbrev pub wentOf : Parts → move.Devices → Went
 wentOf x d = went (d .own) (clocksPut x (d .clocks))
 
 -- with the GPIO memory and 01's number
-pub record Moves : Type 0 where
+pub record MovedBank : Type 0 where
   pub own : List ℕ
   pub gpio : List ℕ
   pub refusal : ℕ
   pub parts : Parts
 
-abbrev pub moves : List ℕ → List ℕ → ℕ → Parts → Moves
-moves o g n x = record { own = o; gpio = g; refusal = n; parts = x }
+abbrev pub movedBank : List ℕ → List ℕ → ℕ → Parts → MovedBank
+movedBank o g n x = record { own = o; gpio = g; refusal = n; parts = x }
 
-abbrev pub movesOf : Parts → move.Outcome → Moves
-movesOf x o = moves (o .own) (o .gpio) (o .refusal) (appliedPut (clocksPut x (o .clocks)) (o .applied))
+abbrev pub movesOf : Parts → move.Outcome → MovedBank
+movesOf x o = movedBank (o .own) (o .gpio) (o .refusal) (appliedPut (clocksPut x (o .clocks)) (o .applied))
 
 -- ---- turbo and keys
 
@@ -92,4 +93,5 @@ took a f u x e = record { times = a; frequencies = f; duties = u; asked = x; eve
 
 abbrev pub tookOf : Parts → TakeOutcome → Took
 tookOf x o =
-    took (o .queue .times) (o .queue .frequencies) (o .queue .duties) (asked (ringPut x (o .queue .ring)) (o .refusal)) (o .event)
+    took (o .queue .times) (o .queue .frequencies) (o .queue .duties)
+    (asked (ringPut x (o .queue .ring)) (o .refusal)) (o .event)

@@ -7,6 +7,8 @@ use lib.Bits.{bitAnd}
 use lib.Dec.{eqb}
 use lib.ListN.{getD}
 use lib.Ieee.{Float, binary64, ofBits, ofInt, add, sub, mul, div, le}
+use Rattle.state.specs.Each.{anyOf, through}
+use Rattle.map.specs.Numbers.{DONE, NO-NEXT-TIME, TIMER-COUNT}
 use Rattle.timer.specs.declared.Timer.{Timer}
 use Rattle.timer.specs.Timers.{periodOf, rateOf}
 use Rattle.clock.specs.declared.Times.{Times}
@@ -14,7 +16,7 @@ use Rattle.keys.specs.declared.Keys.{Keys}
 use Rattle.keys.specs.Edges.{minOf, nextEdge}
 use Rattle.state.specs.declared.Clocks.{Clocks}
 use Rattle.time.specs.declared.NextTime.{NextTime}
-use Rattle.time.specs.Clocks.{controlAt, reloadAt}
+use Rattle.time.specs.Clocks.{controlWord, reloadWord}
 use Rattle.time.specs.Irq.{wantedOf}
 use Rattle.state.specs.Parts.{none}
 
@@ -31,12 +33,14 @@ vsyncNext last = div binary64 (oneMore last) (ofBits binary64 0x404E_0000_0000_0
 -- start + (periods_seen + 1) as f64 * period as f64 / rate
 unfoldable pub timerNext : Timer → ℕ → ℕ → ℕ → Float
 timerNext t clock control reload =
-    add binary64 (t .start) (div binary64 (mul binary64 (oneMore (t .seen)) (ofInt binary64 (pos (periodOf reload)))) (rateOf clock control))
+    add binary64 (t .start) (div binary64 (mul binary64 (oneMore (t .seen)) (ofInt binary64 (pos (periodOf reload))))
+    (rateOf clock control))
 
 -- now + (game_next - game_time) / turbo, with game_next = (fired + 1) as f64 * 1.0
 unfoldable pub gameNext : Times → ℕ → Float
 gameNext t fired =
-    add binary64 (t .now) (div binary64 (sub binary64 (mul binary64 (oneMore fired) (ofBits binary64 0x3FF0_0000_0000_0000)) (t .game)) (t .turbo))
+    add binary64 (t .now) (div binary64 (sub binary64
+    (mul binary64 (oneMore fired) (ofBits binary64 0x3FF0_0000_0000_0000)) (t .game)) (t .turbo))
 
 -- ---- the six timers
 
@@ -45,39 +49,29 @@ abbrev pub runs : ℕ → Bool
 runs control = eqb (bitAnd control 0x6000) 0x6000
 
 unfoldable pub pends : List ℕ → ℕ → Timer → Bool
-pends own n t = runs (controlAt own n) && t .pending
+pends own n t = runs (controlWord own n) && t .pending
 
 unfoldable pub anyPends : List ℕ → List Timer → Bool
-anyPends own ts =
-    pends own 0 (getD ts 0 none)
-    || (pends own 1 (getD ts 1 none)
-    || (pends own 2 (getD ts 2 none)
-    || (pends own 3 (getD ts 3 none)
-    || (pends own 4 (getD ts 4 none)
-    || pends own 5 (getD ts 5 none)))))
+anyPends own ts = anyOf (λ n. pends own n (getD ts n none)) 0 TIMER-COUNT
 
 -- t = t.min(next), of timer n where it runs
 unfoldable pub withTimer : List ℕ → ℕ → Timer → ℕ → Float → Float
-withTimer own n t clock so = cond (runs (controlAt own n)) (minOf so (timerNext t clock (controlAt own n) (reloadAt own n))) so
+withTimer own n t clock so = cond (runs (controlWord own n))
+    (minOf so (timerNext t clock (controlWord own n) (reloadWord own n))) so
 
 unfoldable pub withTimers : List ℕ → List Timer → ℕ → Float → Float
-withTimers own ts clock so =
-    let a = withTimer own 0 (getD ts 0 none) clock so in
-    let b = withTimer own 1 (getD ts 1 none) clock a in
-    let c = withTimer own 2 (getD ts 2 none) clock b in
-    let d = withTimer own 3 (getD ts 3 none) clock c in
-    let e = withTimer own 4 (getD ts 4 none) clock d in
-    withTimer own 5 (getD ts 5 none) clock e
+withTimers own ts clock so = through (λ n x. withTimer own n (getD ts n none) clock x) 0 TIMER-COUNT so
 
 -- ---- the whole
 
 -- vertical sync, timers, 1 Hz tick, and the edges of presses and taps
 unfoldable pub earliest : List ℕ → List Float → Clocks → Keys → ℕ → Float
 earliest own times c k clock =
-    nextEdge times k (c .times .now) (minOf (withTimers own (c .timers) clock (vsyncNext (c .vsync))) (gameNext (c .times) (c .irq .fired)))
+    nextEdge times k (c .times .now) (minOf (withTimers own (c .timers) clock (vsyncNext (c .vsync)))
+    (gameNext (c .times) (c .irq .fired)))
 
--- now, where something waits already. The Rust's loop over the timers returns now at the first that pends, whatever those before it
--- wait for
+-- now, where something waits already. The Rust's loop over the timers returns now at the first that pends, whatever
+-- those before it wait for
 unfoldable pub eventOf : List ℕ → List Float → Clocks → Keys → ℕ → Float
 eventOf own times c k clock =
     cond (c .converting || wantedOf own (c .timers)) (c .times .now)
@@ -89,7 +83,8 @@ finite t = le (ofBits binary64 0xFFEF_FFFF_FFFF_FFFF) t && le t (ofBits binary64
 
 -- 01's number: 13 where the time is not finite, and 0.0 beside it
 unfoldable pub answered : Float → NextTime
-answered t = cond (finite t) (record { refusal = 0; time = t }) (record { refusal = 13; time = ofBits binary64 0 })
+answered t = cond (finite t) (record { refusal = DONE; time = t })
+    (record { refusal = NO-NEXT-TIME; time = ofBits binary64 0 })
 
 unfoldable pub nextOf : List ℕ → List Float → Clocks → Keys → ℕ → NextTime
 nextOf own times c k clock = answered (eventOf own times c k clock)

@@ -18,10 +18,10 @@ fn key_number(refusal: Refusal) -> u8
     ensures { λ r. ⌜ r ≡ numberOf refusal ⌝ }
 {
     match refusal {
-        Refusal::Done => 0,
-        Refusal::BadKey => 8,
-        Refusal::BadTime => 1,
-        Refusal::KeysFull => 3,
+        Refusal::Done => map::DONE,
+        Refusal::BadKey => map::BAD_KEY,
+        Refusal::BadTime => map::BAD_TIME,
+        Refusal::KeysFull => map::KEYS_FULL,
     }
 }
 
@@ -50,7 +50,7 @@ fn hold(floats: &mut Floats, key: u32, tap: Tap) -> u8
     match tap {
         Tap::Until(until) => {
             state::rests::put_hold(floats, key as usize, until);
-            return 0;
+            return map::DONE;
         }
         Tap::Refused(refusal) => {
             return key_number(refusal);
@@ -95,7 +95,7 @@ pub fn press(
 {
     let moment = state::moments::times_of(floats);
     let before = state::rests::keys_of(cells, floats);
-    let x = keys::script::press(times, codes, before.count, key, at, moment.now);
+    let x = keys::presses::press(times, codes, before.count, key, at, moment.now);
     let refusal = x.refusal;
     let n = key_number(refusal);
     if n != 0 {
@@ -122,7 +122,7 @@ pub fn press_bits(
 {
     let moment = state::moments::times_of(floats);
     let before = state::rests::keys_of(cells, floats);
-    let x = keys::script::press_bits(times, codes, before.count, key, bits, moment.now);
+    let x = keys::presses::press_bits(times, codes, before.count, key, bits, moment.now);
     let refusal = x.refusal;
     let n = key_number(refusal);
     if n != 0 {

@@ -1,14 +1,14 @@
-// Time over all devices: interrupts, advance, next_event and set_turbo of core/src/sys.rs; the keys; and the sound events
-// that wait.
+// Time over all devices: interrupts, advance, next_event and set_turbo of core/src/sys.rs; the keys; and the sound
+// events that wait.
 //
 // The scalars are the bank's (crate state). Every word that is read or set here has storage of its own, so those words
 // alone are lent and not the table of the others.
 ghost use mathlib.Core.Path.{_≡_};
 ghost use Rattle.time.specs.Clocks.{clockIn};
 
+pub mod advancing;
 pub mod buttons;
 pub mod irq;
-pub mod moves;
 pub mod next;
 pub mod pace;
 pub mod tones;
@@ -31,5 +31,5 @@ pub struct Waited {
 pub fn sysclk_var(sram: &[u8]) -> u32
     ensures { λ r. ⌜ r ≡ clockIn (now (sram .entry)) ⌝ }
 {
-    memory::load(sram, 0x90A4, 4)
+    memory::load(sram, map::SYSCLK_AT, 4)
 }

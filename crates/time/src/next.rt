@@ -2,7 +2,8 @@
 ghost use mathlib.Core.Path.{_≡_};
 ghost use mathlib.Core.List.{List};
 ghost use Prim.Native.Nat.{_<_};
-ghost use Rattle.time.specs.Next.{oneMore, vsyncNext, timerNext, gameNext, runs, pends, anyPends, withTimer, withTimers};
+ghost use Rattle.time.specs.Next.{oneMore, vsyncNext, timerNext, gameNext, runs, pends, anyPends, withTimer};
+ghost use Rattle.time.specs.Next.{withTimers};
 ghost use lib.Ieee.{Float};
 ghost use lib.ListN.{getD};
 ghost use Rattle.state.specs.Parts.{none};
@@ -64,7 +65,8 @@ fn pends(own: &[u32; 76], cells: &Cells, n: u32) -> bool
     ensures { λ r. ⌜ ((f : List Float) → r ≡ pends (now (own .entry)) n
         (getD (timersIn (now (cells .entry)) f) n none)) ⌝ }
 {
-    runs(registers::own_reg(own, 0xC002_0000 + 0x20 * n)) & pending_of(cells, n as usize)
+    runs(registers::own_reg(own, map::TIMER_BASE + map::TIMER_STEP * n))
+        & pending_of(cells, n as usize)
 }
 
 fn each_pends(own: &[u32; 76], cells: &Cells) -> bool
@@ -95,9 +97,9 @@ fn with_timer(own: &[u32; 76], cells: &Cells, floats: &Floats, n: u32, clock: u3
     ensures { λ r. ⌜ r ≡ withTimer (now (own .entry)) n (getD (timersIn (now (cells .entry)) (now (floats .entry)))
         n none) clock so ⌝ }
 {
-    let control = registers::own_reg(own, 0xC002_0000 + 0x20 * n);
+    let control = registers::own_reg(own, map::TIMER_BASE + map::TIMER_STEP * n);
     if runs(control) {
-        let reload = registers::own_reg(own, 0xC002_0008 + 0x20 * n);
+        let reload = registers::own_reg(own, map::TIMER_RELOAD + map::TIMER_STEP * n);
         let t = timer_of(cells, floats, n as usize);
         return min(so, timer_next(t, clock, control, reload));
     }
@@ -165,12 +167,12 @@ fn answered(t: f64) -> NextTime
 {
     if finite(t) {
         return NextTime {
-            refusal: 0,
+            refusal: map::DONE,
             time: t,
         };
     }
     NextTime {
-        refusal: 13,
+        refusal: map::NO_NEXT_TIME,
         time: 0.0,
     }
 }

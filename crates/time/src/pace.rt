@@ -23,10 +23,10 @@ fn pace(floats: &mut Floats, to: Paced) -> u8
     match to {
         Paced::By(times) => {
             state::moments::put_turbo(floats, times.turbo);
-            return 0;
+            return map::DONE;
         }
         Paced::BadTurbo => {
-            return 2;
+            return map::BAD_TURBO;
         }
     }
 }
@@ -37,7 +37,7 @@ pub fn set_turbo(floats: &mut Floats, to: f64) -> u8
         × Answered r l (now (floats .entry)) l (now (floats .exit))) ⌝ }
 {
     let times = state::moments::times_of(floats);
-    let paced = clock::time::set_turbo(times, to);
+    let paced = clock::pace::set_turbo(times, to);
     pace(floats, paced)
 }
 
@@ -48,6 +48,6 @@ pub fn turbo_bits(floats: &mut Floats, bits: u64) -> u8
         × Answered r l (now (floats .entry)) l (now (floats .exit))) ⌝ }
 {
     let times = state::moments::times_of(floats);
-    let paced = clock::time::turbo_bits(times, bits);
+    let paced = clock::pace::turbo_bits(times, bits);
     pace(floats, paced)
 }

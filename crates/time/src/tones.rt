@@ -14,9 +14,9 @@ fn event_number(refusal: Refusal) -> u8
     ensures { λ r. ⌜ r ≡ numberOf refusal ⌝ }
 {
     match refusal {
-        Refusal::Done => 0,
-        Refusal::SoundFull => 5,
-        Refusal::NoEvent => 12,
+        Refusal::Done => map::DONE,
+        Refusal::SoundFull => map::SOUND_FULL,
+        Refusal::NoEvent => map::NO_EVENT,
     }
 }
 

@@ -14,12 +14,14 @@ use Rattle.timer.specs.declared.Sounded.the-variants.{Same, Change, Soun
 use Rattle.timer.specs.Timers.{ticks, periodOf, rateOf, elapsedOf, counterOf, noted, advancedOf}
 use Rattle.timer.specs.Sound.{differOf, soundedOf}
 
-pub elapsed-some : (start now rate : Float) (n : ℕ) → lt (ofBits binary64 0) (ticks start now rate) ≡ true → n ≡ toUnsigned 64 (ticks start now rate)
+pub elapsed-some : (start now rate : Float) (n : ℕ) → lt (ofBits binary64 0) (ticks start now rate) ≡ true
+    → n ≡ toUnsigned 64 (ticks start now rate)
     → n ≡ elapsedOf start now rate
 unfolding elapsedOf
 elapsed-some start now rate n h e = rw h e
 
-pub elapsed-none : (start now rate : Float) → lt (ofBits binary64 0) (ticks start now rate) ≡ false → 0 ≡ elapsedOf start now rate
+pub elapsed-none : (start now rate : Float) → lt (ofBits binary64 0) (ticks start now rate) ≡ false
+    → 0 ≡ elapsedOf start now rate
 unfolding elapsedOf
 elapsed-none start now rate h = rw h
 
@@ -28,16 +30,20 @@ pub counter-stands : (t : Timer) (now : Float) (clock control reload stored : �
 unfolding counterOf
 counter-stands t now clock control reload stored h = rw (has-not control 0x2000 h)
 
-pub counter-runs : (t : Timer) (now : Float) (clock control reload stored e p : ℕ) (r : Float) → bitAnd control 0x2000 ≢ 0 → r ≡ rateOf clock control
-    → e ≡ elapsedOf (t .start) now r → p ≡ periodOf reload → (65536 - p + e % p) % 65536 ≡ counterOf t now clock control reload stored
+pub counter-runs : (t : Timer) (now : Float) (clock control reload stored e p : ℕ) (r : Float)
+    → bitAnd control 0x2000 ≢ 0 → r ≡ rateOf clock control
+    → e ≡ elapsedOf (t .start) now r → p ≡ periodOf reload → (65536 - p + e % p) % 65536 ≡ counterOf t now clock
+    control reload stored
 unfolding counterOf
 counter-runs t now clock control reload stored e p r h k i j = rw (has-some control 0x2000 h, ← k, ← i, ← j)
 
-pub advance-stands : (t : Timer) (now : Float) (clock control reload : ℕ) → bitAnd control 0x2000 ≡ 0 → t ≡ advancedOf t now clock control reload
+pub advance-stands : (t : Timer) (now : Float) (clock control reload : ℕ) → bitAnd control 0x2000 ≡ 0
+    → t ≡ advancedOf t now clock control reload
 unfolding advancedOf
 advance-stands t now clock control reload h = rw (has-not control 0x2000 h)
 
-module _ (t : Timer) (now : Float) (clock control reload e p : ℕ) (r : Float) (h : bitAnd control 0x2000 ≢ 0) (k : r ≡ rateOf clock control)
+module _ (t : Timer) (now : Float) (clock control reload e p : ℕ) (r : Float) (h : bitAnd control 0x2000 ≢ 0)
+    (k : r ≡ rateOf clock control)
     (i : e ≡ elapsedOf (t .start) now r) (j : p ≡ periodOf reload) where
   runs : advancedOf t now clock control reload ≡ noted t (e / p) control
   unfolding advancedOf
@@ -47,7 +53,8 @@ module _ (t : Timer) (now : Float) (clock control reload e p : ℕ) (r : Float) 
   advance-within l = sym (runs ∙ rw (le-ltb (t .seen) (e / p) l))
 
   pub advance-counts : t .seen < e / p
-      → record { start = t .start; seen = e / p; pending = t .pending || has control 0x4000 } ≡ advancedOf t now clock control reload
+      → record { start = t .start; seen = e / p; pending = t .pending || has control 0x4000 } ≡ advancedOf t now clock
+      control reload
   advance-counts l = sym (runs ∙ rw (lt-ltb (t .seen) (e / p) l))
 
 -- ---- the buzzer

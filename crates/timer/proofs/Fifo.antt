@@ -10,7 +10,7 @@ use Rattle.timer.specs.declared.Event.{Event}
 use Rattle.timer.specs.declared.Queue.{Queue}
 use Rattle.timer.specs.Events.{emptyQueue, waiting, waitingFrom, fitOf, laid, bulkOf, putOf, takeOf}
 use Rattle.timer.specs.Canonical.{Canonical}
-use Rattle.timer.specs.Story.{Step, puts, takes, fills, Story, storyOf, told, after, story}
+use Rattle.timer.specs.Story.{Step, puts, takes, fills, Story, storyOf, storyAfterStep, storyAfterSteps, story}
 use Rattle.timer.proofs.Laid.{laid-first}
 use Rattle.timer.proofs.Waiting.{waiting-count, without-drops, put-adds, put-refuses, take-refuses, take-gives}
 use Rattle.timer.proofs.Tidy.{empty-canonical, put-canonical, take-canonical, without-canonical}
@@ -25,8 +25,8 @@ unfolding waiting waitingFrom emptyQueue
 empty-waits = refl
 
 puts-order : (s : Story) (e : Event) (t : Bool) → ltb (length (waiting (s .queue))) 256 ≡ t → InOrder s
-    → told s (puts e) .accepted ≡ s .given ++ waiting (putOf (s .queue) e .queue)
-unfolding told
+    → storyAfterStep s (puts e) .accepted ≡ s .given ++ waiting (putOf (s .queue) e .queue)
+unfolding storyAfterStep
 puts-order s e true h good =
     let adds = put-adds (s .queue) e (good .canonical) (ltb-true (length (waiting (s .queue))) 256 h) in
     rw (adds .0, adds .1, good .order, append-assoc)
@@ -34,24 +34,25 @@ puts-order s e false h good =
     rw (put-refuses (s .queue) e (ltb-false (length (waiting (s .queue))) 256 h), append-nil) (good .order)
 
 takes-order : (s : Story) (l : List Event) → waiting (s .queue) ≡ l → InOrder s
-    → s .accepted ≡ told s takes .given ++ waiting (takeOf (s .queue) .queue)
-unfolding told
+    → s .accepted ≡ storyAfterStep s takes .given ++ waiting (takeOf (s .queue) .queue)
+unfolding storyAfterStep
 takes-order s [] wait good = rw (take-refuses (s .queue) wait, append-nil) (good .order)
 takes-order s (e ∷ l) wait good =
     let gives = take-gives (s .queue) e l (good .canonical .most) wait in
     rw (gives .0, gives .1, append-assoc) (good .order ∙ ap (λ (k : List Event). s .given ++ k) wait)
 
 fills-order : (s : Story) (ys : List Event) → InOrder s
-    → s .accepted ≡ told s (fills ys) .given ++ waiting (bulkOf (s .queue) ys .bulk .queue)
-unfolding told
+    → s .accepted ≡ storyAfterStep s (fills ys) .given ++ waiting (bulkOf (s .queue) ys .bulk .queue)
+unfolding storyAfterStep
 fills-order s ys good =
     let q : Queue = s .queue in
     let n : ℕ = fitOf (q .ring .count) (length ys) in
-    let first : take n (laid (waiting q) ys) ≡ take n (waiting q) = rw (waiting-count q) at (laid-first (waiting q) ys) in
+    let first : take n (laid (waiting q) ys) ≡ take n (waiting q) = rw (waiting-count q) at
+    (laid-first (waiting q) ys) in
     rw (first, without-drops q n (good .canonical .most), append-assoc, take-append-drop) (good .order)
 
-step-order : (s : Story) (step : Step) → InOrder s → InOrder (told s step)
-unfolding told
+step-order : (s : Story) (step : Step) → InOrder s → InOrder (storyAfterStep s step)
+unfolding storyAfterStep
 step-order s (puts e) good = record {
   canonical = put-canonical (s .queue) e (good .canonical);
   order = puts-order s e (ltb (length (waiting (s .queue))) 256) refl good;
@@ -65,15 +66,15 @@ step-order s (fills ys) good = record {
   order = fills-order s ys good;
 }
 
-after-order : (s : Story) (steps : List Step) → InOrder s → InOrder (after s steps)
-unfolding after
+after-order : (s : Story) (steps : List Step) → InOrder s → InOrder (storyAfterSteps s steps)
+unfolding storyAfterSteps
 after-order s [] good = good
-after-order s (step ∷ steps) good = after-order (told s step) steps (step-order s step good)
+after-order s (step ∷ steps) good = after-order (storyAfterStep s step) steps (step-order s step good)
 
 start-order : InOrder (storyOf emptyQueue [] [])
 start-order = record { canonical = empty-canonical; order = sym empty-waits }
 
--- FIRST IN, FIRST OUT: after any steps, in any order
+-- FIRST IN, FIRST OUT: storyAfterSteps any steps, in any order
 pub fifo : (steps : List Step) → story steps .accepted ≡ story steps .given ++ waiting (story steps .queue)
 unfolding story
 fifo steps = after-order (storyOf emptyQueue [] []) steps start-order .order

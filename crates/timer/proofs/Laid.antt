@@ -12,7 +12,8 @@ use borrow.Author.Tests.{lt-ltb, le-ltb, ltb-true, ltb-false}
 use Rattle.timer.specs.declared.Event.{Event}
 use Rattle.timer.specs.declared.Queue.{Queue}
 use Rattle.timer.specs.declared.Bulk.{Bulk}
-use Rattle.timer.specs.Events.{eventOf, waitingFrom, waiting, fitOf, laid, LayOutcome, layOutcome, layOf, dropOf, bulkOutcome, bulkOf}
+use Rattle.timer.specs.Events.{eventOf, waitingFrom, waiting, fitOf, laid, LayOutcome, layOutcome, layOf}
+use Rattle.timer.specs.Events.{dropOf, bulkOutcome, bulkOf}
 
 -- ---- as many as fit
 
@@ -45,7 +46,8 @@ fit-more count room = fit-more-at count room (ltb count room) refl
 -- ---- what `laid` is
 
 -- the oldest events, and then the records that stay
-pub laid-is : (ws ys : List Event) → laid ws ys ≡ take (fitOf (length ws) (length ys)) ws ++ drop (fitOf (length ws) (length ys)) ys
+pub laid-is : (ws ys : List Event) → laid ws ys ≡ take (fitOf (length ws) (length ys)) ws ++ drop
+    (fitOf (length ws) (length ys)) ys
 unfolding laid
 laid-is [] ys = rw (fit-none (length ys))
 laid-is (w ∷ ws) [] = rw (fit-no-room (suc (length ws)))
@@ -103,7 +105,8 @@ over-some : (q : Queue) (ys : List Event) (i : ℕ) → i ≤ length ys → over
 unfolding over laid waitingFrom
 over-some q ys zero most = refl
 over-some q ys (suc i) most =
-    ap (λ (l : List Event). set l i (eventOf q i)) (over-some q ys i (omega arith)) ∙ (rw (zero-add i) at (laid-more q i 0 ys most))
+    ap (λ (l : List Event). set l i (eventOf q i)) (over-some q ys i (omega arith)) ∙
+    (rw (zero-add i) at (laid-more q i 0 ys most))
 
 over-fits : (q : Queue) (ys : List Event) (t : Bool) → ltb (q .ring .count) (length ys) ≡ t
     → over q ys (fitOf (q .ring .count) (length ys)) ≡ laid (waiting q) ys
@@ -119,6 +122,12 @@ pub over-laid : (q : Queue) (ys : List Event) → over q ys (fitOf (q .ring .cou
 over-laid q ys = over-fits q ys (ltb (q .ring .count) (length ys)) refl
 
 -- laid, and then gone: what a bulk take is
-pub bulk-is : (q : Queue) (ys : List Event) (n : ℕ) (r : Bulk) (zs : List Event) → layOutcome n zs ≡ layOf q ys → r ≡ dropOf q n
+pub bulk-is : (q : Queue) (ys : List Event) (n : ℕ) (r : Bulk) (zs : List Event) → layOutcome n zs ≡ layOf q ys
+    → r ≡ dropOf q n
     → bulkOutcome r zs ≡ bulkOf q ys
-bulk-is q ys n r zs lays drops = rw (drops, ap (λ (o : LayOutcome). o .count) lays, ap (λ (o : LayOutcome). o .records) lays)
+bulk-is q ys n r zs lays drops = rw (
+  drops,
+  ap (λ (o : LayOutcome). o .count) lays,
+  ap
+      (λ (o : LayOutcome). o .records) lays,
+)

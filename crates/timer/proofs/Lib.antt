@@ -1,7 +1,7 @@
 -- Laws that several proofs cite, and the theorems.
 pub mod Cases
 pub mod Limits
-pub mod Held
+pub mod Tones
 pub mod Judged
 pub mod Numbers
 pub mod Arrays

@@ -12,7 +12,8 @@ use lib.ListN.{length, getD, set, length-set}
 use lib.Seq.{getD-set-same, getD-set-other}
 use borrow.Author.Tests.{lt-ltb, le-ltb, eqb-true, eqb-false}
 use Rattle.timer.specs.declared.Ring.{Ring}
-use Rattle.timer.specs.Events.{ringOf, placeOf, skipped, cleared, nought}
+use Rattle.timer.specs.Events.{ringOf, placeOf, skipped, cleared}
+use Rattle.whole.specs.Forms.{nought}
 
 pub ring-is : {h k m n : ℕ} → h ≡ k → m ≡ n → ringOf h m ≡ ringOf k n
 ring-is head count = rw (head, count)
@@ -47,7 +48,8 @@ cleared-stays ring (suc n) j l least small =
     ∙ cleared-stays ring n j l (omega arith) small
 
 cleared-goes-at : (ring : Ring) (n j : ℕ) (l : List Float) → length l ≡ 256 → j < suc n
-    → (j < n → getD (cleared ring n l) (placeOf ring j) nan ≡ nought) → (t : Bool) → eqb (placeOf ring j) (placeOf ring n) ≡ t
+    → (j < n → getD (cleared ring n l) (placeOf ring j) nan ≡ nought) → (t : Bool)
+    → eqb (placeOf ring j) (placeOf ring n) ≡ t
     → getD (set (cleared ring n l) (placeOf ring n) nought) (placeOf ring j) nan ≡ nought
 cleared-goes-at ring n j l size less before true h =
     let within : placeOf ring n < length (cleared ring n l) = omega (arith, cleared-length ring n l) in

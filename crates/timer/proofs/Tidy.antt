@@ -13,10 +13,13 @@ use borrow.Author.Tests.{leb-false, ltb-true, ltb-false}
 use Rattle.timer.specs.declared.Event.{Event}
 use Rattle.timer.specs.declared.Queue.{Queue}
 use Rattle.timer.specs.declared.Ring.{Ring}
-use Rattle.timer.specs.Events.{ringOf, queueOf, placeOf, skipped, cleared, nought, nothing, emptyQueue, eventAt, eventOf, waitingFrom, waiting}
+use Rattle.timer.specs.Events.{ringOf, queueOf, placeOf, skipped, cleared, nothing, emptyQueue, eventAt}
+use Rattle.timer.specs.Events.{eventOf, waitingFrom, waiting}
+use Rattle.whole.specs.Forms.{nought}
 use Rattle.timer.specs.Events.{withLast, without, fullOf, putOf, takeOf}
 use Rattle.timer.specs.Canonical.{Tidy, Canonical}
-use Rattle.timer.proofs.Places.{ring-is, place-apart, place-moves, skipped-some, skipped-all, cleared-length, cleared-stays, cleared-goes}
+use Rattle.timer.proofs.Places.{ring-is, place-apart, place-moves, skipped-some, skipped-all, cleared-length}
+use Rattle.timer.proofs.Places.{cleared-stays, cleared-goes}
 use Rattle.timer.proofs.Waiting.{waiting-count}
 
 -- ---- empty
@@ -45,7 +48,8 @@ last-tidy : (ring : Ring) (l : List Float) (x : Float) → Tidy ring l → ring 
 last-tidy ring l x tidy room = record {
   size = length-set l (placeOf ring (ring .count)) x ∙ tidy .size;
   free = λ i least small.
-      getD-set-other l (placeOf ring (ring .count)) (placeOf ring i) x nan (place-apart ring (ring .count) i (omega arith) small)
+      getD-set-other l (placeOf ring (ring .count)) (placeOf ring i) x nan
+      (place-apart ring (ring .count) i (omega arith) small)
       ∙ tidy .free i (omega arith) small;
 }
 
@@ -59,7 +63,8 @@ last-canonical q e good room = record {
   start = λ none. absurd (omega arith);
 }
 
-put-canonical-at : (q : Queue) (e : Event) (t : Bool) → fullOf (q .ring) ≡ t → Canonical q → Canonical (putOf q e .queue)
+put-canonical-at : (q : Queue) (e : Event) (t : Bool) → fullOf (q .ring) ≡ t → Canonical q
+    → Canonical (putOf q e .queue)
 unfolding putOf
 put-canonical-at q e true h good = rw h good
 put-canonical-at q e false h good = rw h (last-canonical q e good (leb-false 256 (q .ring .count) h))
@@ -77,14 +82,16 @@ turned-back : (ring : Ring) (place : ℕ) → place < 256 → placeOf ring (turn
 turned-back ring place small = omega arith
 
 -- the j-th place is free once n events are gone: it was given back, or was free before
-gone-free : (ring : Ring) (n j : ℕ) (l : List Float) (t : Bool) → ltb j n ≡ t → Tidy ring l → j < 256 → (n ≤ j → ring .count ≤ j)
+gone-free : (ring : Ring) (n j : ℕ) (l : List Float) (t : Bool) → ltb j n ≡ t → Tidy ring l → j < 256
+    → (n ≤ j → ring .count ≤ j)
     → getD (cleared ring n l) (placeOf ring j) nan ≡ nought
 gone-free ring n j l true h tidy small free = cleared-goes ring n j l (tidy .size) (ltb-true j n h)
 gone-free ring n j l false h tidy small free =
     let after : n ≤ j = ltb-false j n h in
     cleared-stays ring n j l after small ∙ tidy .free j (free after) small
 
-some-free : (ring : Ring) (n i : ℕ) (l : List Float) → Tidy ring l → n < ring .count → ring .count ≤ 256 → ring .count - n ≤ i → i < 256
+some-free : (ring : Ring) (n i : ℕ) (l : List Float) → Tidy ring l → n < ring .count → ring .count ≤ 256
+    → ring .count - n ≤ i → i < 256
     → getD (cleared ring n l) (placeOf (ringOf (placeOf ring n) (ring .count - n)) i) nan ≡ nought
 some-free ring n i l tidy some most least small =
     ap (λ (p : ℕ). getD (cleared ring n l) p nan) (place-moves ring n i (ring .count - n) ∙ round)
@@ -102,7 +109,8 @@ all-free ring n i l tidy all small =
     straight : placeOf (ringOf 0 0) i ≡ i
     straight = omega arith
 
-cleared-tidy : (ring : Ring) (n : ℕ) (l : List Float) (t : Bool) → ltb n (ring .count) ≡ t → ring .count ≤ 256 → Tidy ring l
+cleared-tidy : (ring : Ring) (n : ℕ) (l : List Float) (t : Bool) → ltb n (ring .count) ≡ t → ring .count ≤ 256
+    → Tidy ring l
     → Tidy (skipped ring n) (cleared ring n l)
 cleared-tidy ring n l true h most tidy =
     let some : n < ring .count = ltb-true n (ring .count) h in
@@ -120,7 +128,8 @@ cleared-tidy ring n l false h most tidy =
 pub without-canonical : (q : Queue) (n : ℕ) → Canonical q → Canonical (without q n)
 without-canonical q n good = record {
   times = cleared-tidy (q .ring) n (q .times) (ltb n (q .ring .count)) refl (good .most) (good .times);
-  frequencies = cleared-tidy (q .ring) n (q .frequencies) (ltb n (q .ring .count)) refl (good .most) (good .frequencies);
+  frequencies = cleared-tidy (q .ring) n (q .frequencies) (ltb n (q .ring .count)) refl (good .most)
+      (good .frequencies);
   duties = cleared-tidy (q .ring) n (q .duties) (ltb n (q .ring .count)) refl (good .most) (good .duties);
   most = skips .0;
   within = skips .1;
@@ -128,7 +137,8 @@ without-canonical q n good = record {
 }
   where
     skips-at : (t : Bool) → ltb n (q .ring .count) ≡ t
-        → (skipped (q .ring) n .count ≤ 256) × (skipped (q .ring) n .head < 256) × (skipped (q .ring) n .count ≡ 0 → skipped (q .ring) n .head ≡ 0)
+        → (skipped (q .ring) n .count ≤ 256) × (skipped (q .ring) n .head < 256) × (skipped (q .ring) n .count ≡ 0
+        → skipped (q .ring) n .head ≡ 0)
     skips-at true h =
         let some : n < q .ring .count = ltb-true n (q .ring .count) h in
         rw (skipped-some (q .ring) n some) (omega (arith, good .most), omega arith, λ none. absurd (omega arith))
@@ -136,7 +146,8 @@ without-canonical q n good = record {
         let all : q .ring .count ≤ n = ltb-false n (q .ring .count) h in
         rw (skipped-all (q .ring) n all) (omega arith, omega arith, λ none. refl)
 
-    skips : (skipped (q .ring) n .count ≤ 256) × (skipped (q .ring) n .head < 256) × (skipped (q .ring) n .count ≡ 0 → skipped (q .ring) n .head ≡ 0)
+    skips : (skipped (q .ring) n .count ≤ 256) × (skipped (q .ring) n .head < 256) × (skipped (q .ring) n .count ≡ 0
+        → skipped (q .ring) n .head ≡ 0)
     skips = skips-at (ltb n (q .ring .count)) refl
 
 take-canonical-at : (q : Queue) (t : Bool) → eqb (q .ring .count) 0 ≡ t → Canonical q → Canonical (takeOf q .queue)
@@ -149,7 +160,8 @@ take-canonical q good = take-canonical-at q (eqb (q .ring .count) 0) refl good
 
 -- ---- what says all of a state
 
-array-is-at : (ring : Ring) (l k : List Float) (j : ℕ) (t : Bool) → ltb j (ring .count) ≡ t → Tidy ring l → Tidy ring k → j < 256
+array-is-at : (ring : Ring) (l k : List Float) (j : ℕ) (t : Bool) → ltb j (ring .count) ≡ t → Tidy ring l
+    → Tidy ring k → j < 256
     → ((i : ℕ) → i < ring .count → getD l (placeOf ring i) nan ≡ getD k (placeOf ring i) nan)
     → getD l (placeOf ring j) nan ≡ getD k (placeOf ring j) nan
 array-is-at ring l k j true h tidy other small same = same j (ltb-true j (ring .count) h)
@@ -159,12 +171,14 @@ array-is-at ring l k j false h tidy other small same =
 
 array-is : (ring : Ring) (l k : List Float) → Tidy ring l → Tidy ring k
     → ((i : ℕ) → i < ring .count → getD l (placeOf ring i) nan ≡ getD k (placeOf ring i) nan) → l ≡ k
-array-is ring l k tidy other same = ext-getD nan l k (tidy .size ∙ sym (other .size)) (λ place less. at-place place (omega (arith, tidy .size)))
+array-is ring l k tidy other same = ext-getD nan l k (tidy .size ∙ sym (other .size))
+    (λ place less. at-place place (omega (arith, tidy .size)))
   where
     at-place : (place : ℕ) → place < 256 → getD l place nan ≡ getD k place nan
     at-place place small =
         rw (turned-back ring place small)
-        at (array-is-at ring l k (turned ring place) (ltb (turned ring place) (ring .count)) refl tidy other (omega arith) same)
+        at (array-is-at ring l k (turned ring place) (ltb (turned ring place) (ring .count)) refl tidy other
+        (omega arith) same)
 
 event-is : (q : Queue) (j n i : ℕ) → i < n → getD (waitingFrom q j n) i nothing ≡ eventOf q (j + i)
 unfolding waitingFrom
@@ -176,16 +190,19 @@ waiting-is : (q : Queue) (i : ℕ) → i < q .ring .count → getD (waiting q) i
 unfolding waiting
 waiting-is q i less = event-is q 0 (q .ring .count) i less ∙ rw (zero-add i)
 
-queue-is : {ts us fs gs ds es : List Float} {r s : Ring} → ts ≡ us → fs ≡ gs → ds ≡ es → r ≡ s → queueOf ts fs ds r ≡ queueOf us gs es s
+queue-is : {ts us fs gs ds es : List Float} {r s : Ring} → ts ≡ us → fs ≡ gs → ds ≡ es → r ≡ s
+    → queueOf ts fs ds r ≡ queueOf us gs es s
 queue-is times frequencies duties ring = rw (times, frequencies, duties, ring)
 
 same-ring : (p q : Queue) → Canonical p → Canonical q → p .ring ≡ q .ring → waiting p ≡ waiting q → p ≡ q
 same-ring p q good other ring wait =
     queue-is
-    (array-is (p .ring) (p .times) (q .times) (good .times) (rw (← ring) at other .times) (λ i less. ap (λ (e : Event). e .time) (same i less)))
+    (array-is (p .ring) (p .times) (q .times) (good .times) (rw (← ring) at other .times)
+    (λ i less. ap (λ (e : Event). e .time) (same i less)))
     (array-is (p .ring) (p .frequencies) (q .frequencies) (good .frequencies) (rw (← ring) at other .frequencies)
     (λ i less. ap (λ (e : Event). e .frequency) (same i less)))
-    (array-is (p .ring) (p .duties) (q .duties) (good .duties) (rw (← ring) at other .duties) (λ i less. ap (λ (e : Event). e .duty) (same i less)))
+    (array-is (p .ring) (p .duties) (q .duties) (good .duties) (rw (← ring) at other .duties)
+    (λ i less. ap (λ (e : Event). e .duty) (same i less)))
     ring
   where
     same : (i : ℕ) → i < p .ring .count → eventOf p i ≡ eventAt q (placeOf (p .ring) i)
@@ -194,7 +211,8 @@ same-ring p q good other ring wait =
         ∙ ap (λ (r : Ring). eventAt q (placeOf r i)) (sym ring)
 
 -- of a canonical state, the list that waits and the place where it starts say all
-pub canonical-tells : (p q : Queue) → Canonical p → Canonical q → p .ring .head ≡ q .ring .head → waiting p ≡ waiting q → p ≡ q
+pub canonical-tells : (p q : Queue) → Canonical p → Canonical q → p .ring .head ≡ q .ring .head
+    → waiting p ≡ waiting q → p ≡ q
 canonical-tells p q good other head wait =
     let count : p .ring .count ≡ q .ring .count = sym (waiting-count p) ∙ ap length wait ∙ waiting-count q in
     same-ring p q good other (ring-is head count) wait

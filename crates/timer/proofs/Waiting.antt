@@ -16,7 +16,8 @@ use Rattle.timer.specs.declared.Event.{Event}
 use Rattle.timer.specs.declared.Queue.{Queue}
 use Rattle.timer.specs.declared.Ring.{Ring}
 use Rattle.timer.specs.declared.Refusal.the-variants.{Done, SoundFull, NoEvent}
-use Rattle.timer.specs.Events.{ringOf, placeOf, skipped, cleared, queueOf, eventAt, eventOf, waitingFrom, waiting, nothing, withLast, without}
+use Rattle.timer.specs.Events.{ringOf, placeOf, skipped, cleared, queueOf, eventAt, eventOf, waitingFrom}
+use Rattle.timer.specs.Events.{waiting, nothing, withLast, without}
 use Rattle.timer.specs.Events.{putOf, putOutcome, takeOf, takeOutcome, fitOf, laid, bulkOf, bulkOutcome}
 use Rattle.timer.specs.Canonical.{Canonical}
 use Rattle.timer.proofs.Laid.{fits, laid-is}
@@ -68,7 +69,8 @@ without-waits : (q : Queue) (n : ℕ) (t : Bool) → ltb n (q .ring .count) ≡ 
 unfolding waiting waitingFrom
 without-waits q n true h most =
     let less : n < q .ring .count = ltb-true n (q .ring .count) h in
-    ap waiting (without-some q n less) ∙ from-moves q n 0 (q .ring .count - n) (omega arith) ∙ from-drops q n 0 (q .ring .count)
+    ap waiting (without-some q n less) ∙ from-moves q n 0 (q .ring .count - n) (omega arith) ∙ from-drops q n 0
+    (q .ring .count)
 without-waits q n false h most =
     let all : q .ring .count ≤ n = ltb-false n (q .ring .count) h in
     let short : length (waitingFrom q 0 (q .ring .count)) ≤ n = omega (arith, from-length q 0 (q .ring .count)) in
@@ -80,13 +82,15 @@ without-drops q n most = without-waits q n (ltb n (q .ring .count)) refl most
 
 -- ---- in
 
-event-stays : (q : Queue) (e : Event) (i : ℕ) → i < q .ring .count → q .ring .count < 256 → eventOf (withLast q e) i ≡ eventOf q i
+event-stays : (q : Queue) (e : Event) (i : ℕ) → i < q .ring .count → q .ring .count < 256
+    → eventOf (withLast q e) i ≡ eventOf q i
 event-stays q e i less small =
     let apart : placeOf (q .ring) i ≢ placeOf (q .ring) (q .ring .count) =
     λ same. place-apart (q .ring) i (q .ring .count) less small (sym same) in
     rw (
       getD-set-other (q .times) (placeOf (q .ring) (q .ring .count)) (placeOf (q .ring) i) (e .time) nan apart,
-      getD-set-other (q .frequencies) (placeOf (q .ring) (q .ring .count)) (placeOf (q .ring) i) (e .frequency) nan apart,
+      getD-set-other (q .frequencies) (placeOf (q .ring) (q .ring .count)) (placeOf (q .ring) i) (e .frequency) nan
+          apart,
       getD-set-other (q .duties) (placeOf (q .ring) (q .ring .count)) (placeOf (q .ring) i) (e .duty) nan apart,
     )
 
@@ -112,7 +116,8 @@ from-snoc q i zero = rw (add-zero i)
 from-snoc q i (suc m) =
     ap (λ (l : List Event). eventOf q i ∷ l) (from-snoc q (suc i) m ∙ rw (suc-add i m, add-suc i m))
 
-last-waits : (q : Queue) (e : Event) → Canonical q → q .ring .count < 256 → waiting (withLast q e) ≡ waiting q ++ (e ∷ [])
+last-waits : (q : Queue) (e : Event) → Canonical q → q .ring .count < 256 → waiting (withLast q e) ≡ waiting q ++
+    (e ∷ [])
 unfolding waiting
 last-waits q e good small =
     ap (waitingFrom (withLast q e) 0) (add-one (q .ring .count)) ∙ from-snoc (withLast q e) 0 (q .ring .count)
@@ -163,7 +168,8 @@ put-refuses q e full = put-full q e (omega (arith, waiting-count q))
 pub take-refuses : (q : Queue) → waiting q ≡ [] → takeOf q ≡ takeOutcome NoEvent nothing q
 take-refuses q none = take-none q (sym (waiting-count q) ∙ ap length none)
 
-first-is : (q : Queue) (e : Event) (l : List Event) (n : ℕ) → q .ring .count ≡ suc n → waiting q ≡ e ∷ l → eventOf q 0 ≡ e
+first-is : (q : Queue) (e : Event) (l : List Event) (n : ℕ) → q .ring .count ≡ suc n → waiting q ≡ e ∷ l
+    → eventOf q 0 ≡ e
 unfolding waiting waitingFrom
 first-is q e l n some wait =
     let first : waitingFrom q 0 (suc n) ≡ e ∷ l = sym (ap (waitingFrom q 0) some) ∙ wait in
@@ -173,7 +179,8 @@ take-first : (q : Queue) (e : Event) (l : List Event) (n : ℕ) → q .ring .cou
     → takeOf q ≡ takeOutcome Done e (without q 1)
 take-first q e l zero none wait = absurd (omega (arith, waiting-count q, ap length wait))
 take-first q e l (suc n) some wait =
-    take-some q (λ none. omega arith) ∙ ap (λ (x : Event). takeOutcome Done x (without q 1)) (first-is q e l n some wait)
+    take-some q (λ none. omega arith) ∙ ap (λ (x : Event). takeOutcome Done x (without q 1))
+    (first-is q e l n some wait)
 
 -- the list's head is given, and its tail is left
 pub take-gives : (q : Queue) (e : Event) (l : List Event) → q .ring .count ≤ 256 → waiting q ≡ e ∷ l
@@ -181,7 +188,8 @@ pub take-gives : (q : Queue) (e : Event) (l : List Event) → q .ring .count ≤
 take-gives q e l most wait = (take-first q e l (q .ring .count) refl wait, without-drops q 1 most ∙ ap (drop 1) wait)
 
 -- IN BULK: as many as fit are laid over the first records, oldest first; later records stay, and the rest waits
-pub bulk-gives : (q : Queue) (ys : List Event) (n : ℕ) → q .ring .count ≤ 256 → n ≡ fitOf (length (waiting q)) (length ys)
+pub bulk-gives : (q : Queue) (ys : List Event) (n : ℕ) → q .ring .count ≤ 256
+    → n ≡ fitOf (length (waiting q)) (length ys)
     → (bulkOf q ys .bulk .count ≡ n) × (bulkOf q ys .records ≡ take n (waiting q) ++ drop n ys)
     × (waiting (bulkOf q ys .bulk .queue) ≡ drop n (waiting q))
 bulk-gives q ys n most fit =
@@ -192,7 +200,8 @@ same-ring : (ring : Ring) → ring .count ≡ 0 → ring .head ≡ 0 → skipped
 same-ring ring none start = skipped-all ring 0 (omega arith) ∙ ring-is (sym start) (sym none)
 
 -- with none waiting the answer is 0, and nothing changes
-pub bulk-none : (q : Queue) (ys : List Event) → Canonical q → waiting q ≡ [] → bulkOf q ys ≡ bulkOutcome (record { count = 0; queue = q }) ys
+pub bulk-none : (q : Queue) (ys : List Event) → Canonical q → waiting q ≡ []
+    → bulkOf q ys ≡ bulkOutcome (record { count = 0; queue = q }) ys
 unfolding laid cleared
 bulk-none q ys good none =
     let no : q .ring .count ≡ 0 = sym (waiting-count q) ∙ ap length none in

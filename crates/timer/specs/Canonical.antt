@@ -6,7 +6,8 @@ use lib.Ieee.{Float, nan}
 use lib.ListN.{length, getD}
 use Rattle.timer.specs.declared.Ring.{Ring}
 use Rattle.timer.specs.declared.Queue.{Queue}
-use Rattle.timer.specs.Events.{placeOf, nought}
+use Rattle.timer.specs.Events.{placeOf}
+use Rattle.whole.specs.Forms.{nought}
 
 -- an array of 256 numbers whose free places are zero
 pub record Tidy (ring : Ring) (l : List Float) : Type 0 where

@@ -3,8 +3,10 @@ use mathlib.Core.Bool.{Bool, cond}
 use mathlib.Core.List.{List, [], _∷_}
 use Prim.Native.Nat.{ℕ, zero, suc, _+_, _-_, _%_}
 use lib.Dec.{leb, ltb, eqb}
-use lib.Ieee.{Float, nan, binary64, ofBits}
+use lib.Ieee.{Float, nan}
 use lib.ListN.{length, getD, set, replicate}
+use Rattle.map.specs.Numbers.{DONE, SOUND-FULL, NO-EVENT}
+use Rattle.whole.specs.Forms.{nought}
 use Rattle.timer.specs.declared.Event.{Event}
 use Rattle.timer.specs.declared.Ring.{Ring}
 use Rattle.timer.specs.declared.Queue.{Queue}
@@ -15,13 +17,9 @@ use Rattle.timer.specs.declared.Bulk.{Bulk}
 
 -- Refusal numbers: 0 done, 5 SoundFull, 12 NoEvent
 abbrev pub numberOf : Refusal → ℕ
-numberOf Done = 0
-numberOf SoundFull = 5
-numberOf NoEvent = 12
-
--- the f64 0.0
-abbrev pub nought : Float
-nought = ofBits binary64 0
+numberOf Done = DONE
+numberOf SoundFull = SOUND-FULL
+numberOf NoEvent = NO-EVENT
 
 -- what is answered beside a refusal's number
 abbrev pub nothing : Event
@@ -43,7 +41,13 @@ skipped ring n = cond (ltb n (ring .count)) (ringOf (placeOf ring n) (ring .coun
 -- ---- the queue
 
 abbrev pub queueOf : List Float → List Float → List Float → Ring → Queue
-queueOf times frequencies duties ring = record { times = times; frequencies = frequencies; duties = duties; ring = ring }
+queueOf times frequencies duties ring = record {
+  times = times;
+  frequencies = frequencies;
+  duties = duties;
+  ring =
+      ring;
+}
 
 -- no event waits, and all is zero
 unfoldable pub emptyQueue : Queue
@@ -115,7 +119,8 @@ cleared ring (suc n) l = set (cleared ring n l) (placeOf ring n) nought
 -- the queue with its n oldest events gone
 abbrev pub without : Queue → ℕ → Queue
 without q n =
-    queueOf (cleared (q .ring) n (q .times)) (cleared (q .ring) n (q .frequencies)) (cleared (q .ring) n (q .duties)) (skipped (q .ring) n)
+    queueOf (cleared (q .ring) n (q .times)) (cleared (q .ring) n (q .frequencies)) (cleared (q .ring) n (q .duties))
+    (skipped (q .ring) n)
 
 -- zeros and nothing changed where none waits
 unfoldable pub takeOf : Queue → TakeOutcome

@@ -3,6 +3,7 @@ use mathlib.Core.Bool.{Bool, cond, _||_}
 use Prim.Native.Nat.{ℕ}
 use lib.IntN.{pos}
 use lib.Ieee.{Float, binary64, ofBits, ofInt, div, lt, ne}
+use Rattle.map.specs.Numbers.{DONE, SOUND-FULL}
 use Rattle.whole.specs.Words.{has}
 use Rattle.timer.specs.declared.Tone.{Tone}
 use Rattle.timer.specs.declared.Sounded.{Sounded}
@@ -36,6 +37,6 @@ soundedOf state full new = cond (differOf new state) (cond full SoundFull (Chang
 
 -- the refusal's number
 abbrev pub soundRefusal : Sounded → ℕ
-soundRefusal Same = 0
-soundRefusal (Change new) = 0
-soundRefusal SoundFull = 5
+soundRefusal Same = DONE
+soundRefusal (Change new) = DONE
+soundRefusal SoundFull = SOUND-FULL

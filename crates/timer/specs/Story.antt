@@ -26,20 +26,20 @@ unlessRefused refusal e = cond (eqb refusal 0) (e ∷ []) []
 abbrev pub storyOf : Queue → List Event → List Event → Story
 storyOf q accepted given = record { queue = q; accepted = accepted; given = given }
 
-unfoldable pub told : Story → Step → Story
-told s (puts e) =
+unfoldable pub storyAfterStep : Story → Step → Story
+storyAfterStep s (puts e) =
     storyOf (putOf (s .queue) e .queue) (s .accepted ++ unlessRefused (putOf (s .queue) e .refusal) e) (s .given)
-told s takes =
+storyAfterStep s takes =
     storyOf (takeOf (s .queue) .queue) (s .accepted)
     (s .given ++ unlessRefused (takeOf (s .queue) .refusal) (takeOf (s .queue) .event))
-told s (fills ys) =
+storyAfterStep s (fills ys) =
     storyOf (bulkOf (s .queue) ys .bulk .queue) (s .accepted)
     (s .given ++ take (bulkOf (s .queue) ys .bulk .count) (bulkOf (s .queue) ys .records))
 
-unfoldable pub after : Story → List Step → Story
-after s [] = s
-after s (step ∷ steps) = after (told s step) steps
+unfoldable pub storyAfterSteps : Story → List Step → Story
+storyAfterSteps s [] = s
+storyAfterSteps s (step ∷ steps) = storyAfterSteps (storyAfterStep s step) steps
 
--- from the state after a wipe
+-- from the state storyAfterSteps a wipe
 unfoldable pub story : List Step → Story
-story steps = after (storyOf emptyQueue [] []) steps
+story steps = storyAfterSteps (storyOf emptyQueue [] []) steps

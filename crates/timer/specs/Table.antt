@@ -15,8 +15,12 @@ half = ofBits binary64 0x3FE0_0000_0000_0000
 
 abbrev pub table : List Example
 table =
-    record { given = periodOf 0 ∷ []; said = 65536 ∷ [] }
-    ∷ record { given = periodOf 0xFFFF ∷ []; said = 1 ∷ [] }
-    ∷ record { given = advancedOf begun half 0 0x6000 0xFC18 .seen ∷ []; said = 6000 ∷ [] }
-    ∷ record { given = counterOf (advancedOf begun half 0 0x6000 0xFC18) half 0 0x6000 0xFC18 0 ∷ []; said = 0xFC18 ∷ [] }
+    record { given = periodOf 0 ∷ []; expected = 0x10000 ∷ [] }
+    ∷ record { given = periodOf 0xFFFF ∷ []; expected = 1 ∷ [] }
+    ∷ record { given = advancedOf begun half 0 0x6000 0xFC18 .seen ∷ []; expected = 6000 ∷ [] }
+    ∷ record {
+      given = counterOf (advancedOf begun half 0 0x6000 0xFC18) half 0 0x6000 0xFC18 0 ∷ [];
+      expected =
+          0xFC18 ∷ [];
+    }
     ∷ []

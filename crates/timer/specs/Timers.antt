@@ -1,5 +1,6 @@
--- A timer, as document 000 has it: Timer, sysclk, timer_rate, timer_period, timer_elapsed, timer_counter, timer_write_ctrl,
--- timer_advance and the timer words of mmio_read. Every f64 operation stands in the Rust's order; a literal is given by its bits.
+-- A timer, as document 000 has it: Timer, sysclk, timer_rate, timer_period, timer_elapsed, timer_counter,
+-- timer_write_ctrl, timer_advance and the timer words of mmio_read. Every f64 operation stands in the Rust's order; a
+-- literal is given by its bits.
 use mathlib.Core.Bool.{Bool, false, cond, _&&_, _||_}
 use Prim.Native.Nat.{ℕ, _+_, _-_, _/_, _%_}
 use lib.IntN.{pos}
@@ -25,7 +26,7 @@ rateOf clock control =
 
 -- 65,536 less the word's low 16 bits
 abbrev pub periodOf : ℕ → ℕ
-periodOf reload = 65536 - reload % 65536
+periodOf reload = 0x10000 - reload % 0x10000
 
 -- (now - start) * rate
 abbrev pub ticks : Float → Float → Float → Float
@@ -38,7 +39,8 @@ elapsedOf start now rate = cond (lt (ofBits binary64 0) (ticks start now rate)) 
 -- bit 13 runs the timer
 unfoldable pub counterOf : Timer → Float → ℕ → ℕ → ℕ → ℕ → ℕ
 counterOf t now clock control reload stored =
-    cond (has control 0x2000) ((65536 - periodOf reload + elapsedOf (t .start) now (rateOf clock control) % periodOf reload) % 65536) stored
+    cond (has control 0x2000) ((0x10000 - periodOf reload + elapsedOf (t .start) now (rateOf clock control) % periodOf
+    reload) % 0x10000) stored
 
 -- what is pending stands in bit 15
 unfoldable pub controlOf : Timer → ℕ → ℕ
@@ -60,7 +62,12 @@ writtenOf t now val old = record {
 -- bit 14 asks for an interrupt
 abbrev pub noted : Timer → ℕ → ℕ → Timer
 noted t periods control =
-    cond (ltb (t .seen) periods) (record { start = t .start; seen = periods; pending = t .pending || has control 0x4000 }) t
+    cond (ltb (t .seen) periods) (record {
+      start = t .start;
+      seen = periods;
+      pending = t .pending || has control
+          0x4000;
+    }) t
 
 unfoldable pub advancedOf : Timer → Float → ℕ → ℕ → ℕ → Timer
 advancedOf t now clock control reload =

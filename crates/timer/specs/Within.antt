@@ -1,4 +1,5 @@
--- What holds of timers and tones within the limits. Every operation keeps `Started`, so whatever runs over timers may carry it along.
+-- What holds of timers and tones within the limits. Every operation keeps `Started`, so whatever runs over timers may
+-- carry it along.
 use Prim.Native.Nat.{_^_, _≤_}
 use lib.Dec.{T}
 use lib.Ieee.{Float, binary64, ofBits, le}
@@ -21,7 +22,7 @@ abbrev pub high : Float
 high = ofBits binary64 0x3FEE_6666_6666_6666
 
 -- the frequency of a tone is finite, and its duty is held within 0.05 and 0.95
-pub record Held (tone : Tone) : Type 0 where
+pub record ToneWithin (tone : Tone) : Type 0 where
   pub frequency : AtMost (tone .frequency) (2 ^ 31)
   pub from : T (le low (tone .duty))
   pub to : T (le (tone .duty) high)

@@ -1,8 +1,10 @@
-// Sound events that wait: a ring of 256 places, oldest first. A place that is given back holds zeros, and an empty ring starts at
-// place 0 again, so that what waits says all of the state but where it starts.
+// Sound events that wait: a ring of 256 places, oldest first. A place that is given back holds zeros, and an empty
+// ring starts at place 0 again, so that what waits says all of the state but where it starts.
 ghost use mathlib.Core.Path.{_≡_};
-ghost use Rattle.timer.specs.Events.{nothing, placeOf, skipped, queueOf, emptyQueue, eventOf, without, fullOf, fitOf};
-ghost use Rattle.timer.specs.Events.{putOutcome, putOf, takeOutcome, takeOf, layOutcome, layOf, dropOf, batched, bulkOutcome, bulkOf};
+ghost use Rattle.timer.specs.Events.{nothing, placeOf, skipped, queueOf, emptyQueue, eventOf, without, fullOf};
+ghost use Rattle.timer.specs.Events.{fitOf};
+ghost use Rattle.timer.specs.Events.{putOutcome, putOf, takeOutcome, takeOf, layOutcome, layOf, dropOf};
+ghost use Rattle.timer.specs.Events.{batched, bulkOutcome, bulkOf};
 use crate::Added;
 use crate::Batch;
 use crate::Bulk;
@@ -61,7 +63,8 @@ pub fn put_in(
     ring: Ring,
     event: Event,
 ) -> Added
-    ensures { λ r. ⌜ putOutcome (r .refusal) (queueOf (now (times .exit)) (now (frequencies .exit)) (now (duties .exit)) (r .ring))
+    ensures { λ r. ⌜ putOutcome (r .refusal) (queueOf (now (times .exit)) (now (frequencies .exit))
+        (now (duties .exit)) (r .ring))
         ≡ putOf (queueOf (now (times .entry)) (now (frequencies .entry)) (now (duties .entry)) ring) event ⌝ }
 {
     let count = ring.count;
@@ -91,7 +94,8 @@ fn event_in<'a>(
     ring: Ring,
     i: usize,
 ) -> Event
-    ensures { λ r. ⌜ r ≡ eventOf (queueOf (now (times .entry)) (now (frequencies .entry)) (now (duties .entry)) ring) i ⌝ }
+    ensures { λ r. ⌜ r ≡ eventOf (queueOf (now (times .entry)) (now (frequencies .entry)) (now (duties .entry)) ring)
+        i ⌝ }
 {
     let at = place(ring, i);
     Event {
@@ -130,7 +134,8 @@ pub fn take_from(
     duties: &mut [f64; 256],
     ring: Ring,
 ) -> Oldest
-    ensures { λ r. ⌜ takeOutcome (r .refusal) (r .event) (queueOf (now (times .exit)) (now (frequencies .exit)) (now (duties .exit)) (r .ring))
+    ensures { λ r. ⌜ takeOutcome (r .refusal) (r .event) (queueOf (now (times .exit)) (now (frequencies .exit))
+        (now (duties .exit)) (r .ring))
         ≡ takeOf (queueOf (now (times .entry)) (now (frequencies .entry)) (now (duties .entry)) ring) ⌝ }
 {
     if ring.count == 0 {
@@ -159,7 +164,8 @@ fn fit_in(ring: Ring, room: usize) -> usize
     room
 }
 
-// As many waiting events as there are records, oldest first, and their number; later records stay. No place is given back yet.
+// As many waiting events as there are records, oldest first, and their number; later records stay. No place is given
+// back yet.
 fn lay_into<'a, 'b>(
     times: &'a [f64; 256],
     frequencies: &'a [f64; 256],
@@ -168,7 +174,8 @@ fn lay_into<'a, 'b>(
     records: &'b mut [Event],
 ) -> usize
     ensures { λ r. ⌜ layOutcome r (now (records .exit))
-        ≡ layOf (queueOf (now (times .entry)) (now (frequencies .entry)) (now (duties .entry)) ring) (now (records .entry)) ⌝ }
+        ≡ layOf (queueOf (now (times .entry)) (now (frequencies .entry)) (now (duties .entry)) ring)
+        (now (records .entry)) ⌝ }
 {
     let count = fit_in(ring, records.len());
     let mut i = 0;
@@ -194,7 +201,8 @@ fn drop_batch(
     Batch { count, ring: rest }
 }
 
-// The bulk taker: as many events as there are records, oldest first. Their number is the answer, and none waiting is no refusal.
+// The bulk taker: as many events as there are records, oldest first. Their number is the answer, and none waiting is
+// no refusal.
 pub fn take_into(
     times: &mut [f64; 256],
     frequencies: &mut [f64; 256],
@@ -202,8 +210,10 @@ pub fn take_into(
     ring: Ring,
     records: &mut [Event],
 ) -> Batch
-    ensures { λ r. ⌜ bulkOutcome (batched r (now (times .exit)) (now (frequencies .exit)) (now (duties .exit))) (now (records .exit))
-        ≡ bulkOf (queueOf (now (times .entry)) (now (frequencies .entry)) (now (duties .entry)) ring) (now (records .entry)) ⌝ }
+    ensures { λ r. ⌜ bulkOutcome (batched r (now (times .exit)) (now (frequencies .exit)) (now (duties .exit)))
+        (now (records .exit))
+        ≡ bulkOf (queueOf (now (times .entry)) (now (frequencies .entry)) (now (duties .entry)) ring)
+        (now (records .entry)) ⌝ }
 {
     let count = lay_into(times, frequencies, duties, ring, records);
     drop_batch(times, frequencies, duties, ring, count)

@@ -1,6 +1,7 @@
 // A timer by value. Its registers belong to the bus, which hands in the words that a function reads.
 ghost use mathlib.Core.Path.{_≡_};
-ghost use Rattle.timer.specs.Timers.{freshTimer, periodOf, sysclkOf, rateOf, elapsedOf, counterOf, controlOf, clearedOf, writtenOf, advancedOf};
+ghost use Rattle.timer.specs.Timers.{freshTimer, periodOf, sysclkOf, rateOf, elapsedOf, counterOf, controlOf};
+ghost use Rattle.timer.specs.Timers.{clearedOf, writtenOf, advancedOf};
 
 pub mod events;
 pub mod sound;
@@ -123,7 +124,7 @@ pub fn rate(clock: u32, control: u32) -> f64
 pub fn period(reload: u32) -> u64
     ensures { λ r. ⌜ r ≡ periodOf reload ⌝ }
 {
-    65536 - (reload % 65536) as u64
+    0x1_0000 - (reload % 0x1_0000) as u64
 }
 
 pub fn elapsed(start: f64, now: f64, rate: f64) -> u64
@@ -142,7 +143,7 @@ pub fn counter(t: Timer, now: f64, clock: u32, control: u32, reload: u32, stored
     }
     let p = period(reload);
     let e = elapsed(t.start, now, rate(clock, control));
-    ((65536 - p + e % p) % 65536) as u32
+    ((0x1_0000 - p + e % p) % 0x1_0000) as u32
 }
 
 // The control word as it is read: bit 15 says what is pending.

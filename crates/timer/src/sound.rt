@@ -52,8 +52,8 @@ fn differ(a: Tone, b: Tone) -> bool
     a.duty != b.duty
 }
 
-// The words are those that a write would leave, so that a write that is refused can be left undone. `full` says that 256
-// events wait. The event of a change is the time and the tone.
+// The words are those that a write would leave, so that a write that is refused can be left undone. `full` says that
+// 256 events wait. The event of a change is the time and the tone.
 pub fn sound_update(
     state: Tone,
     full: bool,

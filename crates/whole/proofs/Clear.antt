@@ -1,5 +1,5 @@
--- Floats that are finite with a clear sign, m * 2 ^ e: what holds for each m and e holds of them all; and their order is that of the
--- fractions m * up e / down e.
+-- Floats that are finite with a clear sign, m * 2 ^ e: what holds for each m and e holds of them all; and their order
+-- is that of the fractions m * up e / down e.
 use mathlib.Core.Logic.{_⊎_, inl, inr}
 use mathlib.Core.Bool.{Bool, true, false, _||_, _&&_}
 use Prim.Native.Nat.{ℕ, _*_, _≤_}
@@ -16,7 +16,8 @@ any P h (inf s) c = absurd c
 any P h (fin true m e) c = absurd c
 any P h (fin false m e) c = h m e
 
-pub any2 : (P : Float → Float → Type 0) → ((m : ℕ) (e : ℤ) (n : ℕ) (d : ℤ) → P (fin false m e) (fin false n d)) → (x y : Float) → Clear x → Clear y → P x y
+pub any2 : (P : Float → Float → Type 0) → ((m : ℕ) (e : ℤ) (n : ℕ) (d : ℤ) → P (fin false m e) (fin false n d))
+    → (x y : Float) → Clear x → Clear y → P x y
 any2 P h x y p q = any (λ (x : Float). P x y) (λ m e. any (P (fin false m e)) (h m e) y q) x p
 
 pub at-most-clear : (x : Float) (n : ℕ) → AtMost x n → Clear x
@@ -37,8 +38,13 @@ or-split false b t = inr t
 
 lt-or-eq : (a b : ℕ) → T (ltb a b || (eqb a b && true)) → a ≤ b
 lt-or-eq a b t =
-    elim (or-split (ltb a b) (eqb a b && true) t) [ inl u ↦ le-of-lt (ltb→lt a b u) | inr u ↦ le-of-eq (eqb→eq a b (and-l (eqb a b) true u)) ]
+    elim (or-split (ltb a b) (eqb a b && true) t) [
+      | inl u ↦ le-of-lt (ltb→lt a b u)
+      | inr u ↦ le-of-eq
+          (eqb→eq a b (and-l (eqb a b) true u))
+    ]
 
-pub cross : (m : ℕ) (e : ℤ) (n : ℕ) (d : ℤ) → T (le (fin false m e) (fin false n d)) → m * up e * down d ≤ n * up d * down e
+pub cross : (m : ℕ) (e : ℤ) (n : ℕ) (d : ℤ) → T (le (fin false m e) (fin false n d))
+    → m * up e * down d ≤ n * up d * down e
 unfolding le
 cross m e n d h = lt-or-eq (m * up e * down d) (n * up d * down e) h

@@ -3,7 +3,8 @@ use mathlib.Core.Path.{_≡_, refl, sym, ap, _∙_, subst}
 use mathlib.Core.Logic.{inl, inr}
 use mathlib.Core.Bool.{Bool, true, false, not, _&&_, true≢false}
 use Prim.Native.Nat.{ℕ, _*_, _^_, _≤_, _<_}
-use native.Mathlib.Nat.{le-trans, le-of-eq, not-le-of-lt, mul-right-comm, mul-le-mul-right, le-of-mul-le-mul-right, lt-of-not-le}
+use native.Mathlib.Nat.{le-trans, le-of-eq, not-le-of-lt, mul-right-comm, mul-le-mul-right, le-of-mul-le-mul-right}
+use native.Mathlib.Nat.{lt-of-not-le}
 use native.Mathlib.Nat.{mul-lt-mul-of-pos-right, mul-comm}
 use native.Mathlib.Omega.{arith}
 use lib.Dec.{T, leb, lit<}
@@ -33,7 +34,8 @@ up-to-value n (fin true m e) a c C h = absurd (true≢false (h .0))
 up-to-value n (fin false m e) a c C h =
     same (m * up e) (n * down e) a (n * c)
     (λ (k : m * up e ≤ n * down e). le-of-mul-le-mul-right
-    (le-trans (le-of-eq (sym (h .1))) (le-trans (mul-le-mul-right c k) (le-of-eq (mul-right-comm n (down e) c)))) (down-pos e))
+    (le-trans (le-of-eq (sym (h .1))) (le-trans (mul-le-mul-right c k) (le-of-eq (mul-right-comm n (down e) c))))
+    (down-pos e))
     (λ (k : a ≤ n * c). le-of-mul-le-mul-right
     (le-trans (le-of-eq (h .1)) (le-trans (mul-le-mul-right (down e) k) (le-of-eq (mul-right-comm n c (down e))))) C)
 
@@ -57,7 +59,8 @@ up-to-bits n k b K v = elim (lt-or-ge b (2047 * 2 ^ 52)) [
   | inl h ↦
       same b k (val b) (n * 2 ^ 1074)
       (λ (l : b ≤ k). le-trans (val-le b k l) (le-of-eq v))
-      (λ (l : val b ≤ n * 2 ^ 1074). le-of-not-lt b k (λ (m : k < b). not-le-of-lt (val-lt k b m) (le-trans l (le-of-eq (sym v)))))
+      (λ (l : val b ≤ n * 2 ^ 1074). le-of-not-lt b k (λ (m : k < b). not-le-of-lt (val-lt k b m)
+      (le-trans l (le-of-eq (sym v)))))
       ∙ sym (up-to-value n (ofBits binary64 b) (val b) (2 ^ 1074) (pow-pos 1074) (value b h))
   | inr h ↦ lt-leb b k (above b k K h) ∙ sym (elim (lt-or-ge b (2 ^ 63)) [
     | inl l ↦ top-any (λ (x : Float). upTo n x ≡ false) refl refl b h l
@@ -73,7 +76,8 @@ down-to-bits : (n k b : ℕ) → 0 < n → b < 2047 * 2 ^ 52 → val k * n ≡ 2
 down-to-bits n k b N h v =
     same k b (2 ^ 1074) (val b * n)
     (λ (l : k ≤ b). le-trans (le-of-eq (sym v)) (mul-le-mul-right n (val-le k b l)))
-    (λ (l : 2 ^ 1074 ≤ val b * n). le-of-not-lt k b (λ (m : b < k). not-le-of-lt (mul-lt-mul-of-pos-right (val-lt b k m) N) (le-trans (le-of-eq v) l)))
+    (λ (l : 2 ^ 1074 ≤ val b * n). le-of-not-lt k b
+    (λ (m : b < k). not-le-of-lt (mul-lt-mul-of-pos-right (val-lt b k m) N) (le-trans (le-of-eq v) l)))
     ∙ sym (down-to-value n (ofBits binary64 b) (val b) (2 ^ 1074) (pow-pos 1074) (value b h))
 
 -- 0x4140_0000_0000_0000 is the pattern of 2,097,152.0
@@ -84,7 +88,8 @@ time-bits b = up-to-bits 2097152 0x4140_0000_0000_0000 b (lit< tt) refl
 pub turbo-bits : (b : ℕ) → (leb 0x3F50_0000_0000_0000 b && leb b 0x4090_0000_0000_0000) ≡ goodTurbo (ofBits binary64 b)
 turbo-bits b = elim (lt-or-ge 0x4090_0000_0000_0000 b) [
   | inl h ↦ last (leb 0x3F50_0000_0000_0000 b) (downTo 1024 (ofBits binary64 b)) (lt-leb b 0x4090_0000_0000_0000 h)
-  | inr h ↦ ap (λ (t : Bool). t && leb b 0x4090_0000_0000_0000) (down-to-bits 1024 0x3F50_0000_0000_0000 b (lit< tt) (omega arith) refl) ∙ ap
+  | inr h ↦ ap (λ (t : Bool). t && leb b 0x4090_0000_0000_0000) (down-to-bits 1024 0x3F50_0000_0000_0000 b (lit< tt)
+      (omega arith) refl) ∙ ap
       (λ (t : Bool). downTo 1024 (ofBits binary64 b) && t) hi
 ]
   where
@@ -97,7 +102,8 @@ turbo-bits b = elim (lt-or-ge 0x4090_0000_0000_0000 b) [
     none false true = refl
     none false false = refl
 
-    last : (p q : Bool) → leb b 0x4090_0000_0000_0000 ≡ false → (p && leb b 0x4090_0000_0000_0000) ≡ (q && upTo 1024 (ofBits binary64 b))
+    last : (p q : Bool) → leb b 0x4090_0000_0000_0000 ≡ false
+        → (p && leb b 0x4090_0000_0000_0000) ≡ (q && upTo 1024 (ofBits binary64 b))
     last p q h = ap (λ (t : Bool). p && t) h ∙ none p q ∙ ap (λ (t : Bool). q && t) (sym h ∙ hi)
 
 -- what is accepted is no NaN, so `f64::from_bits` reads its pattern

@@ -7,4 +7,19 @@ use Rattle.whole.specs.Edges.{edges}
 
 pub judged : All edges
 unfolding checkedOf ofBits
-judged = (refl, (refl, (refl, (refl, (refl, (refl, (refl, (refl, (refl, (refl, (refl, (refl, (refl, (refl, (refl, (refl, tt))))))))))))))))
+judged = (
+  refl,
+  (
+    refl,
+    (
+      refl,
+      (
+        refl,
+        (
+          refl,
+          (refl, (refl, (refl, (refl, (refl, (refl, (refl, (refl, (refl, (refl, (refl, tt))))))))))),
+        ),
+      ),
+    ),
+  ),
+)

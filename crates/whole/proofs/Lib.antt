@@ -1,4 +1,5 @@
--- The laws of IEEE 754 that this crate and those above it cite.
+-- The laws that this crate and those above it cite: of IEEE 754, of tests, of outcomes.
+pub mod Choice
 pub mod Clear
 pub mod Bits
 pub mod Cuts

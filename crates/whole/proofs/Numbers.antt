@@ -1,11 +1,13 @@
--- The refusals by their numbers, each given exactly when its rule says; and what is read of a pattern that is not refused.
+-- The refusals by their numbers, each given exactly when its rule says; and what is read of a pattern that is not
+-- refused.
 use mathlib.Core.Path.{_≡_, refl, ap}
 use mathlib.Core.Bool.{Bool, true, false, cond}
 use Prim.Native.Nat.{ℕ}
 use native.Mathlib.Omega.{arith}
 use lib.Ieee.{Float, binary64, ofBits}
 use Rattle.whole.specs.declared.Checked.the-variants.{Good, Bad}
-use Rattle.whole.specs.Limits.{goodTime, goodTurbo, checkedOf, timeOf, turboOf, refusalOf, timeRefusal, turboRefusal}
+use Rattle.whole.specs.Limits.{goodTime, goodTurbo, checkedOf, timeOf, turboOf, refusalOf, timeRefusal}
+use Rattle.whole.specs.Limits.{turboRefusal}
 
 number : (n : ℕ) (good : Bool) (bits : ℕ) → refusalOf n (checkedOf good bits) ≡ cond good 0 n
 unfolding checkedOf
@@ -25,7 +27,8 @@ checked-good true bits x e = cc
 checked-good false bits x e = absurd (let z : _≡_ {A = ℕ} 0 1 = cc in omega arith)
 
 -- what is made of a good one
-pub checked-then : {A : Type 0} (good : Bool) (bits : ℕ) (f : Float → A) (n : A) (x : Float) → Good x ≡ checkedOf good bits
+pub checked-then : {A : Type 0} (good : Bool) (bits : ℕ) (f : Float → A) (n : A) (x : Float)
+    → Good x ≡ checkedOf good bits
     → f x ≡ cond good (f (ofBits binary64 bits)) n
 unfolding checkedOf
 checked-then true bits f n x e = ap f (checked-good true bits x e)

@@ -5,10 +5,10 @@ use Rattle.whole.specs.Limits.{timeOf, turboOf, timeRefusal, turboRefusa
 use Rattle.whole.specs.Table.{Example}
 
 abbrev time : ℕ → ℕ → Example
-time bits refusal = record { given = timeRefusal (timeOf bits) ∷ []; said = refusal ∷ [] }
+time bits refusal = record { given = timeRefusal (timeOf bits) ∷ []; expected = refusal ∷ [] }
 
 abbrev turbo : ℕ → ℕ → Example
-turbo bits refusal = record { given = turboRefusal (turboOf bits) ∷ []; said = refusal ∷ [] }
+turbo bits refusal = record { given = turboRefusal (turboOf bits) ∷ []; expected = refusal ∷ [] }
 
 abbrev pub edges : List Example
 edges =

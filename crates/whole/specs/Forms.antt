@@ -1,7 +1,11 @@
 -- Numbers in other forms.
 use Prim.Native.Nat.{ℕ}
 use mathlib.Core.Bool.{Bool, true, false, cond}
-use lib.Ieee.{Float, binary64, toBits, ne}
+use lib.Ieee.{Float, binary64, ofBits, toBits, ne}
+
+-- 0.0
+abbrev pub nought : Float
+nought = ofBits binary64 0
 
 -- the bits of a float; what is no number has one pattern
 unfoldable pub bitsOf : Float → ℕ

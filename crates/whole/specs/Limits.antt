@@ -1,5 +1,5 @@
--- The times and turbos that are accepted, and the refusals 1 and 2 of the others. A float `fin s m e` is m * 2 ^ e, negative where s
--- is true, and 2 ^ e is up e / down e.
+-- The times and turbos that are accepted, and the refusals 1 and 2 of the others. A float `fin s m e` is m * 2 ^ e,
+-- negative where s is true, and 2 ^ e is up e / down e.
 use mathlib.Core.Bool.{Bool, true, false, cond, _&&_}
 use Prim.Native.Nat.{ℕ, _*_}
 use lib.Dec.{leb}

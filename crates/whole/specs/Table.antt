@@ -6,11 +6,11 @@ use Prim.Native.Nat.{ℕ}
 -- numbers in the paper's order: often one, of a chip's answers several
 pub record Example : Type 0 where
   pub given : List ℕ
-  pub said : List ℕ
+  pub expected : List ℕ
 
 -- the claim, of each example in turn
 abbrev pub Holds : Example → Type 0
-Holds e = e .given ≡ e .said
+Holds e = e .given ≡ e .expected
 
 abbrev pub All : List Example → Type 0
 All [] = Unit {0}

@@ -27,8 +27,14 @@ pub fn low(n: u64) -> u32
     (n % 0x1_0000_0000) as u32
 }
 
-// One of two words, with no branch for the caller.
-pub fn keep(here: bool, a: u32, b: u32) -> u32
+// One of two numbers, with no branch for the caller.
+pub fn choose(here: bool, a: u32, b: u32) -> u32
+    ensures { λ r. ⌜ r ≡ cond here a b ⌝ }
+{
+    if here { a } else { b }
+}
+
+pub fn choose_wide(here: bool, a: u64, b: u64) -> u64
     ensures { λ r. ⌜ r ≡ cond here a b ⌝ }
 {
     if here { a } else { b }

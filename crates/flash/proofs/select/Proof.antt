@@ -5,10 +5,10 @@ use mathlib.Core.List.{List}
 use Prim.Native.Nat.{ℕ}
 use lib.ListN.{length}
 use borrow.Author.Tests.{not-true, not-false}
-use Rattle.flash.specs.Board.{Board, board, outcome, goodSize, done, refusing, giving}
+use Rattle.flash.specs.Board.{Board, board, outcome, withCs, goodSize, acceptedOutcome, refusing, giving}
 use Rattle.flash.specs.Buf.{blank}
 use Rattle.flash.specs.Finish.{stateAfter, arrayAfter}
-use Rattle.flash.specs.Flash.{selected, selectBoard, begun, withCs, acted}
+use Rattle.flash.specs.Flash.{selected, selectBoard, begun, deselectAct}
 use Rattle.flash.specs.Pick.{pick}
 use Rattle.flash.specs.declared.Chip.{Chip}
 use Rattle.flash.specs.declared.Reply.{Reply}
@@ -24,7 +24,7 @@ bad w on g e f h = rw h (sym (select-refused w on (sym e ∙ not-true g f)))
 fine : (w v : Board) (on g : Bool) {r : Reply} → g ≡ goodSize (length (w .array)) → not g ≡ false → r ≡ giving 0
     (v .chip) → v ≡ selectBoard w on
     → outcome r (v .page) (v .array) ≡ selected w on
-fine w v on g e f h k = rw h (ap (done 0) k ∙ sym (select-done w on (sym e ∙ not-false g f)))
+fine w v on g e f h k = rw h (ap (acceptedOutcome 0) k ∙ sym (select-done w on (sym e ∙ not-false g f)))
 
 -- the four ways on
 on-on : (w : Board) (on : Bool) → on ≡ true → w .chip .cs ≡ true → w ≡ selectBoard w on
@@ -41,11 +41,13 @@ off-off : (w : Board) (on : Bool) → on ≡ false → not (w .chip .cs) ≡ tru
 off-off w on e f = rw (e, not-true (w .chip .cs) f)
 
 off-on : (w : Board) (on : Bool) {u v : Chip} {m : List ℕ} → on ≡ false → not (w .chip .cs) ≡ false
-    → (u ≡ stateAfter (acted (w .chip)) (w .chip)) × (m ≡ arrayAfter (acted (w .chip)) (w .chip .tx) (w .page)
+    → (u ≡ stateAfter (deselectAct (w .chip)) (w .chip)) × (m ≡ arrayAfter (deselectAct (w .chip)) (w .chip .tx)
+    (w .page)
     (w .array)) → v ≡ withCs u false
     → board v (w .page) m ≡ selectBoard w on
 off-on w on {u} {v} {m} e f h k =
-    let z : Board = board (withCs (stateAfter (acted (w .chip)) (w .chip)) false) (w .page) (arrayAfter (acted
+    let z : Board = board (withCs (stateAfter (deselectAct (w .chip)) (w .chip)) false) (w .page)
+    (arrayAfter (deselectAct
     (w .chip)) (w .chip .tx) (w .page) (w .array)) in
     let l : board v (w .page) m ≡ z = rw (k, h .0, h .1) in
     rw e (l ∙ taken (w .chip .cs) z w (not-false (w .chip .cs) f))

@@ -24,7 +24,7 @@ fine : (w : Board) (b : ℕ) (g : Bool) {r : Reply} {p : List ℕ} → g ≡ goo
     → outcome r p (w .array) ≡ transferred w b
 fine w b g e f h k = rw (h, k) (sym (transfer-done w b (sym e ∙ not-false g f)))
 
-bounds : (n : ℕ) → Sized n → (0 < n) × (n ≤ 8388608)
+bounds : (n : ℕ) → Sized n → (0 < n) × (n ≤ 0x80_0000)
 bounds n s = omega arith
 
 returns : tie.Need-returns

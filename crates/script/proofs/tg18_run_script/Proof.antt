@@ -11,7 +11,7 @@ returns-2 c =
     let c10 = c .before .before .before .before .before .before .before .before .before .before in
     let c16 = c10 .before .before .before .before .before .before in
     let c17 = c16 .before in
-    script-run _ _ _ _ _ _ (c17 .bad-memory .ensures) (c16 .if1 .left) (c10 .run .ensures)
+    script-run _ _ _ _ _ _ (c17 .bad-memory .ensures) (c16 .if1 .left) (c10 .run-script .ensures)
 
 pub tg18-run-script-spec : {M : Type 1} → statement M
 tg18-run-script-spec =

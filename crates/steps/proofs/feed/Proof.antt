@@ -1,5 +1,5 @@
 use mathlib.Core.Path.{_∙_}
-use Rattle.steps.proofs.Cases.{unsaid, over-fed, newline-fed, grown-fed}
+use Rattle.steps.proofs.Cases.{no-output, over-fed, newline-fed, grown-fed}
 use Rattle.steps.specs.Machine.{world}
 use borrow.Author.Needs.{needs}
 use Rattle.steps.proofs.feed.Statement.{statement}
@@ -10,7 +10,7 @@ returns c =
     let at-args = c .before .before .before .args in
     let at-if1 = c .before .if1 in
     let w = world (at-args .session) (at-args .page .now) (at-args .array .now) in
-    unsaid _ _ (c .quiet .ensures) ∙ over-fed w _ (at-if1 .taken)
+    no-output _ _ (c .quiet .ensures) ∙ over-fed w _ (at-if1 .taken)
 
 returns-2 : tie.Need-returns-2
 returns-2 c =
@@ -36,7 +36,7 @@ returns-3 c =
     let at-if2 = c2 .if2 in
     let at-longer = c1 .longer in
     let w = world (at-args .session) (at-args .page .now) (at-args .array .now) in
-    unsaid _ _ (c .quiet2 .ensures) ∙ grown-fed w _ (at-if1 .left) (at-if2 .left) (at-longer .ensures)
+    no-output _ _ (c .quiet2 .ensures) ∙ grown-fed w _ (at-if1 .left) (at-if2 .left) (at-longer .ensures)
 
 pub feed-spec : {M : Type 1} → statement M
 feed-spec =

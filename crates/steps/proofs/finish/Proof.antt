@@ -1,5 +1,5 @@
 use mathlib.Core.Path.{sym, _∙_}
-use Rattle.steps.proofs.Cases.{unsaid, over-finished, between-finished, within-finished}
+use Rattle.steps.proofs.Cases.{no-output, over-finished, between-finished, within-finished}
 use Rattle.steps.specs.Machine.{world}
 use borrow.Author.Needs.{needs}
 use Rattle.steps.proofs.finish.Statement.{statement}
@@ -10,7 +10,7 @@ returns c =
     let at-args = c .before .before .before .args in
     let at-if1 = c .before .if1 in
     let w = world (at-args .session) (at-args .page .now) (at-args .array .now) in
-    unsaid _ _ (c .quiet .ensures) ∙ over-finished w (at-if1 .taken)
+    no-output _ _ (c .quiet .ensures) ∙ over-finished w (at-if1 .taken)
 
 returns-2 : tie.Need-returns-2
 returns-2 c =
@@ -23,7 +23,7 @@ returns-2 c =
     let at-is-empty = c2 .is-empty in
     let at-if2 = c1 .if2 in
     let w = world (at-args .session) (at-args .page .now) (at-args .array .now) in
-    unsaid _ _ (c .quiet2 .ensures) ∙ between-finished w (at-if1 .left) (sym (at-is-empty .ensures) ∙
+    no-output _ _ (c .quiet2 .ensures) ∙ between-finished w (at-if1 .left) (sym (at-is-empty .ensures) ∙
     (at-if2 .taken))
 
 returns-3 : tie.Need-returns-3

@@ -6,7 +6,7 @@ use lib.Dec.{T}
 use lib.Ieee.{Float, binary64, toBits, isNan}
 use borrow.Author.Needs.{needs}
 use Rattle.whole.proofs.Cuts.{cut-by-bits, cut-nan, sign-set, fraction, dropped, moved, saturated}
-use Rattle.whole.proofs.Bits.{held, no-nan}
+use Rattle.whole.proofs.Bits.{bits-back, no-nan}
 use Rattle.whole.proofs.whole.Statement.{statement}
 use Rattle.whole.proofs.whole.Tie as tie
 
@@ -36,7 +36,7 @@ returns-6 c =
     let x = s .args .x in
     cut-by-bits x _ (s .good .0 .1)
     (saturated (toBits binary64 x) (omega arith) (c .before .before .before .if2 .left)
-    (subst (λ (y : Float). T (not (isNan y))) (sym (held x (s .good .0 .1))) (no-nan x
+    (subst (λ (y : Float). T (not (isNan y))) (sym (bits-back x (s .good .0 .1))) (no-nan x
     (c .before .before .before .before .if1 .left))))
 
 pub whole-spec : {M : Type 1} → statement M

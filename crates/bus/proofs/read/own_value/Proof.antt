@@ -1,118 +1,125 @@
-use native.Mathlib.Omega.{arith}
-use Rattle.state.specs.Bank.{partsIn, latchIn}
+use mathlib.Core.Path.{refl, sym, ap, _∙_}
+use Rattle.registers.specs.declared.Port.the-variants.{Select, Send, LcdControl, RtcCommand, Acts, Shows, Holds, Other}
 use Rattle.time.specs.Clocks.{clockIn}
-use Rattle.bus.proofs.Values.{value-timer, value-stored, value-status, value-masked, value-answer, value-pending, value-nought, value-ready, value-out, as-given, spi-given}
+use Rattle.state.specs.Bank.{partsIn}
+use Rattle.bus.specs.Read.{given}
+use Rattle.bus.proofs.Values.{read-as}
 use borrow.Author.Needs.{needs}
 use Rattle.bus.proofs.read.own_value.Statement.{statement}
 use Rattle.bus.proofs.read.own_value.Tie as tie
 
+acting-value-requires : tie.Need-acting-value-requires
+acting-value-requires c κs =
+    let c3 = c .before .before .before in
+    let c7 = c3 .before .before .before .before in (
+      (c7 .pre),
+      sym
+          (c3 .port-at .ensures) ∙ (c .before .port .given .1),
+    )
+
 returns : tie.Need-returns
 returns c =
+    let c2 = c .before .before in
+    let c4 = c2 .before .before in
+    let c5 = c4 .before in
+    let c8 = c5 .before .before .before in
+    let a = (c8 .args) in
+    let d = partsIn (a .cells .now) (a .floats .now) .devices in
+    read-as (a .own .now) d (clockIn (a .sram .now)) (a .s)
+    (c8 .pre)
+    (c5 .slot-get .ensures) (Acts _)
+    (sym (c2 .port .given .1) ∙ (c4 .port-at .ensures))
+    (ap (given (a .own .now)) (c .acting-value .ensures))
+
+view-of-requires : tie.Need-view-of-requires
+view-of-requires c κs =
+    let c2 = c .before .before in
+    let c4 = c2 .before .before in
+    let c8 = c4 .before .before .before .before in (
+      (c8 .pre),
+      sym
+          (c4 .port-at .ensures) ∙ (c2 .port2 .given .1),
+    )
+
+returns-2 : tie.Need-returns-2
+returns-2 c =
+    let c3 = c .before .before .before in
+    let c5 = c3 .before .before in
+    let c6 = c5 .before in
+    let c9 = c6 .before .before .before in
+    let a = (c9 .args) in
+    let d = partsIn (a .cells .now) (a .floats .now) .devices in
+    read-as (a .own .now) d (clockIn (a .sram .now)) (a .s)
+    (c9 .pre)
+    (c6 .slot-get .ensures) (Shows _)
+    (sym (c3 .port2 .given .1) ∙
+    (c5 .port-at .ensures)) (c .view-of .ensures)
+
+returns-3 : tie.Need-returns-3
+returns-3 c =
     let c2 = c .before .before in
     let c3 = c2 .before in
     let c6 = c3 .before .before .before in
     let a = (c6 .args) in
     let d = partsIn (a .cells .now) (a .floats .now) .devices in
-    let l = clockIn (a .sram .now) in
-    as-given (a .own .now) d l (a .s) (c3 .slot-get .ensures) (c6 .pre) (λ z. omega arith) (value-timer
-    (a .own .now) d l (a .s) (c3 .slot-get .result) (c2 .if1 .taken) (c .timer-value .ensures))
-
-returns-2 : tie.Need-returns-2
-returns-2 c =
-    let c2 = c .before .before in
-    let c4 = c2 .before .before in
-    let c7 = c4 .before .before .before in
-    let a = (c7 .args) in
-    let d = partsIn (a .cells .now) (a .floats .now) .devices in
-    let l = clockIn (a .sram .now) in
-    as-given (a .own .now) d l (a .s) (c4 .slot-get .ensures) (c7 .pre) (λ z. omega arith) (value-status
-    (a .own .now) d l (a .s) (c4 .slot-get .result) (c2 .match .keys1) (c .clock-status .ensures))
-
-returns-3 : tie.Need-returns-3
-returns-3 c =
-    let c2 = c .before .before in
-    let c5 = c2 .before .before .before in
-    let a = (c5 .args) in
-    let d = partsIn (a .cells .now) (a .floats .now) .devices in
-    let l = clockIn (a .sram .now) in
-    as-given (a .own .now) d l (a .s) (c2 .slot-get .ensures) (c5 .pre) (λ z. omega arith) (value-masked
-    (a .own .now) d l (a .s) (c2 .slot-get .result) (c .match .keys2))
+    read-as (a .own .now) d (clockIn (a .sram .now)) (a .s) (c6 .pre)
+    (c3 .slot-get .ensures) Select
+    (sym (c .enum-told .given .1) ∙ (c2 .port-at .ensures)) refl
 
 returns-4 : tie.Need-returns-4
 returns-4 c =
-    let c3 = c .before .before .before in
+    let c2 = c .before .before in
+    let c3 = c2 .before in
     let c6 = c3 .before .before .before in
     let a = (c6 .args) in
     let d = partsIn (a .cells .now) (a .floats .now) .devices in
-    let l = clockIn (a .sram .now) in
-    as-given (a .own .now) d l (a .s) (c3 .slot-get .ensures) (c6 .pre) (λ z. omega arith) (value-answer
-    (a .own .now) d l (a .s) (c3 .slot-get .result) (c .before .match .keys3) (c .rx-of .ensures))
+    read-as (a .own .now) d (clockIn (a .sram .now)) (a .s) (c6 .pre)
+    (c3 .slot-get .ensures) Send
+    (sym (c .enum-told2 .given .1) ∙ (c2 .port-at .ensures)) refl
 
 returns-5 : tie.Need-returns-5
 returns-5 c =
     let c2 = c .before .before in
-    let c4 = c2 .before .before in
-    let c7 = c4 .before .before .before in
-    let a = (c7 .args) in
+    let c3 = c2 .before in
+    let c6 = c3 .before .before .before in
+    let a = (c6 .args) in
     let d = partsIn (a .cells .now) (a .floats .now) .devices in
-    let l = clockIn (a .sram .now) in
-    as-given (a .own .now) d l (a .s) (c4 .slot-get .ensures) (c7 .pre) (λ z. omega arith) (value-pending
-    (a .own .now) d l (a .s) (c4 .slot-get .result) (c2 .match .keys4) ((c .pending-irq .ensures)
-    (a .floats .now)))
+    read-as (a .own .now) d (clockIn (a .sram .now)) (a .s) (c6 .pre)
+    (c3 .slot-get .ensures) LcdControl
+    (sym (c .enum-told3 .given .1) ∙ (c2 .port-at .ensures)) refl
 
 returns-6 : tie.Need-returns-6
 returns-6 c =
     let c2 = c .before .before in
-    let c5 = c2 .before .before .before in
-    let a = (c5 .args) in
+    let c3 = c2 .before in
+    let c6 = c3 .before .before .before in
+    let a = (c6 .args) in
     let d = partsIn (a .cells .now) (a .floats .now) .devices in
-    let l = clockIn (a .sram .now) in
-    as-given (a .own .now) d l (a .s) (c2 .slot-get .ensures) (c5 .pre) (λ z. omega arith) (value-nought
-    (a .own .now) d l (a .s) (c2 .slot-get .result) (c .match .keys5))
+    read-as (a .own .now) d (clockIn (a .sram .now)) (a .s) (c6 .pre)
+    (c3 .slot-get .ensures) RtcCommand
+    (sym (c .enum-told4 .given .1) ∙ (c2 .port-at .ensures)) refl
 
 returns-7 : tie.Need-returns-7
 returns-7 c =
     let c2 = c .before .before in
-    let c5 = c2 .before .before .before in
-    let a = (c5 .args) in
-    let d = partsIn (a .cells .now) (a .floats .now) .devices in
-    let l = clockIn (a .sram .now) in
-    as-given (a .own .now) d l (a .s) (c2 .slot-get .ensures) (c5 .pre) (λ z. omega arith) (value-ready
-    (a .own .now) d l (a .s) (c2 .slot-get .result) (c .match .keys6))
-
-returns-8 : tie.Need-returns-8
-unfolding latchIn
-returns-8 c =
-    let c3 = c .before .before .before in
+    let c3 = c2 .before in
     let c6 = c3 .before .before .before in
     let a = (c6 .args) in
     let d = partsIn (a .cells .now) (a .floats .now) .devices in
-    let l = clockIn (a .sram .now) in
-    as-given (a .own .now) d l (a .s) (c3 .slot-get .ensures) (c6 .pre) (λ z. omega arith) (value-out
-    (a .own .now) d l (a .s) (c3 .slot-get .result) (c .before .match .keys7) (c .out-of .ensures))
+    read-as (a .own .now) d (clockIn (a .sram .now)) (a .s) (c6 .pre)
+    (c3 .slot-get .ensures) Holds
+    (sym (c .enum-told5 .given .1) ∙ (c2 .port-at .ensures)) refl
 
-returns-9 : tie.Need-returns-9
-returns-9 c =
+returns-8 : tie.Need-returns-8
+returns-8 c =
     let c2 = c .before .before in
-    let c4 = c2 .before .before in
-    let c6 = c4 .before .before in
-    let c9 = c6 .before .before .before in
-    let a = (c9 .args) in
+    let c3 = c2 .before in
+    let c6 = c3 .before .before .before in
+    let a = (c6 .args) in
     let d = partsIn (a .cells .now) (a .floats .now) .devices in
-    spi-given (a .own .now) d (clockIn (a .sram .now)) (a .s) (c6 .slot-get .ensures) (c4 .match .keys8)
-    (c2 .own-reg .ensures) (c .own-insert .ensures)
-
-returns-10 : tie.Need-returns-10
-returns-10 c =
-    let c2 = c .before .before in
-    let c5 = c2 .before .before .before in
-    let n = (c .match .rest) in
-    let a = (c5 .args) in
-    let d = partsIn (a .cells .now) (a .floats .now) .devices in
-    let l = clockIn (a .sram .now) in
-    as-given (a .own .now) d l (a .s) (c2 .slot-get .ensures) (c5 .pre) (n .1) (value-stored (a .own .now) d l
-    (a .s) (c2 .slot-get .result) (c5 .pre) (n .0 .0 .0 .0 .0 .0 .0 .1) (n .0 .0 .0 .0 .0 .0 .1)
-    (n .0 .0 .0 .0 .0 .1) (n .0 .0 .0 .0 .1) (n .0 .0 .0 .1) (n .0 .0 .1) (n .0 .1) (c .before .if1 .left))
+    read-as (a .own .now) d (clockIn (a .sram .now)) (a .s) (c6 .pre)
+    (c3 .slot-get .ensures) Other
+    (sym (c .enum-told6 .given .1) ∙ (c2 .port-at .ensures)) refl
 
 pub own-value-spec : {M : Type 1} → statement M
 own-value-spec =
@@ -120,20 +127,21 @@ own-value-spec =
     (tie.spec
     (λ c κs. search needs)
     (λ c κs. search needs)
+    (λ c. search needs)
+    acting-value-requires
     returns
-    (λ c κs. search needs)
+    (λ c. search needs)
+    view-of-requires
     returns-2
+    (λ c. search needs)
     returns-3
-    (λ c κs. search needs)
     (λ c. search needs)
     returns-4
-    (λ c κs. search needs)
+    (λ c. search needs)
     returns-5
+    (λ c. search needs)
     returns-6
+    (λ c. search needs)
     returns-7
-    (λ c κs. search needs)
-    returns-8
-    (λ c κs. search needs)
-    (λ c κs. search needs)
-    returns-9
-    returns-10)
+    (λ c. search needs)
+    returns-8)

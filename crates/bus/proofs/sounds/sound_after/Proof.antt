@@ -1,7 +1,7 @@
 use native.Mathlib.Omega.{arith}
 use mathlib.Core.Path.{_≡_, refl}
 use lib.Dec.{eqb}
-use Rattle.registers.specs.Words.{wordsFrom, namedWords, ownWords, slotWord}
+use Rattle.registers.specs.Ports.{wordsFrom, namedWords, namedRows, ownWords, slotWord}
 use Rattle.bus.specs.Sounds.{soundOf}
 use Rattle.bus.proofs.Slots.{slot-is}
 use borrow.Author.Needs.{needs}
@@ -9,7 +9,7 @@ use Rattle.bus.proofs.sounds.sound_after.Statement.{statement}
 use Rattle.bus.proofs.sounds.sound_after.Tie as tie
 
 returns : tie.Need-returns
-unfolding soundOf ownWords wordsFrom namedWords
+unfolding soundOf ownWords wordsFrom namedWords namedRows
 returns c =
     let c2 = c .before .before in
     let c3 = c2 .before in
@@ -29,9 +29,9 @@ returns c =
       ← (c4 .own-reg2 .ensures),
       ← (c2 .own-reg3 .ensures),
       ←
-          (c5 .keep .ensures),
-      ← (c3 .keep2 .ensures),
-      ← (c .before .keep3 .ensures),
+          (c5 .choose .ensures),
+      ← (c3 .choose2 .ensures),
+      ← (c .before .choose3 .ensures),
     ) (c .sound-update .ensures)
 
 pub sound-after-spec : {M : Type 1} → statement M

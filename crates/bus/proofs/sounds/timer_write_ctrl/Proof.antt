@@ -1,9 +1,10 @@
 use mathlib.Core.Path.{_∙_}
 use Prim.Native.Nat.{_/_}
-use Rattle.registers.specs.Words.{slotWord}
+use Rattle.registers.specs.Ports.{slotWord}
 use Rattle.state.specs.Bank.{partsIn}
 use Rattle.bus.proofs.Slots.{slot-stored}
-use Rattle.bus.proofs.BankedWords.{only-put, only-then, devices-put, done-number, rest-put, timer-refused, timer-sounds, timer-plain}
+use Rattle.bus.proofs.BankedWords.{only-put, only-then, devices-put, done-number, rest-put, timer-refused}
+use Rattle.bus.proofs.BankedWords.{timer-sounds, timer-plain}
 use borrow.Author.Needs.{needs}
 use Rattle.bus.proofs.sounds.timer_write_ctrl.Statement.{statement}
 use Rattle.bus.proofs.sounds.timer_write_ctrl.Tie as tie
@@ -41,7 +42,7 @@ returns-2 c =
           (c13 .timer-of .ensures) (c11 .times-of .ensures) (c10 .write-ctrl .ensures) (c9 .if1 .taken) (y .0)
           (c3 .if2 .left) (devices-put (partsIn (a .cells .now) _) (p .parts)),
       rest-put (c3 .if2 .left) (only-then
-          (y .1 .only) (only-put (p .parts))) (λ k. p .kept (y .1 .kept k)),
+          (y .1 .only) (only-put (p .parts))) (λ k. p .packed (y .1 .packed k)),
     )
 
 returns-3 : tie.Need-returns-3
@@ -57,8 +58,8 @@ returns-3 c =
     let p = (c .before .put-timer2 .ensures) in (
       timer-plain (a .own .now) x (a .clock) (a .full) (a .s / 8) (slotWord (a .s)) (a .old) (a .new)
           (c10 .timer-of .ensures) (c8 .times-of .ensures) (c7 .write-ctrl .ensures) (c6 .if1 .left)
-          ((c4 .slot-set .ensures) ∙ slot-stored (a .s) (c13 .pre) (a .own .now) _) (p .parts) (c .done .ensures),
-      rest-put (done-number (c .done .ensures)) (only-put (p .parts)) (p .kept),
+          ((c4 .slot-set .ensures) ∙ slot-stored (a .s) (c13 .pre) (a .own .now) _) (p .parts) (c .accepted .ensures),
+      rest-put (done-number (c .accepted .ensures)) (only-put (p .parts)) (p .packed),
     )
 
 pub timer-write-ctrl-spec : {M : Type 1} → statement M

@@ -17,7 +17,7 @@ returns c =
       adc-done (a .own .now) x (a .old) (a .new) (c7 .converting-of .ensures) (c5 .own-reg .ensures)
           (c4 .adc-write-ctrl .ensures) (c2 .own-insert .ensures) (p .parts),
       only-put (p .parts),
-      p .kept,
+      p .packed,
     )
 
 pub adc-write-spec : {M : Type 1} → statement M

@@ -6,7 +6,7 @@ returns : tie.Need-returns
 returns c = let p = (c .put-off .ensures) (c .before .before .before .before .args .floats .now) in (
   (cc
       (p .parts)),
-  p .kept,
+  p .packed,
 )
 
 pub power-spec : {M : Type 1} → statement M

@@ -15,7 +15,7 @@ returns c =
     let p = (c .put-irq .ensures) in (
       day-put x (a .field) (a .new) (c7 .times-of .ensures)
           (c4 .irq-of .ensures) (c3 .tod-write .ensures) (p .parts),
-      p .kept,
+      p .packed,
     )
 
 pub tod-write-spec : {M : Type 1} → statement M

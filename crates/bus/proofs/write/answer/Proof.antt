@@ -3,7 +3,7 @@ use Rattle.bus.proofs.write.answer.Statement.{statement}
 use Rattle.bus.proofs.write.answer.Tie as tie
 
 returns : tie.Need-returns
-returns c = rw (c .before .enum-told .given .1) (c .done .ensures)
+returns c = rw (c .before .enum-told .given .1) (c .accepted .ensures)
 
 returns-2 : tie.Need-returns-2
 returns-2 c = rw (c .before .enum-told2 .given .1) (c .refused .ensures)

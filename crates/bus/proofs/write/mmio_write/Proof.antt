@@ -1,10 +1,11 @@
 use native.Mathlib.Omega.{arith}
 use mathlib.Core.Path.{_≡_}
-use Rattle.registers.specs.Words.{slotOf, registersOf}
+use Rattle.registers.specs.Words.{registersOf}
+use Rattle.registers.specs.Ports.{slotOf}
 use Rattle.registers.proofs.Own.{slot-most}
 use Rattle.state.specs.Bank.{partsIn}
 use Rattle.bus.specs.World.{world}
-use Rattle.bus.specs.Write.{wordOf}
+use Rattle.bus.specs.Write.{wordAddress}
 use Rattle.bus.proofs.BankedWrites.{reg-merged, reg-else}
 use borrow.Author.Needs.{needs}
 use Rattle.bus.proofs.write.mmio_write.Statement.{statement}
@@ -34,7 +35,7 @@ other-write-requires c κs =
     let c5 = c .before .before .before .before .before in
     let c6 = c5 .before in
     let c11 = c6 .before .before .before .before .before in
-    let m = slot-most (wordOf (c11 .args .addr)) in
+    let m = slot-most (wordAddress (c11 .args .addr)) in
     omega (arith, (c6 .slot .ensures), (c5 .if1 .left))
 
 returns-2 : tie.Need-returns-2
@@ -47,8 +48,8 @@ returns-2 c =
     let x = partsIn (a .cells .now) (a .floats .now) in
     let w = world r (a .rtc .now) (a .page .now) (a .ram .now) (a .sram .now) (a .gpio .now) (a .fb .now)
     (x .devices) in
-    let m = slot-most (wordOf (a .addr)) in
-    let none : slotOf (wordOf (a .addr)) ≡ 76 = omega (arith, (c7 .slot .ensures), (c6 .if1 .left)) in (
+    let m = slot-most (wordAddress (a .addr)) in
+    let none : slotOf (wordAddress (a .addr)) ≡ 76 = omega (arith, (c7 .slot .ensures), (c6 .if1 .left)) in (
       reg-else w (a .full) (a .addr) (a .size) (a .value) (c7 .slot .ensures) none (c .other-write .ensures .0),
       (c .other-write .ensures .1),
     )

@@ -21,7 +21,7 @@ returns c =
     (c7 .times-of .ensures) (c6 .tone-of .ensures)
     (c2 .put-in .ensures) (p .parts)
     in
-    (n .0, n .1, p .kept, λ h. absurd (true≢false (sym (c10 .if1 .taken) ∙ h)))
+    (n .0, n .1, p .packed, λ h. absurd (true≢false (sym (c10 .if1 .taken) ∙ h)))
 
 returns-2 : tie.Need-returns-2
 returns-2 c =

@@ -10,7 +10,7 @@ returns c =
     let c5 = c3 .before .before in
     let c8 = c5 .before .before .before in
     put-sized (c8 .args .size) 4 (c5 .if2 .taken) good-four (c8 .args .m .now) (c8 .args .at) (c8 .args .value)
-    (c3 .store .ensures) (c .done .ensures)
+    (c3 .store .ensures) (c .accepted .ensures)
 
 returns-2 : tie.Need-returns-2
 returns-2 c =
@@ -24,7 +24,7 @@ returns-3 c =
     let c5 = c3 .before .before in
     let c8 = c5 .before .before .before in
     put-sized (c8 .args .size) 2 (c5 .if3 .taken) good-two (c8 .args .m .now) (c8 .args .at) (c8 .args .value)
-    (c3 .store2 .ensures) (c .done2 .ensures)
+    (c3 .store2 .ensures) (c .accepted2 .ensures)
 
 returns-4 : tie.Need-returns-4
 returns-4 c =
@@ -32,7 +32,7 @@ returns-4 c =
     let c5 = c3 .before .before in
     let c9 = c5 .before .before .before .before in
     put-sized (c9 .args .size) 1 (c5 .if4 .taken) good-one (c9 .args .m .now) (c9 .args .at) (c9 .args .value)
-    (c3 .store3 .ensures) (c .done3 .ensures)
+    (c3 .store3 .ensures) (c .accepted3 .ensures)
 
 returns-5 : tie.Need-returns-5
 returns-5 c =

@@ -8,10 +8,10 @@ unfolding setOf
 returns c =
     rw (
       ← (c .before .before .before .tod .ensures),
-      ← (c .before .before .keep .ensures),
+      ← (c .before .before .choose-wide .ensures),
       ←
-          (c .before .keep2 .ensures),
-      ← (c .keep3 .ensures),
+          (c .before .choose-wide2 .ensures),
+      ← (c .choose-wide3 .ensures),
     )
 
 pub tod-write-spec : {M : Type 1} → statement M

@@ -12,7 +12,7 @@ returns c =
     let c2 = c .before .before in
     let c5 = c2 .before .before .before in
     let a = c5 .args in
-    came-back (a .start) (a .size) (a .array .now) _ (λ (l : List ℕ). replicate (length l) 255) (c2 .fill .ensures)
+    came-back (a .start) (a .size) (a .array .now) _ (λ (l : List ℕ). replicate (length l) 0xFF) (c2 .fill .ensures)
     ∙ rw (part-long (a .start) (a .size) (a .array .now) (c5 .pre))
 
 pub erase-block-spec : {M : Type 1} → statement M

@@ -12,7 +12,7 @@ use Rattle.flash.proofs.array.fill.Tie as tie
 abbrev Inv-loop : tie.InvT-loop
 Inv-loop part₀ k₀ k-end part k =
     (k-end ≡ length part₀) × (k ≤ length part₀) × (length part ≡ length part₀) ×
-    (part ≡ replicate k 255 ++ drop k part₀)
+    (part ≡ replicate k 0xFF ++ drop k part₀)
 
 abbrev μ-loop : tie.MeasureT-loop
 μ-loop part₀ k₀ k-end part k = length part₀ - k

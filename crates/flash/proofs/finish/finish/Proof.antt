@@ -28,13 +28,13 @@ arm s pg m x p q u v =
 addr-lt : (t : Trans) (n a : ℕ) → Sized n → a ≡ addrOf t n → a < n
 addr-lt t n a s e = rw e (mod-lt _ (omega arith))
 
-programmed : (t : Trans) (pg m m′ : List ℕ) (a : ℕ) → a ≡ addrOf t (length m)
+program-array : (t : Trans) (pg m m′ : List ℕ) (a : ℕ) → a ≡ addrOf t (length m)
     → m′ ≡ patch m (a - a % 256) 256 (ands (take 256 (drop (a - a % 256) m)) pg) → m′ ≡ arrayAfter Program t pg m
-programmed t pg m m′ a e h = h ∙ rw e
+program-array t pg m m′ a e h = h ∙ rw e
 
-erased : (b : Block) (t : Trans) (pg m m′ : List ℕ) (a k : ℕ) → a ≡ addrOf t (length m) → k ≡ blockSize b
-    → m′ ≡ patch m (a - a % k) k (replicate k 255) → m′ ≡ arrayAfter (Erase b) t pg m
-erased b t pg m m′ a k e f h = h ∙ rw (e, f)
+erase-array : (b : Block) (t : Trans) (pg m m′ : List ℕ) (a k : ℕ) → a ≡ addrOf t (length m) → k ≡ blockSize b
+    → m′ ≡ patch m (a - a % k) k (replicate k 0xFF) → m′ ≡ arrayAfter (Erase b) t pg m
+erase-array b t pg m m′ a k e f h = h ∙ rw (e, f)
 
 -- a block that an address below n lies in
 fits-block : (b : Block) (t : Trans) (n a k : ℕ) → Sized n → a ≡ addrOf t n → k ≡ blockSize b → a - a % k + k ≤ n
@@ -113,7 +113,7 @@ returns-4 c =
     let a = (c11 .args) in
     arm (a .chip) (a .page .now) (a .array .now) Program (at-decide .ensures) (at-enum-told4 .given .1)
     (c .wrote .ensures)
-    (programmed (a .chip .tx) (a .page .now) (a .array .now) _ _ (at-address .ensures) (at-program-page .ensures))
+    (program-array (a .chip .tx) (a .page .now) (a .array .now) _ _ (at-address .ensures) (at-program-page .ensures))
 
 returns-5 : tie.Need-returns-5
 returns-5 c =
@@ -132,7 +132,7 @@ returns-5 c =
     let b : Block = (at-act .given .0 .0) in
     arm (a .chip) (a .page .now) (a .array .now) (Erase b) (at-decide .ensures) (at-act .given .1)
     (c .wrote2 .ensures)
-    (erased b (a .chip .tx) (a .page .now) (a .array .now) _ _ _ (at-address .ensures) (at-size-of .ensures)
+    (erase-array b (a .chip .tx) (a .page .now) (a .array .now) _ _ _ (at-address .ensures) (at-size-of .ensures)
     (at-erase-block .ensures))
 
 returns-6 : tie.Need-returns-6

@@ -54,13 +54,16 @@ returns t c =
     let first = c .before .before .before .before .before .before .before in
     let test = first .before .before .if1 in
     let start = first .before .before .before .before .args in
-    hex-more (start .out .now) _ _ (start .at) (start .width) (start .n) _ (test .taken) (first .put-hex .ensures) (digit .ensures) (last .ensures)
+    hex-more (start .out .now) _ _ (start .at) (start .width) (start .n) _ (test .taken) (first .put-hex .ensures)
+    (digit .ensures) (last .ensures)
 
 returns-2 : (t : ℕ) → lts.Need-returns-2 (claims t) (here t) put-hex.Post
-returns-2 t c = let start = c .before .before .args in hex-none (start .out .now) (start .at) (start .width) (start .n) (c .if1 .left)
+returns-2 t c = let start = c .before .before .args in hex-none (start .out .now) (start .at) (start .width)
+    (start .n) (c .if1 .left)
 
 pub +put-hex-spec : {M : Type 1} → statement M
 +put-hex-spec =
     close μ-put-hex
-    λ t. lts.spec (claims t) (here t) put-hex.Post (sub-put-hex t) (put-hex-requires t) (add-put t) (sub-put t) (glyph-requires t) (put-requires t)
+    λ t. lts.spec (claims t) (here t) put-hex.Post (sub-put-hex t) (put-hex-requires t) (add-put t) (sub-put t)
+    (glyph-requires t) (put-requires t)
     (same-length t) (returns t) (returns-2 t)

@@ -23,12 +23,12 @@ returns c =
     let c47 = c45 .before .before in
     let c49 = c47 .before .before in
     let c55 = c49 .before .before .before .before .before .before in
-    packed-words (c55 .args .x) ((c .put-keys .ensures .kept) ((c3 .put-ring .ensures) _ .kept
-    ((c5 .put-off .ensures) _ .kept ((c7 .put-tone .ensures) _ .kept ((c9 .put-latch .ensures .kept)
-    ((c12 .put-converting .ensures) _ .kept ((c14 .put-vsync .ensures) _ .kept ((c16 .put-irq .ensures .kept)
-    ((c19 .put-timer6 .ensures .kept) ((c23 .put-timer5 .ensures .kept) ((c27 .put-timer4 .ensures .kept)
-    ((c31 .put-timer3 .ensures .kept) ((c35 .put-timer2 .ensures .kept) ((c39 .put-timer .ensures .kept)
-    ((c43 .put-times .ensures) _ .kept ((c45 .put-panel .ensures) _ .kept ((c47 .put-chip .ensures) _ .kept
+    packed-words (c55 .args .x) ((c .put-keys .ensures .packed) ((c3 .put-ring .ensures) _ .packed
+    ((c5 .put-off .ensures) _ .packed ((c7 .put-tone .ensures) _ .packed ((c9 .put-latch .ensures .packed)
+    ((c12 .put-converting .ensures) _ .packed ((c14 .put-vsync .ensures) _ .packed ((c16 .put-irq .ensures .packed)
+    ((c19 .put-timer6 .ensures .packed) ((c23 .put-timer5 .ensures .packed) ((c27 .put-timer4 .ensures .packed)
+    ((c31 .put-timer3 .ensures .packed) ((c35 .put-timer2 .ensures .packed) ((c39 .put-timer .ensures .packed)
+    ((c43 .put-times .ensures) _ .packed ((c45 .put-panel .ensures) _ .packed ((c47 .put-chip .ensures) _ .packed
     zeros-packed))))))))))))))))) (all-put _ _ (c55 .args .x) (c49 .six-long .ensures) ((c47 .put-chip .ensures) _
     .parts) ((c45 .put-panel .ensures) _ .parts) ((c43 .put-times .ensures) _ .parts)
     (c39 .put-timer .ensures .parts) (c35 .put-timer2 .ensures .parts) (c31 .put-timer3 .ensures .parts)

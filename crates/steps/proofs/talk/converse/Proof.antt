@@ -1,20 +1,20 @@
 use mathlib.Core.Path.{_≡_, refl, _∙_}
 use native.Mathlib.Omega.{arith}
 use lib.ListN.{length}
-use Rattle.steps.specs.Machine.{world, Hears}
-use Rattle.steps.proofs.Runs.{hears-none, hears-more}
+use Rattle.steps.specs.Machine.{world, Reaches}
+use Rattle.steps.proofs.Runs.{reaches-none, reaches-more}
 use Rattle.steps.proofs.talk.converse.Statement.{statement}
 use Rattle.steps.proofs.talk.converse.Tie as tie
 
 abbrev Inv-loop : tie.InvT-loop
 Inv-loop input output page₀ array₀ s₀ more₀ lost₀ turns₀ page array s more lost turns =
-    (length array ≡ length array₀) × Hears (world s₀ page₀ array₀) (world s page array)
+    (length array ≡ length array₀) × Reaches (world s₀ page₀ array₀) (world s page array)
 
 abbrev μ-loop : tie.MeasureT-loop
 μ-loop input output page₀ array₀ s₀ more₀ lost₀ turns₀ page array s more lost turns = turns
 
 loop-holds : tie.Need-loop-holds Inv-loop μ-loop
-loop-holds c = (refl, hears-none _)
+loop-holds c = (refl, reaches-none _)
 
 listen-requires : tie.Need-listen-requires Inv-loop μ-loop
 listen-requires c κs = tt
@@ -30,7 +30,7 @@ loop-again c =
     let at-loop = c .before .before .before .before .before .before .before .before .loop in
     let at-listen = c .before .before .before .listen in
     let i = (at-loop .inv) in
-    ((at-listen .kept .1 .1 .1 .1 .0) ∙ i .0, hears-more (i .1) (at-listen .ensures))
+    ((at-listen .kept .1 .1 .1 .1 .0) ∙ i .0, reaches-more (i .1) (at-listen .ensures))
 
 same-length : tie.Need-same-length Inv-loop μ-loop
 same-length c = (c .before .before .loop .inv .0)

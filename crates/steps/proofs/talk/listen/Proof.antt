@@ -1,13 +1,13 @@
-use Rattle.steps.proofs.Runs.{hears-none, hears-chunk}
+use Rattle.steps.proofs.Runs.{reaches-none, reaches-chunk}
 use borrow.Author.Needs.{needs}
 use Rattle.steps.proofs.talk.listen.Statement.{statement}
 use Rattle.steps.proofs.talk.listen.Tie as tie
 
 returns : tie.Need-returns
-returns c = hears-none _
+returns c = reaches-none _
 
 returns-2 : tie.Need-returns-2
-returns-2 c = hears-chunk _ (c .before .before .before .before .before .before .before .turn .ensures .1)
+returns-2 c = reaches-chunk _ (c .before .before .before .before .before .before .before .turn .ensures .1)
 
 pub listen-spec : {M : Type 1} → statement M
 listen-spec =

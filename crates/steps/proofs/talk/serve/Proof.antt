@@ -1,4 +1,4 @@
-use Rattle.steps.proofs.Runs.{ran}
+use Rattle.steps.proofs.Runs.{run-end}
 use borrow.Author.Needs.{needs}
 use Rattle.steps.proofs.talk.serve.Statement.{statement}
 use Rattle.steps.proofs.talk.serve.Tie as tie
@@ -17,7 +17,7 @@ returns c =
     let at-begin = c14 .begin in
     let at-converse = c11 .converse in
     let at-close = c5 .close in
-    ran (at-args .mode) (at-made .result) _ (at-erase .result) (at-begin .result) (at-made .ensures)
+    run-end (at-args .mode) (at-made .result) _ (at-erase .result) (at-begin .result) (at-made .ensures)
     (at-erase .ensures .0) (at-begin .ensures)
     (at-converse .ensures)
     (at-close .ensures .1)

@@ -5,7 +5,7 @@ use mathlib.Core.Path.{_≡_, refl, sym, _∙_}
 use Prim.Native.Nat.{_+_, _-_, _*_, _≤_, _<_}
 use native.Mathlib.Omega.{arith}
 use lib.ListN.{length, take, drop}
-use Rattle.steps.specs.Machine.{world, joined, heard}
+use Rattle.steps.specs.Machine.{world, joined, afterBytes}
 use Rattle.steps.proofs.Runs.{spare, spare-within, room-on, go-on, no-more}
 use Rattle.steps.proofs.talk.turn.Statement.{statement}
 use Rattle.steps.proofs.talk.turn.Tie as tie
@@ -17,7 +17,8 @@ Inv-loop page₀ array₀ chunk out₀ s₀ put₀ i₀ i-end page array out s p
     × (length array ≡ length array₀)
     × (length out ≡ length out₀)
     × (put + 3 * (length chunk - i) + spare (s .over) ≤ length out₀)
-    × (joined (take put out) (heard (world s page array) (drop i chunk)) ≡ heard (world s₀ page₀ array₀) chunk)
+    × (joined (take put out) (afterBytes (world s page array) (drop i chunk)) ≡ afterBytes (world s₀ page₀ array₀)
+    chunk)
 
 abbrev μ-loop : tie.MeasureT-loop
 μ-loop page₀ array₀ chunk out₀ s₀ put₀ i₀ i-end page array out s put i = length chunk - i
@@ -81,7 +82,7 @@ loop-again c =
             (at-feed .ensures),
       ),
       go-on w _ (at-args .chunk .now) (at-loop .i) (take (at-loop .put) (at-loop .out)) l (at-feed .ensures)
-          (at-spell .ensures .kept) ∙ i .5,
+          (at-spell .ensures .content) ∙ i .5,
     )
 
 same-length : tie.Need-same-length Inv-loop μ-loop

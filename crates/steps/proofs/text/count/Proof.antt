@@ -4,14 +4,14 @@ use Prim.Native.Nat.{_+_, _-_, _≤_}
 use native.Mathlib.Omega.{arith}
 use lib.ListN.{length, drop, getD}
 use lib.Dec.{eqb}
-use Rattle.steps.specs.Text.{programmed}
+use Rattle.steps.specs.Text.{countProgrammed}
 use Rattle.steps.proofs.Texts.{light, count-on, count-all}
 use Rattle.steps.proofs.text.count.Statement.{statement}
 use Rattle.steps.proofs.text.count.Tie as tie
 
 abbrev Inv-loop : tie.InvT-loop
-Inv-loop array n₀ i₀ i-end n i = (i-end ≡ length array) × (i ≤ length array) × (n ≤ i) × (n + programmed
-    (drop i array) ≡ programmed array)
+Inv-loop array n₀ i₀ i-end n i = (i-end ≡ length array) × (i ≤ length array) × (n ≤ i) × (n + countProgrammed
+    (drop i array) ≡ countProgrammed array)
 
 abbrev μ-loop : tie.MeasureT-loop
 μ-loop array n₀ i₀ i-end n i = length array - i

@@ -9,11 +9,11 @@ returns : tie.Need-returns
 returns c = as-text (sym (ap textOf (c .enum-told .given .1))) (put-none _ _)
 
 returns-2 : tie.Need-returns-2
-returns-2 c = as-text (sym (ap textOf (c .before .before .before .before .before .said .given .1)))
+returns-2 c = as-text (sym (ap textOf (c .before .before .before .before .before .output .given .1)))
     (c .before .before .hex-line .ensures)
 
 returns-3 : tie.Need-returns-3
-returns-3 c = as-text (sym (ap textOf (c .before .before .before .before .before .said2 .given .1)))
+returns-3 c = as-text (sym (ap textOf (c .before .before .before .before .before .output2 .given .1)))
     (c .before .before .bad-line .ensures)
 
 pub spell-spec : {M : Type 1} → statement M

@@ -9,7 +9,7 @@ returns c =
     let c3 = c .before .before .before in
     λ l. (
       rw ((c3 .tap .given .1), (c .put-hold .ensures) l .parts),
-      done-answered refl ((c .put-hold .ensures) l .kept),
+      done-answered refl ((c .put-hold .ensures) l .packed),
     )
 
 returns-2 : tie.Need-returns-2

@@ -26,7 +26,7 @@ returns-2 c =
     let p = (c .put-live .ensures) (a .floats .now) in (
       live-done (partsIn (a .cells .now) (a .floats .now)) (a .key) (a .down) (c4 .check-key .ensures) (c3
           .key-number .ensures) (p .parts),
-      done-answered (c2 .if1 .left) (p .kept),
+      done-answered (c2 .if1 .left) (p .packed),
     )
 
 pub set-live-spec : {M : Type 1} → statement M

@@ -4,10 +4,10 @@ use Rattle.time.proofs.irq.first.Tie as tie
 
 returns : tie.Need-returns
 returns c = rw (
-  c .keep4 .ensures,
-  c .before .keep3 .ensures,
-  c .before .before .keep2 .ensures,
-  c .before .before .before .keep .ensures,
+  c .choose4 .ensures,
+  c .before .choose3 .ensures,
+  c .before .before .choose2 .ensures,
+  c .before .before .before .choose .ensures,
 )
 
 pub first-spec : {M : Type 1} → statement M

@@ -13,7 +13,7 @@ returns c =
     λ l. (
       paced-by (partsIn l (c5 .args .floats .now)) _ (c3 .to .given .1) ((c5 .pre) _ (c3 .to .given .1)) ((c .put-turbo
           .ensures) l .parts),
-      done-answered refl ((c .put-turbo .ensures) l .kept),
+      done-answered refl ((c .put-turbo .ensures) l .packed),
     )
 
 returns-2 : tie.Need-returns-2

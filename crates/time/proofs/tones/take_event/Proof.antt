@@ -12,12 +12,12 @@ returns c = λ f.
     let c7 = c3 .before .before .before .before in
     let c9 = c7 .before .before in
     let a = (c9 .args) in
-    let kept = ring-still (a .at .now) (a .frequencies .now) (a .duties .now) (a .cells .now) f
+    let same = ring-still (a .at .now) (a .frequencies .now) (a .duties .now) (a .cells .now) f
     (c7 .ring-of .ensures) (c3 .take-from .ensures)
     (λ z. (c .if1 .taken) ((c1 .event-number .ensures) ∙ z))
     in (
       take-of (a .at .now) (a .frequencies .now) (a .duties .now) (a .cells .now) f (c7 .ring-of .ensures)
-          (c3 .take-from .ensures) kept
+          (c3 .take-from .ensures) same
           (c1 .event-number .ensures),
       none-put,
     )
@@ -34,7 +34,7 @@ returns-2 c = λ f.
           (c5 .take-from .ensures)
           ((c .put-ring .ensures) f .parts) (c3 .event-number .ensures),
       done-answered (c2 .if1 .left)
-          ((c .put-ring .ensures) f .kept),
+          ((c .put-ring .ensures) f .packed),
     )
 
 pub take-event-spec : {M : Type 1} → statement M

@@ -8,7 +8,8 @@ use lib.Ieee.{Float}
 use lib.ListN.{set}
 use borrow.Author.Needs.{needs}
 use Rattle.timer.specs.declared.Ring.{Ring}
-use Rattle.timer.specs.Events.{cleared, placeOf, nought}
+use Rattle.timer.specs.Events.{cleared, placeOf}
+use Rattle.whole.specs.Forms.{nought}
 use Rattle.timer.proofs.events.drop_from.Statement.{statement}
 use Rattle.timer.proofs.events.drop_from.Tie as tie
 

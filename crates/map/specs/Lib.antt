@@ -1,0 +1,2 @@
+-- The numbers, for the definitions.
+pub mod Numbers

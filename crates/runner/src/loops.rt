@@ -1,0 +1,311 @@
+// The runner: a loop over the presses and one over the steps, in which each acts on the state where it stands. The
+// places in script and output move on with them.
+ghost use mathlib.Core.Path.{_≡_};
+ghost use mathlib.Core.Bool.{true};
+ghost use mathlib.Core.List.{List};
+ghost use Prim.Native.Nat.{ℕ, _+_, _-_, _*_, _≤_};
+ghost use lib.Ieee.{Float};
+ghost use lib.ListN.{length};
+ghost use Rattle.system.specs.System.{machine, freshSystem};
+ghost use Rattle.state.specs.Bank.{partsIn};
+ghost use Rattle.system.specs.Bank.{machineOf};
+ghost use Rattle.runner.specs.Format.{stepBytes, mostOf, kindsFrom, behindPresses, entriesFrom};
+ghost use Rattle.entries.specs.Answers.{answerBytes};
+ghost use Rattle.entries.specs.Turn.{runState};
+ghost use Rattle.runner.specs.Script.{afterEntries, ended, endOf, runOf};
+use crate::format::PRESS_BYTES;
+use crate::format::STEP_BYTES;
+use crate::format::bad_script;
+use crate::format::press_at;
+use crate::format::presses;
+use crate::format::step_at;
+use crate::format::steps;
+use entries::act::act;
+use entries::replies::ANSWER_BYTES;
+use entries::replies::lay;
+use entries::replies::refused;
+use state::CELLS;
+use state::Cells;
+use state::FLOATS;
+use state::Floats;
+use system::wipe::reset;
+
+// The p presses of a script, of n entries in all; whatever the machine holds that no press reaches.
+fn run_presses(
+    times: &mut [f64; 64],
+    codes: &mut [u8; 64],
+    cells: &mut Cells,
+    floats: &Floats,
+    script: &[u8],
+    p: usize,
+    out: &mut [u8],
+)
+    requires { ⌜ (p ≤ mostOf) × (behindPresses p ≤ length (now script)) × (4 + answerBytes * p ≤ length (now out)) ⌝ }
+    ensures { λ _. ⌜ ((own addresses values rtc page : List ℕ) (at frequencies duties : List Float)
+        (ram sram gpio fb : List ℕ) (n : ℕ) → p ≤ n
+        → afterEntries
+        (runState
+        (machineOf own addresses values rtc page at frequencies duties (now (times .exit)) (now (codes .exit))
+        (partsIn (now (cells .exit)) (now (floats .entry))) ram sram gpio fb) (now (out .exit)))
+        (4 + answerBytes * p)
+        (entriesFrom (now (script .entry)) p (n - p) p)
+        ≡ afterEntries
+        (runState
+        (machineOf own addresses values rtc page at frequencies duties (now (times .entry)) (now (codes .entry))
+        (partsIn (now (cells .entry)) (now (floats .entry))) ram sram gpio fb) (now (out .entry)))
+        4
+        (entriesFrom (now (script .entry)) p n 0)) ⌝ }
+{
+    let mut from: usize = 4;
+    let mut to: usize = 4;
+    let mut left = p;
+    while left > 0 {
+        let e = press_at(script, from);
+        let n = time::buttons::press_bits(times, codes, cells, floats, e.address, e.value);
+        let end = to + ANSWER_BYTES;
+        lay(&mut out[..end], to, refused(n));
+        from += PRESS_BYTES;
+        to = end;
+        left -= 1;
+    }
+}
+
+// A script's p presses, and the k steps behind them.
+fn run_entries(
+    own: &mut [u32; 76],
+    addresses: &mut [u32; 256],
+    values: &mut [u32; 256],
+    rtc: &mut [u8; 256],
+    page: &mut [u8; 256],
+    at: &mut [f64; 256],
+    frequencies: &mut [f64; 256],
+    duties: &mut [f64; 256],
+    times: &mut [f64; 64],
+    codes: &mut [u8; 64],
+    cells: &mut Cells,
+    floats: &mut Floats,
+    ram: &mut [u8],
+    sram: &mut [u8],
+    gpio: &mut [u8],
+    fb: &mut [u8],
+    script: &[u8],
+    p: usize,
+    k: usize,
+    out: &mut [u8],
+)
+    requires { ⌜ (p ≤ mostOf) × (k ≤ mostOf) × (behindPresses p + stepBytes * k ≤ length (now script))
+        × (4 + answerBytes * (p + k) ≤ length (now out)) × (kindsFrom (now script) (behindPresses p) k ≡ true) ⌝ }
+    ensures { λ _. ⌜ runState
+        (machineOf (now (own .exit)) (now (addresses .exit)) (now (values .exit)) (now (rtc .exit)) (now (page .exit))
+        (now (at .exit)) (now (frequencies .exit)) (now (duties .exit)) (now (times .exit)) (now (codes .exit))
+        (partsIn (now (cells .exit)) (now (floats .exit)))
+        (now (ram .exit)) (now (sram .exit)) (now (gpio .exit)) (now (fb .exit))) (now (out .exit))
+        ≡ afterEntries
+        (runState
+        (machineOf (now (own .entry)) (now (addresses .entry)) (now (values .entry)) (now (rtc .entry))
+        (now (page .entry)) (now (at .entry)) (now (frequencies .entry)) (now (duties .entry)) (now (times .entry))
+        (now (codes .entry))
+        (partsIn (now (cells .entry)) (now (floats .entry)))
+        (now (ram .entry)) (now (sram .entry)) (now (gpio .entry)) (now (fb .entry))) (now (out .entry)))
+        4
+        (entriesFrom (now (script .entry)) p (p + k) 0) ⌝ }
+{
+    run_presses(times, codes, cells, floats, script, p, out);
+    let mut from = 8 + PRESS_BYTES * p;
+    let mut to = 4 + ANSWER_BYTES * p;
+    let mut left = k;
+    while left > 0 {
+        let e = step_at(script, from);
+        let end = to + ANSWER_BYTES;
+        act(
+            own,
+            addresses,
+            values,
+            rtc,
+            page,
+            at,
+            frequencies,
+            duties,
+            times,
+            codes,
+            cells,
+            floats,
+            ram,
+            sram,
+            gpio,
+            fb,
+            e,
+            &mut out[..end],
+            to,
+        );
+        from += STEP_BYTES;
+        to = end;
+        left -= 1;
+    }
+}
+
+// From the fresh state on, a script's p presses and k steps.
+fn run_all(
+    own: &mut [u32; 76],
+    addresses: &mut [u32; 256],
+    values: &mut [u32; 256],
+    rtc: &mut [u8; 256],
+    page: &mut [u8; 256],
+    at: &mut [f64; 256],
+    frequencies: &mut [f64; 256],
+    duties: &mut [f64; 256],
+    times: &mut [f64; 64],
+    codes: &mut [u8; 64],
+    cells: &mut Cells,
+    floats: &mut Floats,
+    ram: &mut [u8],
+    sram: &mut [u8],
+    gpio: &mut [u8],
+    fb: &mut [u8],
+    script: &[u8],
+    p: usize,
+    k: usize,
+    out: &mut [u8],
+)
+    requires { ⌜ (p ≤ mostOf) × (k ≤ mostOf) × (behindPresses p + stepBytes * k ≤ length (now script))
+        × (4 + answerBytes * (p + k) ≤ length (now out)) × (kindsFrom (now script) (behindPresses p) k ≡ true) ⌝ }
+    ensures { λ _. ⌜ runState
+        (machineOf (now (own .exit)) (now (addresses .exit)) (now (values .exit)) (now (rtc .exit)) (now (page .exit))
+        (now (at .exit)) (now (frequencies .exit)) (now (duties .exit)) (now (times .exit)) (now (codes .exit))
+        (partsIn (now (cells .exit)) (now (floats .exit)))
+        (now (ram .exit)) (now (sram .exit)) (now (gpio .exit)) (now (fb .exit))) (now (out .exit))
+        ≡ afterEntries
+        (runState
+        (machine freshSystem (now (ram .entry)) (now (sram .entry)) (now (gpio .entry)) (now (fb .entry)))
+        (now (out .entry)))
+        4
+        (entriesFrom (now (script .entry)) p (p + k) 0) ⌝ }
+{
+    reset(
+        own,
+        addresses,
+        values,
+        rtc,
+        page,
+        at,
+        frequencies,
+        duties,
+        times,
+        codes,
+        cells,
+        floats,
+    );
+    run_entries(
+        own,
+        addresses,
+        values,
+        rtc,
+        page,
+        at,
+        frequencies,
+        duties,
+        times,
+        codes,
+        cells,
+        floats,
+        ram,
+        sram,
+        gpio,
+        fb,
+        script,
+        p,
+        k,
+        out,
+    );
+}
+
+// The same, with arrays of its own for the state.
+fn run_fresh(
+    ram: &mut [u8],
+    sram: &mut [u8],
+    gpio: &mut [u8],
+    fb: &mut [u8],
+    script: &[u8],
+    p: usize,
+    k: usize,
+    out: &mut [u8],
+)
+    requires { ⌜ (p ≤ mostOf) × (k ≤ mostOf) × (behindPresses p + stepBytes * k ≤ length (now script))
+        × (4 + answerBytes * (p + k) ≤ length (now out)) × (kindsFrom (now script) (behindPresses p) k ≡ true) ⌝ }
+    ensures { λ _. ⌜ ended 0 (now (ram .exit)) (now (sram .exit)) (now (gpio .exit)) (now (fb .exit))
+        (now (out .exit))
+        ≡ endOf
+        (afterEntries
+        (runState
+        (machine freshSystem (now (ram .entry)) (now (sram .entry)) (now (gpio .entry)) (now (fb .entry)))
+        (now (out .entry)))
+        4
+        (entriesFrom (now (script .entry)) p (p + k) 0)) ⌝ }
+{
+    let mut own = [0u32; 76];
+    let mut addresses = [0u32; 256];
+    let mut values = [0u32; 256];
+    let mut rtc = [0u8; 256];
+    let mut page = [0u8; 256];
+    let mut at = [0.0; 256];
+    let mut frequencies = [0.0; 256];
+    let mut duties = [0.0; 256];
+    let mut times = [0.0; 64];
+    let mut codes = [0u8; 64];
+    let mut cells = [0u64; CELLS];
+    let mut floats = [0.0; FLOATS];
+    run_all(
+        &mut own,
+        &mut addresses,
+        &mut values,
+        &mut rtc,
+        &mut page,
+        &mut at,
+        &mut frequencies,
+        &mut duties,
+        &mut times,
+        &mut codes,
+        &mut cells,
+        &mut floats,
+        ram,
+        sram,
+        gpio,
+        fb,
+        script,
+        p,
+        k,
+        out,
+    );
+}
+
+// A script's refusals, as an entry for C answers them.
+const BAD_SCRIPT: u32 = map::BAD_SCRIPT as u32;
+
+const OUT_TOO_SHORT: u32 = map::OUT_TOO_SHORT as u32;
+
+// Runs a script over memories of any length: what lies past the end of one reads as 0 and is not stored.
+pub fn run_script(
+    ram: &mut [u8],
+    sram: &mut [u8],
+    gpio: &mut [u8],
+    fb: &mut [u8],
+    script: &[u8],
+    out: &mut [u8],
+) -> u32
+    ensures { λ r. ⌜ ended r (now (ram .exit)) (now (sram .exit)) (now (gpio .exit)) (now (fb .exit))
+        (now (out .exit))
+        ≡ runOf (now (ram .entry)) (now (sram .entry)) (now (gpio .entry)) (now (fb .entry)) (now (script .entry))
+        (now (out .entry)) ⌝ }
+{
+    if bad_script(script) {
+        return BAD_SCRIPT;
+    }
+    let p = presses(script);
+    let k = steps(script, p);
+    if out.len() < 4 + ANSWER_BYTES * (p + k) {
+        return OUT_TOO_SHORT;
+    }
+    memory::store(out, 0, 4, (p + k) as u32);
+    run_fresh(ram, sram, gpio, fb, script, p, k, out);
+    0
+}

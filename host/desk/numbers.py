@@ -1,0 +1,47 @@
+"""Numbers of crates/map/src/lib.rt, by their names there: .ci/numbers reads a line each, and compares."""
+
+# memories and the screen
+RAM_SIZE = 0x1000000
+SRAM_SIZE = 0x100000
+GPIO_SIZE = 0x1000
+FRAMEBUFFER_SIZE = 0x8000
+LCD_W = 128
+LCD_H = 128
+
+# refusals
+DONE = 0
+BAD_TIME = 1
+BAD_TURBO = 2
+KEYS_FULL = 3
+REGISTERS_FULL = 4
+SOUND_FULL = 5
+STRAY_WRITE = 6
+BAD_MEMORY = 7
+BAD_KEY = 8
+BAD_SIZE = 9
+BAD_SCRIPT = 10
+OUT_TOO_SHORT = 11
+NO_EVENT = 12
+NO_NEXT_TIME = 13
+
+# scripts and answers
+MOST_PRESSES = 4096
+MOST_STEPS = 4096
+PRESS_BYTES = 9
+STEP_BYTES = 16
+ANSWER_BYTES = 25
+
+# kinds
+PRESS = 0
+READ = 1
+WRITE = 2
+ADVANCE = 3
+NEXT = 4
+PENDING = 5
+TURBO = 6
+KEY = 7
+HOLD = 8
+SOUND = 9
+COUNTERS = 10
+COLOUR = 11
+WIPE = 12
