@@ -77,8 +77,8 @@ static void window(struct script *script, uint32_t x0, uint32_t x1, uint32_t y0,
     panel_window(script, 0x2B, y0, y1);
     panel_command(script, 0x2C);
     for (uint32_t i = 0; i < 6; i++) {
-        put_word(script, PANEL_DATA, 0x1234 + i);
-        put_word(script, PANEL_CONTROL, 0xA1);
+        put_word(script, LCD_DATA, 0x1234 + i);
+        put_word(script, LCD_CONTROL, 0xA1);
     }
 }
 
@@ -97,8 +97,8 @@ void test_windows(void) {
     panel_window(&script, 0x2B, 118, 127);
     panel_command(&script, 0x2C);
     for (uint32_t i = 0; i < 1300; i++) {
-        put_word(&script, PANEL_DATA, i * 50);
-        put_word(&script, PANEL_CONTROL, 0xA1);
+        put_word(&script, LCD_DATA, i * 50);
+        put_word(&script, LCD_CONTROL, 0xA1);
     }
     run_all_ways("last rows", &script);
 }
@@ -109,7 +109,7 @@ static void flash_at(uint8_t command, uint32_t address, uint32_t data) {
     flash_begin_at(&script, command, address);
     for (uint32_t i = 0; i < data; i++) {
         flash_send(&script, (uint8_t)(i * 7));
-        step(&script, TG18_READ, 4, FLASH_ANSWER, 0);
+        step(&script, TG18_READ, 4, SPIFC_ANSWER, 0);
     }
     flash_end(&script);
     step(&script, TG18_COUNTERS, 0, 0, 0);

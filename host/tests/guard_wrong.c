@@ -13,7 +13,7 @@ static uint8_t desk[4096];
 static struct script short_script(void) {
     struct script script = script_at(desk);
     press(&script, 1, 0);
-    put_word(&script, 0x20000000, 0x01020304);
+    put_word(&script, FLASH_BASE, 0x01020304);
     step(&script, TG18_WIPE, 0, 0, 0);
     return script;
 }

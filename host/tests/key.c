@@ -51,7 +51,7 @@ static void by_flash(struct script *script) {
     flash_begin_at(script, 0x03, FLASH_PLACE);
     for (uint32_t i = 0; i < KEY_BYTES; i++) {
         flash_send(script, 0);
-        step(script, TG18_READ, 4, FLASH_ANSWER, 0);
+        step(script, TG18_READ, 4, SPIFC_ANSWER, 0);
     }
     flash_end(script);
 }
@@ -65,20 +65,20 @@ static void words_to(struct script *script, uint32_t address, uint32_t apart) {
 }
 
 static void by_ram(struct script *script) {
-    words_to(script, 0x20000000 + RAM_PLACE, 4);
-    words_to(script, 0xF8000000 + SRAM_PLACE, 4);
+    words_to(script, FLASH_BASE + RAM_PLACE, 4);
+    words_to(script, SRAM_BASE + SRAM_PLACE, 4);
 }
 
 // From RAM to the framebuffer, 32,768 bytes at once.
 static void by_picture(struct script *script) {
-    words_to(script, 0x20000000 + RAM_PLACE, 4);
-    picture(script, 0x20000000 + RAM_PLACE);
+    words_to(script, FLASH_BASE + RAM_PLACE, 4);
+    picture(script, FLASH_BASE + RAM_PLACE);
 }
 
 static void by_clock_chip(struct script *script) {
     for (uint32_t i = 0; i < KEY_BYTES; i++) {
-        put_word(script, RTC_PLACE, RTC_MEMORY + i);
-        put_word(script, RTC_BYTE, key_byte(i));
+        put_word(script, RTC_ADDRESS, RTC_MEMORY + i);
+        put_word(script, RTC_DATA, key_byte(i));
         put_word(script, RTC_COMMAND, 1);
     }
 }

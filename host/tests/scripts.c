@@ -46,13 +46,13 @@ void put_word(struct script *script, uint32_t address, uint32_t value) { step(sc
 // ---- transactions of the flash, and of the panel
 
 void flash_begin(struct script *script, uint8_t command) {
-    put_word(script, FLASH_SELECT, 0x40);
+    put_word(script, SPIFC_SELECT, 0x40);
     flash_send(script, command);
 }
 
-void flash_send(struct script *script, uint8_t byte) { put_word(script, FLASH_TRANSFER, byte); }
+void flash_send(struct script *script, uint8_t byte) { put_word(script, SPIFC_SEND, byte); }
 
-void flash_end(struct script *script) { put_word(script, FLASH_SELECT, 0); }
+void flash_end(struct script *script) { put_word(script, SPIFC_SELECT, 0); }
 
 void flash_enable(struct script *script) {
     flash_begin(script, 0x06);
@@ -67,34 +67,39 @@ void flash_begin_at(struct script *script, uint8_t command, uint32_t address) {
 }
 
 void panel_command(struct script *script, uint8_t command) {
-    put_word(script, PANEL_DATA, command);
-    put_word(script, PANEL_CONTROL, 0x81);
+    put_word(script, LCD_DATA, command);
+    put_word(script, LCD_CONTROL, 0x81);
 }
 
 // 0x2A for columns, 0x2B for rows
 void panel_window(struct script *script, uint8_t command, uint32_t low, uint32_t high) {
     panel_command(script, command);
-    put_word(script, PANEL_DATA, low);
-    put_word(script, PANEL_CONTROL, 0xA1);
-    put_word(script, PANEL_DATA, high);
-    put_word(script, PANEL_CONTROL, 0xA1);
+    put_word(script, LCD_DATA, low);
+    put_word(script, LCD_CONTROL, 0xA1);
+    put_word(script, LCD_DATA, high);
+    put_word(script, LCD_CONTROL, 0xA1);
 }
 
 void picture(struct script *script, uint32_t source) {
-    put_word(script, PANEL_SOURCE, source);
-    put_word(script, PANEL_CONTROL, 0xD1);
+    put_word(script, LCD_DMA, source);
+    put_word(script, LCD_CONTROL, 0xD1);
 }
 
 // ---- at random
 
-const uint32_t places[PLACES] = {0x00000000, 0x20000000, 0x20800000, 0x20FF8000, 0x21000000, 0xC0000000, 0xC0000020, 0xC0001000,
-                                 0xC1000000, 0xD0000000, 0xD1000000, 0xF8000000, 0xF80090A4, 0xF8100000, 0xFF000000, 0xFFFFF000};
+const uint32_t places[PLACES] = {
+    0, FLASH_BASE, FLASH_BASE + 0x800000, FLASH_BASE + 0xFF8000, FLASH_BASE + TG18_RAM_BYTES, GPIO_BASE,
+    GPIO_BASE + 0x20, GPIO_END, 0xC1000000, 0xD0000000, 0xD1000000, SRAM_BASE, SYSCLK_VAR, SRAM_END,
+    0xFF000000, REGISTERS_END,
+};
 
-static const uint32_t registers[] = {0xC0020000, 0xC0020008, 0xC0020010, 0xC0020080, 0xC0020088, 0xC002008C, 0xC0040000, 0xC0040004,
-                                     0xC0040008, 0xC0040054, 0xC0040058, 0xC0080008, 0xC008000C, 0xC0080010, 0xC0090004, 0xC0090008,
-                                     0xC009000C, 0xC0090014, 0xC00C0004, 0xC00C0008, 0xC0150000, 0xC0150004, 0xC0150008, 0xC015000C,
-                                     0xD000001C, 0xD000003C, 0xD0100028, 0xD0100030, 0xD0100038, 0xD0500140, 0xD050016C, 0xD0500188,
-                                     0xD050018C, 0xD050033C, 0xC0100000, 0xC0200000};
+static const uint32_t registers[] = {
+    TIMER_BASE, TIMER_RELOAD, TIMER_BASE + 0x10, SOUND_CONTROL, SOUND_RELOAD, SOUND_COMPARE, RTC_SECONDS,
+    RTC_MINUTES, RTC_HOURS, RTC_IRQ_STATUS, RTC_IRQ_ENABLE, SPI2_SEND, SPI2_STATUS, SPI2_ANSWER, RTC_ADDRESS,
+    RTC_DATA, RTC_COMMAND, RTC_OUT, ADC_CONTROL, ADC_RESULT, SPIFC_SELECT, SPIFC_STATUS, SPIFC_SEND,
+    SPIFC_ANSWER, CLOCK_SWITCH, CLOCK_STATUS, INTC_PENDING, INTC_MASK, INTC_DISABLE, LCD_CONTROL, LCD_DATA,
+    LCD_ENABLE, LCD_STATUS, LCD_DMA, 0xC0100000, 0xC0200000,
+};
 
 uint64_t any(uint64_t *state) {
     uint64_t z = *state += 0x9E3779B97F4A7C15u;
@@ -134,7 +139,7 @@ static void any_flash(struct script *script, uint64_t *state) {
     for (uint64_t n = below(state, 12); n > 0; n--) {
         flash_send(script, (uint8_t)any(state));
     }
-    step(script, TG18_READ, 4, FLASH_ANSWER, 0);
+    step(script, TG18_READ, 4, SPIFC_ANSWER, 0);
     flash_end(script);
 }
 
@@ -144,8 +149,8 @@ static void any_panel(struct script *script, uint64_t *state) {
     panel_window(script, 0x2B, edges[below(state, 8)], edges[below(state, 8)]);
     panel_command(script, 0x2C);
     for (uint64_t n = below(state, 12); n > 0; n--) {
-        put_word(script, PANEL_DATA, (uint32_t)any(state));
-        put_word(script, PANEL_CONTROL, 0xA1);
+        put_word(script, LCD_DATA, (uint32_t)any(state));
+        put_word(script, LCD_CONTROL, 0xA1);
     }
 }
 

@@ -2,6 +2,7 @@
 #ifndef SCRIPTS_H
 #define SCRIPTS_H
 
+#include "addresses.h"
 #include <stddef.h>
 #include <stdint.h>
 
@@ -9,17 +10,6 @@ struct script {
     uint8_t *at;
     uint32_t presses, steps;
 };
-
-// registers that the scripts use
-#define FLASH_SELECT 0xC0150000u
-#define FLASH_TRANSFER 0xC0150008u
-#define FLASH_ANSWER 0xC015000Cu
-#define RTC_PLACE 0xC0090004u
-#define RTC_BYTE 0xC0090008u
-#define RTC_COMMAND 0xC009000Cu
-#define PANEL_CONTROL 0xD0500140u
-#define PANEL_DATA 0xD050016Cu
-#define PANEL_SOURCE 0xD050033Cu
 
 struct script script_at(uint8_t *at);
 // before the first step

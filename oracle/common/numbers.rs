@@ -54,12 +54,14 @@ pub const RTC_MINUTES: u32 = 0xC004_0004;
 pub const RTC_HOURS: u32 = 0xC004_0008;
 pub const RTC_IRQ_STATUS: u32 = 0xC004_0054;
 pub const RTC_IRQ_ENABLE: u32 = 0xC004_0058;
+pub const RTC_TICK_BIT: u32 = 0x2;
 
 // The second serial port.
 pub const SPI2_BASE: u32 = 0xC008_0000;
 pub const SPI2_SEND: u32 = 0xC008_0008;
 pub const SPI2_STATUS: u32 = 0xC008_000C;
 pub const SPI2_ANSWER: u32 = 0xC008_0010;
+pub const SPI2_IDLE: u32 = 0x00;
 
 // The RTC chip's bus.
 pub const RTC_BUS: u32 = 0xC009_0000;
@@ -73,6 +75,7 @@ pub const RTC_OUT: u32 = 0xC009_0014;
 pub const ADC_BASE: u32 = 0xC00C_0000;
 pub const ADC_CONTROL: u32 = 0xC00C_0004;
 pub const ADC_RESULT: u32 = 0xC00C_0008;
+pub const ADC_BATTERY: u32 = 0xC000;
 
 // The flash, and the bit that selects it.
 pub const SPIFC_BASE: u32 = 0xC015_0000;

@@ -39,7 +39,7 @@ use Rattle.bus.specs.declared.WriteAnswer.{WriteAnswer}
 use Rattle.bus.specs.World.{OwnOut, ownOut, answer}
 use Rattle.bus.specs.Sounds.{timerSet, soundOf, sounding, soundWritten, timerWritten}
 use Rattle.bus.specs.Words.{poweredBy, spiSent, adcAfter, adcWritten, daySet, wordWritten}
-use Rattle.bus.specs.Bank.{Only, Rest, wroteOf, withoutEvent}
+use Rattle.bus.specs.Inner.{Only, Rest, wroteOf, withoutEvent}
 
 -- ---- beside the devices
 
@@ -72,54 +72,54 @@ module _ {r : WriteAnswer} {l : List ℕ} {f : List Float} where
 
 -- ---- sound
 
-module _ (own : List ℕ) (x : Parts) (clock : ℕ) (full : Bool) (word v : ℕ) {tone : Tone} {s : Sounded} (t : tone ≡
+module _ (slots : List ℕ) (x : Parts) (clock : ℕ) (full : Bool) (word v : ℕ) {tone : Tone} {s : Sounded} (t : tone ≡
     x .devices .tone)
-    (e : s ≡ soundOf own tone clock full word v) where
-  here : s ≡ soundOf own (x .devices .tone) clock full word v
-  here = e ∙ ap (λ (z : Tone). soundOf own z clock full word v) t
+    (e : s ≡ soundOf slots tone clock full word v) where
+  here : s ≡ soundOf slots (x .devices .tone) clock full word v
+  here = e ∙ ap (λ (z : Tone). soundOf slots z clock full word v) t
 
   pub sound-full : {r : WriteAnswer} → s ≡ SoundFull → r ≡ withoutEvent 5
-      → ownOut own (wroteOf r (x .devices)) ≡ soundWritten own (x .devices) (x .devices) clock full word v
+      → ownOut slots (wroteOf r (x .devices)) ≡ soundWritten slots (x .devices) (x .devices) clock full word v
   unfolding soundWritten
   sound-full h k = rw (k, ← here, h)
 
-  pub sound-same : {own₁ : List ℕ} {r : WriteAnswer} → s ≡ Same → own₁ ≡ ownWith own word v → r ≡ withoutEvent 0
-      → ownOut own₁ (wroteOf r (x .devices)) ≡ soundWritten own (x .devices) (x .devices) clock full word v
+  pub sound-same : {slots₁ : List ℕ} {r : WriteAnswer} → s ≡ Same → slots₁ ≡ ownWith slots word v → r ≡ withoutEvent 0
+      → ownOut slots₁ (wroteOf r (x .devices)) ≡ soundWritten slots (x .devices) (x .devices) clock full word v
   unfolding soundWritten
   sound-same h i k = rw (k, ← here, h, i)
 
-  pub sound-change : {own₁ : List ℕ} {y : Parts} {to : Tone} → s ≡ Change to → own₁ ≡ ownWith own word v
+  pub sound-change : {slots₁ : List ℕ} {y : Parts} {to : Tone} → s ≡ Change to → slots₁ ≡ ownWith slots word v
       → y ≡ tonePut x to
-      → ownOut own₁ (record { refusal = 0; event = true; devices = y .devices }) ≡ soundWritten own (x .devices)
+      → ownOut slots₁ (record { refusal = 0; event = true; devices = y .devices }) ≡ soundWritten slots (x .devices)
       (x .devices) clock full word v
   unfolding soundWritten
   sound-change h i j = rw (← here, h, i, j)
 
 -- what was stored with the devices as they were, with a timer put behind it
-module _ (own : List ℕ) (d : Devices) (n : ℕ) (t : Timer) (word v : ℕ) where
+module _ (slots : List ℕ) (d : Devices) (n : ℕ) (t : Timer) (word v : ℕ) where
   abbrev timed : OwnOut → OwnOut
-  timed s = ownOut (s .own) (record {
+  timed s = ownOut (s .slots) (record {
     refusal = s .wrote .refusal;
     event = s .wrote .event;
     devices = timerSet
         (s .wrote .devices) n t;
   })
 
-  refused-first : (x : Sounded) → sounding x own d d word v .wrote .refusal ≢ 0
-      → sounding x own d d word v ≡ sounding x own d (timerSet d n t) word v
+  refused-first : (x : Sounded) → sounding x slots d d word v .wrote .refusal ≢ 0
+      → sounding x slots d d word v ≡ sounding x slots d (timerSet d n t) word v
   refused-first SoundFull h = refl
   refused-first Same h = absurd (h refl)
   refused-first (Change tone) h = absurd (h refl)
 
-  done-first : (x : Sounded) → sounding x own d d word v .wrote .refusal ≡ 0
-      → timed (sounding x own d d word v) ≡ sounding x own d (timerSet d n t) word v
+  done-first : (x : Sounded) → sounding x slots d d word v .wrote .refusal ≡ 0
+      → timed (sounding x slots d d word v) ≡ sounding x slots d (timerSet d n t) word v
   done-first SoundFull h = absurd (omega arith)
   done-first Same h = refl
   done-first (Change tone) h = refl
 
 -- ---- the timers' control words
 
-module _ (own : List ℕ) (x : Parts) (clock : ℕ) (full : Bool) (n word old new : ℕ) {t : Timer} {times : Times} {w :
+module _ (slots : List ℕ) (x : Parts) (clock : ℕ) (full : Bool) (n word old new : ℕ) {t : Timer} {times : Times} {w :
     Written}
     (a : t ≡ getD (x .devices .clocks .timers) n none) (b : times ≡ x .devices .clocks .times) (e : w ≡ writtenOf t
     (times .now) new old) where
@@ -128,46 +128,47 @@ module _ (own : List ℕ) (x : Parts) (clock : ℕ) (full : Bool) (n word old ne
       e ∙ ap (λ (z : Timer). writtenOf z (times .now) new old) a
       ∙ ap (λ (z : Times). writtenOf (getD (x .devices .clocks .timers) n none) (z .now) new old) b
 
-  module _ (h : n ≡ 4) {own₁ : List ℕ} {d : Devices} {r : WriteAnswer}
-      (k : ownOut own₁ (wroteOf r d) ≡ soundWritten own (x .devices) (x .devices) clock full word (w .control)) where
+  module _ (h : n ≡ 4) {slots₁ : List ℕ} {d : Devices} {r : WriteAnswer}
+      (k : ownOut slots₁ (wroteOf r d) ≡ soundWritten slots (x .devices) (x .devices) clock full word
+      (w .control)) where
     abbrev sounded : Sounded
-    sounded = soundOf own (x .devices .tone) clock full word (w .control)
+    sounded = soundOf slots (x .devices .tone) clock full word (w .control)
 
-    number : r .refusal ≡ soundWritten own (x .devices) (x .devices) clock full word (w .control) .wrote .refusal
+    number : r .refusal ≡ soundWritten slots (x .devices) (x .devices) clock full word (w .control) .wrote .refusal
     number = ap (λ (z : OwnOut). z .wrote .refusal) k
 
     pub timer-refused : r .refusal ≢ 0
-        → ownOut own₁ (wroteOf r d) ≡ timerWritten own (x .devices) clock full n word old new
+        → ownOut slots₁ (wroteOf r d) ≡ timerWritten slots (x .devices) clock full n word old new
     unfolding timerWritten soundWritten
     timer-refused g =
         rw (← written, eq-eqb _ _ h)
-        (k ∙ refused-first own (x .devices) n (w .timer) word (w .control) sounded (λ z. g (number ∙ z)))
+        (k ∙ refused-first slots (x .devices) n (w .timer) word (w .control) sounded (λ z. g (number ∙ z)))
 
     pub timer-sounds : {next : Devices} → r .refusal ≡ 0 → next ≡ timerSet d 4 (w .timer)
-        → ownOut own₁ (wroteOf r next) ≡ timerWritten own (x .devices) clock full n word old new
+        → ownOut slots₁ (wroteOf r next) ≡ timerWritten slots (x .devices) clock full n word old new
     unfolding timerWritten soundWritten
     timer-sounds g p =
         rw (← written, eq-eqb _ _ h, p, ← h)
-        (ap (timed own (x .devices) n (w .timer) word (w .control)) k
-        ∙ done-first own (x .devices) n (w .timer) word (w .control) sounded (sym number ∙ g))
+        (ap (timed slots (x .devices) n (w .timer) word (w .control)) k
+        ∙ done-first slots (x .devices) n (w .timer) word (w .control) sounded (sym number ∙ g))
 
-  pub timer-plain : {own₁ : List ℕ} {y : Parts} {r : WriteAnswer} → n ≢ 4 → own₁ ≡ ownWith own word (w .control)
+  pub timer-plain : {slots₁ : List ℕ} {y : Parts} {r : WriteAnswer} → n ≢ 4 → slots₁ ≡ ownWith slots word (w .control)
       → y ≡ timerPut x n (w .timer) → r ≡ withoutEvent 0
-      → ownOut own₁ (wroteOf r (y .devices)) ≡ timerWritten own (x .devices) clock full n word old new
+      → ownOut slots₁ (wroteOf r (y .devices)) ≡ timerWritten slots (x .devices) clock full n word old new
   unfolding timerWritten
   timer-plain h i j k = rw (← written, ne-eqb _ _ h, k, j, i)
 
 -- ---- the words that act
 
-pub adc-done : (own : List ℕ) (x : Parts) (old new : ℕ) {on : Bool} {z : Adc} {v : ℕ} {own₁ : List ℕ} {y : Parts}
+pub adc-done : (slots : List ℕ) (x : Parts) (old new : ℕ) {on : Bool} {z : Adc} {v : ℕ} {slots₁ : List ℕ} {y : Parts}
     → on ≡ x .devices .clocks .converting
-    → v ≡ ownAt own ADC-RESULT → z ≡ adc.writtenOf (record { converting = on; control = old; result = v }) new
-    → own₁ ≡ ownWith own ADC-CONTROL (z .control) → y ≡ convertingPut x (z .converting)
-    → ownOut own₁ (answer 0 (y .devices)) ≡ adcWritten own (x .devices) old new
+    → v ≡ ownAt slots ADC-RESULT → z ≡ adc.writtenOf (record { converting = on; control = old; result = v }) new
+    → slots₁ ≡ ownWith slots ADC-CONTROL (z .control) → y ≡ convertingPut x (z .converting)
+    → ownOut slots₁ (answer 0 (y .devices)) ≡ adcWritten slots (x .devices) old new
 unfolding adcWritten
-adc-done own x old new {v = v} o e h i j =
+adc-done slots x old new {v = v} o e h i j =
     rw (i, j)
-    (ap (λ (b : Adc). adcAfter b own (x .devices))
+    (ap (λ (b : Adc). adcAfter b slots (x .devices))
     (h ∙ ap (λ (b : Bool). adc.writtenOf (record { converting = b; control = old; result = v }) new) o
     ∙ ap (λ (b : ℕ). adc.writtenOf (record {
       converting = x .devices .clocks .converting;
@@ -185,34 +186,34 @@ day-put x field new {times} {irq} a b e h =
     (z .game) field new) a)
 
 -- a word that acts, by its slot; e is what it does
-module _ (own : List ℕ) (x : Parts) (clock : ℕ) (full : Bool) (s old new part : ℕ) (h : s < 76) {e : Effect} where
+module _ (slots : List ℕ) (x : Parts) (clock : ℕ) (full : Bool) (s old new part : ℕ) (h : s < 76) {e : Effect} where
   pub word-control : {y : OwnOut} {l : ℕ} → portAt s ≡ Acts e → e ≡ TimerControl → l ≡ clock
-      → y ≡ timerWritten own (x .devices) l full (s / 8) (slotWord s) old new
-      → y ≡ wordWritten e own (x .devices) clock full (slotWord s) old new part
+      → y ≡ timerWritten slots (x .devices) l full (s / 8) (slotWord s) old new
+      → y ≡ wordWritten e slots (x .devices) clock full (slotWord s) old new part
   word-control p k j i = rw (k, slot-timer-of s h (ap timers (p ∙ ap Acts k)), ← j) i
 
   pub word-sounds : {y : OwnOut} {l : ℕ} → e ≡ Sound → l ≡ clock
-      → y ≡ soundWritten own (x .devices) (x .devices) l full (slotWord s) new
-      → y ≡ wordWritten e own (x .devices) clock full (slotWord s) old new part
+      → y ≡ soundWritten slots (x .devices) (x .devices) l full (slotWord s) new
+      → y ≡ wordWritten e slots (x .devices) clock full (slotWord s) old new part
   word-sounds k j i = rw (k, ← j) i
 
-  module _ {own₁ : List ℕ} {r : WriteAnswer} (z : r ≡ withoutEvent 0) where
-    pub word-lcd : e ≡ LcdStatus → own₁ ≡ set own s (bitAnd old (bitXor new 0xFFFFFFFF))
-        → ownOut own₁ (wroteOf r (x .devices)) ≡ wordWritten e own (x .devices) clock full (slotWord s) old new part
-    word-lcd k l = rw (k, z, l, slot-stored s h own (bitAnd old (bitXor new 0xFFFFFFFF)))
+  module _ {slots₁ : List ℕ} {r : WriteAnswer} (z : r ≡ withoutEvent 0) where
+    pub word-lcd : e ≡ LcdStatus → slots₁ ≡ set slots s (bitAnd old (bitXor new 0xFFFFFFFF))
+        → ownOut slots₁ (wroteOf r (x .devices)) ≡ wordWritten e slots (x .devices) clock full (slotWord s) old new part
+    word-lcd k l = rw (k, z, l, slot-stored s h slots (bitAnd old (bitXor new 0xFFFFFFFF)))
 
-    pub word-tick : e ≡ Tick → own₁ ≡ set own s (bitAnd old (bitXor part 0xFFFFFFFF))
-        → ownOut own₁ (wroteOf r (x .devices)) ≡ wordWritten e own (x .devices) clock full (slotWord s) old new part
-    word-tick k l = rw (k, z, l, slot-stored s h own (bitAnd old (bitXor part 0xFFFFFFFF)))
+    pub word-tick : e ≡ Tick → slots₁ ≡ set slots s (bitAnd old (bitXor part 0xFFFFFFFF))
+        → ownOut slots₁ (wroteOf r (x .devices)) ≡ wordWritten e slots (x .devices) clock full (slotWord s) old new part
+    word-tick k l = rw (k, z, l, slot-stored s h slots (bitAnd old (bitXor part 0xFFFFFFFF)))
 
-    pub word-adc : {d : Devices} → e ≡ AdcControl → ownOut own₁ (answer 0 d) ≡ adcWritten own (x .devices) old new
-        → ownOut own₁ (wroteOf r d) ≡ wordWritten e own (x .devices) clock full (slotWord s) old new part
+    pub word-adc : {d : Devices} → e ≡ AdcControl → ownOut slots₁ (answer 0 d) ≡ adcWritten slots (x .devices) old new
+        → ownOut slots₁ (wroteOf r d) ≡ wordWritten e slots (x .devices) clock full (slotWord s) old new part
     word-adc k l = rw (k, z) l
 
-    pub word-power : {y : Parts} → e ≡ Power → own₁ ≡ set own s new → y ≡ devicesPut x (poweredBy (x .devices) new)
-        → ownOut own₁ (wroteOf r (y .devices)) ≡ wordWritten e own (x .devices) clock full (slotWord s) old new part
-    word-power k l m = rw (k, z, l, m, slot-stored s h own new)
+    pub word-power : {y : Parts} → e ≡ Power → slots₁ ≡ set slots s new → y ≡ devicesPut x (poweredBy (x .devices) new)
+        → ownOut slots₁ (wroteOf r (y .devices)) ≡ wordWritten e slots (x .devices) clock full (slotWord s) old new part
+    word-power k l m = rw (k, z, l, m, slot-stored s h slots new)
 
-    pub word-spi : e ≡ SpiSend → own₁ ≡ spiSent own new
-        → ownOut own₁ (wroteOf r (x .devices)) ≡ wordWritten e own (x .devices) clock full (slotWord s) old new part
+    pub word-spi : e ≡ SpiSend → slots₁ ≡ spiSent slots new
+        → ownOut slots₁ (wroteOf r (x .devices)) ≡ wordWritten e slots (x .devices) clock full (slotWord s) old new part
     word-spi k l = rw (k, z, l)

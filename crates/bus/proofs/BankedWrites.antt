@@ -14,8 +14,8 @@ use Rattle.registers.specs.declared.Port.{Port}
 use Rattle.registers.specs.declared.Port.the-variants.{Select, Send, LcdControl, RtcCommand, Acts, Other}
 use Rattle.registers.specs.declared.Refusal.{Refusal}
 use Rattle.registers.specs.declared.Spot.{Spot}
-use Rattle.registers.specs.declared.Spot.the-variants.{Own, Never, Held, Absent}
-use Rattle.registers.specs.Words.{numberOf, ownAt, ownWith, unstored, place, Others, others, putHeld, OtherOutcome}
+use Rattle.registers.specs.declared.Spot.the-variants.{Own, Never, Present, Absent}
+use Rattle.registers.specs.Words.{numberOf, ownAt, ownWith, unstored, place, Others, others, putPresent, OtherOutcome}
 use Rattle.registers.specs.Words.{otherOutcome}
 use Rattle.registers.specs.Ports.{slotOf, slotWord, dayWord, portOf, fieldOf}
 use Rattle.registers.specs.Words.{putAbsent, registersOf, othersOf, otherSpot, wordIn, wordAt, beside, putIn, putWord}
@@ -46,14 +46,17 @@ use Rattle.time.specs.Clocks.{clockIn}
 use Rattle.bus.specs.declared.WriteAnswer.{WriteAnswer}
 use Rattle.bus.specs.World.{World, world, Out, out, outDone, OwnOut, answer}
 use Rattle.bus.specs.Chip.{Flashed, flashed, chipped, selectWritten, sendWritten}
-use Rattle.bus.specs.Rtc.{Ran, ran, commandWritten}
+use Rattle.bus.specs.Rtc.{RtcDone, rtcDone, commandWritten}
 use Rattle.bus.specs.Screen.{Copied, copied, controlled}
 use Rattle.bus.specs.Sounds.{noted}
 use Rattle.bus.specs.Words.{daySet, wordWritten}
-use Rattle.bus.specs.Write.{Stored, stored, settled, storedWord, otherWritten, byFlash, byPanel, byRtc, byWord}
-use Rattle.bus.specs.Write.{byStore, writtenAt, portWritten, wordAddress, regWritten, sizedPut, sizedNumber}
+use Rattle.bus.specs.Write.{Stored, stored, settled, storedWord, byFlash, byPanel, byRtc, byWord}
+use Rattle.bus.specs.Inner.{otherWritten}
+use Rattle.bus.specs.Write.{byStore, writtenAt, portWritten, wordAddress, regWritten}
+use Rattle.bus.specs.Inner.{sizedPut, sizedNumber}
 use Rattle.bus.specs.Write.{writeAt, writeOf, together, notedWrite}
-use Rattle.bus.specs.Bank.{Rest, wroteOf, withoutEvent, outOf}
+use Rattle.bus.specs.Bank.{outOf}
+use Rattle.bus.specs.Inner.{Rest, wroteOf, withoutEvent}
 use Rattle.bus.proofs.Cases.{other}
 use Rattle.bus.proofs.Branches.{Stores, by-stores}
 use Rattle.bus.proofs.Slots.{slot-stored, day-unstored}
@@ -69,7 +72,7 @@ module _ (r : Registers) (x : Parts) (word : ℕ) (none : slotOf word ≡ 76) wh
   unfolding putWord
   put-as v e = rw (← spot-other (r .addresses) word (slotOf word) refl past, ← e)
 
-  word-as : {y : Spot} → y ≡ otherSpot (r .addresses) word → wordAt r word ≡ wordIn (r .own) (r .values) y
+  word-as : {y : Spot} → y ≡ otherSpot (r .addresses) word → wordAt r word ≡ wordIn (r .slots) (r .values) y
   unfolding wordAt
   word-as e = rw (← spot-other (r .addresses) word (slotOf word) refl past, ← e)
 
@@ -83,38 +86,39 @@ module _ (r : Registers) (x : Parts) (word : ℕ) (none : slotOf word ≡ 76) wh
 
     module _ (l : b ≡ false) {y : Spot} (h : y ≡ otherSpot (r .addresses) word) where
       other-put : {z : Stored}
-          → z ≡ settled (putIn r y word (mergedOf (wordIn (r .own) (r .values) y) a n v)) (x .devices)
+          → z ≡ settled (putIn r y word (mergedOf (wordIn (r .slots) (r .values) y) a n v)) (x .devices)
           → z ≡ otherWritten r (x .devices) word (mergedOf (wordAt r word) a n v)
       unfolding otherWritten storedWord
-      other-put k = rw (← e, l, word-as h, put-as (mergedOf (wordIn (r .own) (r .values) y) a n v) h) k
+      other-put k = rw (← e, l, word-as h, put-as (mergedOf (wordIn (r .slots) (r .values) y) a n v) h) k
 
       pub other-none : {t : WriteAnswer} → t ≡ withoutEvent 0 → y ≡ Never
           → stored r (wroteOf t (x .devices)) ≡ otherWritten r (x .devices) word (mergedOf (wordAt r word) a n v)
       other-none k m = other-put (rw (m, k))
 
-      pub other-put-held : {t : WriteAnswer} {old new : ℕ} {p q : List ℕ} (i : ℕ) → t ≡ withoutEvent 0 → y ≡ Held i
+      pub other-put-present : {t : WriteAnswer} {old new : ℕ} {p q : List ℕ} (i : ℕ) → t ≡ withoutEvent 0
+          → y ≡ Present i
           → old ≡ getD (r .values) i 0 → new ≡ mergedOf old a n v
-          → others p q ≡ putHeld (othersOf r) i new
-          → stored (registersOf (r .own) p q) (wroteOf t (x .devices)) ≡ otherWritten r (x .devices) word (mergedOf
+          → others p q ≡ putPresent (othersOf r) i new
+          → stored (registersOf (r .slots) p q) (wroteOf t (x .devices)) ≡ otherWritten r (x .devices) word (mergedOf
           (wordAt r word) a n v)
-      other-put-held i k m o w j =
-          other-put (rw (m, k, ← o, ← w) (ap (λ (z : Others). stored (registersOf (r .own) (z .addresses)
+      other-put-present i k m o w j =
+          other-put (rw (m, k, ← o, ← w) (ap (λ (z : Others). stored (registersOf (r .slots) (z .addresses)
           (z .values)) (answer 0 (x .devices))) j))
 
       pub other-put-absent : {t : WriteAnswer} {new : ℕ} {p q : List ℕ} (i : ℕ) (b : Refusal) → y ≡ Absent i
           → new ≡ mergedOf 0 a n v
           → otherOutcome b (others p q) ≡ putAbsent (othersOf r) i word new → t ≡ withoutEvent (numberOf b)
-          → stored (registersOf (r .own) p q) (wroteOf t (x .devices)) ≡ otherWritten r (x .devices) word (mergedOf
+          → stored (registersOf (r .slots) p q) (wroteOf t (x .devices)) ≡ otherWritten r (x .devices) word (mergedOf
           (wordAt r word) a n v)
       other-put-absent i b m w j k =
-          other-put (rw (m, k, ← w) (ap (λ (z : OtherOutcome). settled (beside (r .own) z) (x .devices)) j))
+          other-put (rw (m, k, ← w) (ap (λ (z : OtherOutcome). settled (beside (r .slots) z) (x .devices)) j))
 
       -- an other word has no slot
       pub other-own : {s : ℕ} → y ≡ Own s → ⊥
       unfolding otherSpot
       other-own {s} m = by (unstored word) (eqb (getD (r .addresses) (place (r .addresses) word) 0) word) (sym m ∙ h)
         where
-          by : (b c : Bool) → Own s ≡ cond b Never (cond c (Held (place (r .addresses) word)) (Absent (place
+          by : (b c : Bool) → Own s ≡ cond b Never (cond c (Present (place (r .addresses) word)) (Absent (place
               (r .addresses) word))) → ⊥
           by true c g = let z : _≡_ {A = ℕ} 0 1 = cc in omega arith
           by false true g = let z : _≡_ {A = ℕ} 0 1 = cc in omega arith
@@ -122,54 +126,56 @@ module _ (r : Registers) (x : Parts) (word : ℕ) (none : slotOf word ≡ 76) wh
 
 -- ---- a word that is written
 
-module _ (r : Registers) (c p m s g fb : List ℕ) (x : Parts) (full : Bool) (word old new part : ℕ) where
+module _ (r : Registers) (rtc page ram sram gpio fb : List ℕ) (x : Parts) (full : Bool) (word old new part : ℕ) where
   abbrev before : World
-  before = world r c p m s g fb (x .devices)
+  before = world r rtc page ram sram gpio fb (x .devices)
 
-  module _ {t : WriteAnswer} {y : Parts} {own₁ : List ℕ} (k : t ≡ withoutEvent 0) where
-    pub port-select : {f chip : Chip} {p₁ m₁ : List ℕ} → portOf word ≡ Select → chip ≡ x .devices .flash
-        → flashed own₁ (chipped f p₁ m₁) ≡ selectWritten (r .own) chip p m new → y ≡ flashPut x f
-        → outOf (world (registersOf own₁ (r .addresses) (r .values)) c p₁ m₁ s g fb (y .devices)) t ≡ portWritten
-        before full word old new part
+  module _ {t : WriteAnswer} {y : Parts} {slots₁ : List ℕ} (k : t ≡ withoutEvent 0) where
+    pub port-select : {f chip : Chip} {page₁ ram₁ : List ℕ} → portOf word ≡ Select → chip ≡ x .devices .flash
+        → flashed slots₁ (chipped f page₁ ram₁) ≡ selectWritten (r .slots) chip page ram new → y ≡ flashPut x f
+        → outOf (world (registersOf slots₁ (r .addresses) (r .values)) rtc page₁ ram₁ sram gpio fb (y .devices)) t
+        ≡ portWritten before full word old new part
     unfolding portWritten
-    port-select h a i e = rw (h, k, e) (ap (λ (z : Flashed). byFlash before z) (i ∙ ap (λ (z : Chip). selectWritten
-        (r .own) z p m new) a))
+    port-select h a i e = rw (h, k, e) (ap (λ (z : Flashed). byFlash before z)
+        (i ∙ ap (λ (z : Chip). selectWritten (r .slots) z page ram new) a))
 
     -- a transfer changes the answer and the transaction alone
-    pub port-send : {f chip : Chip} {p₁ m₁ : List ℕ} → portOf word ≡ Send → chip ≡ x .devices .flash
-        → flashed own₁ (chipped f p₁ m₁) ≡ sendWritten (r .own) chip p m new → y ≡ sentPut x (f .rx) (f .tx)
-        → outOf (world (registersOf own₁ (r .addresses) (r .values)) c p₁ m₁ s g fb (y .devices)) t ≡ portWritten
-        before full word old new part
+    pub port-send : {f chip : Chip} {page₁ ram₁ : List ℕ} → portOf word ≡ Send → chip ≡ x .devices .flash
+        → flashed slots₁ (chipped f page₁ ram₁) ≡ sendWritten (r .slots) chip page ram new
+        → y ≡ sentPut x (f .rx) (f .tx)
+        → outOf (world (registersOf slots₁ (r .addresses) (r .values)) rtc page₁ ram₁ sram gpio fb (y .devices)) t
+        ≡ portWritten before full word old new part
     unfolding portWritten
     port-send {f} {chip} h a i e =
-        let s : f ≡ sentWith (x .devices .flash) (f .rx) (f .tx) = sent-alone (r .own) chip p m new i ∙ ap (λ (z :
-        Chip). sentWith z (f .rx) (f .tx)) a in
-        rw (h, k, e ∙ ap (λ (z : Chip). flashPut x z) (sym s)) (ap (λ (z : Flashed). byFlash before z) (i ∙ ap (λ (z
-        : Chip). sendWritten (r .own) z p m new) a))
+        let same : f ≡ sentWith (x .devices .flash) (f .rx) (f .tx) = sent-alone (r .slots) chip page ram new i
+        ∙ ap (λ (z : Chip). sentWith z (f .rx) (f .tx)) a in
+        rw (h, k, e ∙ ap (λ (z : Chip). flashPut x z) (sym same))
+        (ap (λ (z : Flashed). byFlash before z) (i ∙ ap (λ (z : Chip). sendWritten (r .slots) z page ram new) a))
 
-    pub port-panel : {q panel : Panel} {f₁ : List ℕ} → portOf word ≡ LcdControl → panel ≡ x .devices .panel
-        → copied own₁ (screen q f₁) ≡ controlled r m s g (screen panel fb) new → y ≡ panelPut x q
-        → outOf (world (registersOf own₁ (r .addresses) (r .values)) c p m s g f₁ (y .devices)) t ≡ portWritten
-        before full word old new part
+    pub port-panel : {q panel : Panel} {fb₁ : List ℕ} → portOf word ≡ LcdControl → panel ≡ x .devices .panel
+        → copied slots₁ (screen q fb₁) ≡ controlled r ram sram gpio (screen panel fb) new → y ≡ panelPut x q
+        → outOf (world (registersOf slots₁ (r .addresses) (r .values)) rtc page ram sram gpio fb₁ (y .devices)) t
+        ≡ portWritten before full word old new part
     unfolding portWritten
-    port-panel h a i e = rw (h, k, e) (ap (λ (z : Copied). byPanel before z) (i ∙ ap (λ (z : Panel). controlled r m s
-        g (screen z fb) new) a))
+    port-panel h a i e = rw (h, k, e) (ap (λ (z : Copied). byPanel before z)
+        (i ∙ ap (λ (z : Panel). controlled r ram sram gpio (screen z fb) new) a))
 
-    pub port-rtc : {l latch : Latch} {times : Times} {c₁ : List ℕ} → portOf word ≡ RtcCommand
+    pub port-rtc : {l latch : Latch} {times : Times} {rtc₁ : List ℕ} → portOf word ≡ RtcCommand
         → latch ≡ x .devices .latch → times ≡ x .devices .clocks .times
-        → ran own₁ (rtcOf c₁ l) ≡ commandWritten (r .own) (rtcOf c latch) (times .game) new → y ≡ latchPut x l
-        → outOf (world (registersOf own₁ (r .addresses) (r .values)) c₁ p m s g fb (y .devices)) t ≡ portWritten
-        before full word old new part
+        → rtcDone slots₁ (rtcOf rtc₁ l) ≡ commandWritten (r .slots) (rtcOf rtc latch) (times .game) new
+        → y ≡ latchPut x l
+        → outOf (world (registersOf slots₁ (r .addresses) (r .values)) rtc₁ page ram sram gpio fb (y .devices)) t
+        ≡ portWritten before full word old new part
     unfolding portWritten
     port-rtc {times = times} h a b i e =
         rw (h, k, e)
-        (ap (λ (z : Ran). byRtc before z)
-        (i ∙ ap (λ (z : Latch). commandWritten (r .own) (rtcOf c z) (times .game) new) a
-        ∙ ap (λ (z : Times). commandWritten (r .own) (rtcOf c (x .devices .latch)) (z .game) new) b))
+        (ap (λ (z : RtcDone). byRtc before z)
+        (i ∙ ap (λ (z : Latch). commandWritten (r .slots) (rtcOf rtc z) (times .game) new) a
+        ∙ ap (λ (z : Times). commandWritten (r .slots) (rtcOf rtc (x .devices .latch)) (z .game) new) b))
 
 module _ (w : World) (full : Bool) (word old new part : ℕ) where
   pub port-acts : {x : OwnOut} (e : Effect) → portOf word ≡ Acts e
-      → x ≡ wordWritten e (w .registers .own) (w .devices) (clockIn (w .sram)) full word old new part
+      → x ≡ wordWritten e (w .registers .slots) (w .devices) (clockIn (w .sram)) full word old new part
       → byWord w x ≡ portWritten w full word old new part
   unfolding portWritten
   port-acts e h k = rw h (ap (byWord w) k)
@@ -188,29 +194,29 @@ module _ (w : World) (full : Bool) (word old new part : ℕ) where
 
 -- one that is only stored, by its slot
 pub port-holds : (w : World) (full : Bool) (s old new part : ℕ) (p : Port) → s < 76 → portOf (slotWord s) ≡ p → Stores p
-    → {own₁ : List ℕ} {t : WriteAnswer} → (own₁ ≡ set (w .registers .own) s new) × (t ≡ withoutEvent 0)
-    → outOf (world (registersOf own₁ (w .registers .addresses) (w .registers .values)) (w .rtc) (w .page) (w .ram)
+    → {slots₁ : List ℕ} {t : WriteAnswer} → (slots₁ ≡ set (w .registers .slots) s new) × (t ≡ withoutEvent 0)
+    → outOf (world (registersOf slots₁ (w .registers .addresses) (w .registers .values)) (w .rtc) (w .page) (w .ram)
     (w .sram)
     (w .gpio) (w .fb) (w .devices)) t ≡ portWritten w full (slotWord s) old new part
 unfolding portWritten storedWord
 port-holds w full s old new part p h e b (i, k) =
     let less : slotOf (slotWord s) < 76 = omega (arith, slot-back s h) in
     let put = own-put (w .registers) (slotWord s) new less in
-    rw (e, i, k, slot-stored s h (w .registers .own) new)
-    (by-stores (λ (q : Port). outDone (world (registersOf (ownWith (w .registers .own) (slotWord s) new)
+    rw (e, i, k, slot-stored s h (w .registers .slots) new)
+    (by-stores (λ (q : Port). outDone (world (registersOf (ownWith (w .registers .slots) (slotWord s) new)
     (w .registers .addresses)
     (w .registers .values)) (w .rtc) (w .page) (w .ram) (w .sram) (w .gpio) (w .fb) (w .devices))
     ≡ writtenAt q w full (slotWord s) old new part) (λ v. rw put) (rw put) (rw put) p b)
 
 module _ (w : World) (full : Bool) (a n v : ℕ) {s : ℕ} (e : s ≡ slotOf (wordAddress a)) where
-  pub reg-merged : {old new part : ℕ} {x : Out} → s < 76 → old ≡ getD (w .registers .own) s 0
+  pub reg-merged : {old new part : ℕ} {x : Out} → s < 76 → old ≡ getD (w .registers .slots) s 0
       → new ≡ mergedOf old a n v
       → part ≡ writtenOf a n v → x ≡ portWritten w full (slotWord s) old new part → x ≡ regWritten w full a n v
   unfolding regWritten ownAt
   reg-merged {old} l h k j i =
       let less : slotOf (wordAddress a) < 76 = omega arith in
       let o : old ≡ wordAt (w .registers) (wordAddress a)
-      = h ∙ ap (λ (z : ℕ). getD (w .registers .own) z 0) e ∙ sym (own-word (w .registers) (wordAddress a) less) in
+      = h ∙ ap (λ (z : ℕ). getD (w .registers .slots) z 0) e ∙ sym (own-word (w .registers) (wordAddress a) less) in
       let word : slotWord s ≡ wordAddress a = ap slotWord e ∙ slot-hit (wordAddress a) less in
       rw (← o, ← k, ← j, ← word) i
 
@@ -229,27 +235,33 @@ sized-out : (b : Bool) (w : List ℕ → World) (l m : List ℕ)
 sized-out true w l m = refl
 sized-out false w l m = refl
 
-module _ (r : Registers) (c p m s g fb : List ℕ) (d : Devices) (full : Bool) (a n v : ℕ) where
+module _ (r : Registers) (rtc page ram sram gpio fb : List ℕ) (d : Devices) (full : Bool) (a n v : ℕ) where
   abbrev there : World
-  there = world r c p m s g fb d
+  there = world r rtc page ram sram gpio fb d
 
   module _ {q : Place} (f : q ≡ placeOf a) where
     -- a memory, by the size
     module _ {t : WriteAnswer} {o : ℕ} {l : List ℕ} (j : t ≡ withoutEvent (sizedNumber n)) where
-      pub write-ram : q ≡ Ram o → l ≡ sizedPut m o n v → outOf (world r c p l s g fb d) t ≡ writeOf there full a n v
+      pub write-ram : q ≡ Ram o → l ≡ sizedPut ram o n v → outOf (world r rtc page l sram gpio fb d) t
+          ≡ writeOf there full a n v
       unfolding writeOf
       write-ram k i =
-          rw (j, i, ← f, k) (sized-out (goodSize n) (λ (z : List ℕ). world r c p z s g fb d) (storedAt m o n v) m)
+          rw (j, i, ← f, k) (sized-out (goodSize n) (λ (z : List ℕ). world r rtc page z sram gpio fb d)
+          (storedAt ram o n v) ram)
 
-      pub write-sram : q ≡ Sram o → l ≡ sizedPut s o n v → outOf (world r c p m l g fb d) t ≡ writeOf there full a n v
+      pub write-sram : q ≡ Sram o → l ≡ sizedPut sram o n v → outOf (world r rtc page ram l gpio fb d) t
+          ≡ writeOf there full a n v
       unfolding writeOf
       write-sram k i =
-          rw (j, i, ← f, k) (sized-out (goodSize n) (λ (z : List ℕ). world r c p m z g fb d) (storedAt s o n v) s)
+          rw (j, i, ← f, k) (sized-out (goodSize n) (λ (z : List ℕ). world r rtc page ram z gpio fb d)
+          (storedAt sram o n v) sram)
 
-      pub write-gpio : q ≡ Gpio o → l ≡ sizedPut g o n v → outOf (world r c p m s l fb d) t ≡ writeOf there full a n v
+      pub write-gpio : q ≡ Gpio o → l ≡ sizedPut gpio o n v → outOf (world r rtc page ram sram l fb d) t
+          ≡ writeOf there full a n v
       unfolding writeOf
       write-gpio k i =
-          rw (j, i, ← f, k) (sized-out (goodSize n) (λ (z : List ℕ). world r c p m s z fb d) (storedAt g o n v) g)
+          rw (j, i, ← f, k) (sized-out (goodSize n) (λ (z : List ℕ). world r rtc page ram sram z fb d)
+          (storedAt gpio o n v) gpio)
 
     module _ {good : Bool} (e : good ≡ goodSize n) where
       pub write-size : {t : WriteAnswer} → not good ≡ true → t ≡ withoutEvent 9
@@ -308,28 +320,29 @@ noted-none a f u x h = (rw h, refl)
 
 -- ---- the whole
 
-module _ (r : Registers) (c p m s g fb : List ℕ) (l : List ℕ) (v : List Float) (a f u : List Float) (addr size value
-    : ℕ) where
-  pub write-noted : {r₁ : Registers} {c₁ p₁ m₁ s₁ g₁ fb₁ : List ℕ} {l₁ l₂ : List ℕ} {v₁ : List Float} {ring : Ring}
-      {full : Bool} {t : WriteAnswer} {a₁ f₁ u₁ : List Float}
+module _ (r : Registers) (rtc page ram sram gpio fb : List ℕ) (l : List ℕ) (v : List Float) (a f u : List Float)
+    (addr size value : ℕ) where
+  pub write-noted : {r₁ : Registers} {rtc₁ page₁ ram₁ sram₁ gpio₁ fb₁ : List ℕ} {l₁ l₂ : List ℕ} {v₁ : List Float}
+      {ring : Ring} {full : Bool} {t : WriteAnswer} {a₁ f₁ u₁ : List Float}
       → ring ≡ partsIn l v .ring → full ≡ fullOf ring
-      → (outOf (world r₁ c₁ p₁ m₁ s₁ g₁ fb₁ (partsIn l₁ v₁ .devices)) t ≡ writeOf (world r c p m s g fb (partsIn l
-      v .devices)) full addr size value)
+      → (outOf (world r₁ rtc₁ page₁ ram₁ sram₁ gpio₁ fb₁ (partsIn l₁ v₁ .devices)) t
+      ≡ writeOf (world r rtc page ram sram gpio fb (partsIn l v .devices)) full addr size value)
       × Rest t l v l₁ v₁
       → (queueOf a₁ f₁ u₁ (partsIn l₂ v₁ .ring) ≡ noted (queueOf a f u (partsIn l₁ v₁ .ring)) (partsIn l₁
       v₁ .devices) (t .event))
       × (partsIn l₂ v₁ ≡ ringPut (partsIn l₁ v₁) (partsIn l₂ v₁ .ring)) × StaysPacked l₁ v₁ l₂ v₁ × (t .event ≡ false
       → l₂ ≡ l₁)
-      → (together (outOf (world r₁ c₁ p₁ m₁ s₁ g₁ fb₁ (partsIn l₂ v₁ .devices)) t) (queueOf a₁ f₁ u₁ (partsIn l₂
-      v₁ .ring))
-      ≡ notedWrite (world r c p m s g fb (partsIn l v .devices)) (queueOf a f u (partsIn l v .ring)) addr size value)
+      → (together (outOf (world r₁ rtc₁ page₁ ram₁ sram₁ gpio₁ fb₁ (partsIn l₂ v₁ .devices)) t)
+      (queueOf a₁ f₁ u₁ (partsIn l₂ v₁ .ring))
+      ≡ notedWrite (world r rtc page ram sram gpio fb (partsIn l v .devices)) (queueOf a f u (partsIn l v .ring))
+      addr size value)
       × (partsIn l₂ v₁ .keys ≡ partsIn l v .keys) × Answered (t .refusal) l v l₂ v₁
   unfolding notedWrite
-  write-noted {r₁} {c₁} {p₁} {m₁} {s₁} {g₁} {fb₁} {l₁} {l₂} {v₁} {ring} {full} {t} i j w n =
-      let e : outOf (world r₁ c₁ p₁ m₁ s₁ g₁ fb₁ (partsIn l₁ v₁ .devices)) t ≡ writeOf (world r c p m s g fb (partsIn
-      l v .devices)) (fullOf (partsIn l v .ring)) addr size value
-      = w .0 ∙ ap (λ (b : Bool). writeOf (world r c p m s g fb (partsIn l v .devices)) b addr size value) (j ∙ ap (λ
-      (o : Ring). fullOf o) i) in
+  write-noted {r₁} {rtc₁} {page₁} {ram₁} {sram₁} {gpio₁} {fb₁} {l₁} {l₂} {v₁} {ring} {full} {t} i j w n =
+      let e : outOf (world r₁ rtc₁ page₁ ram₁ sram₁ gpio₁ fb₁ (partsIn l₁ v₁ .devices)) t
+      ≡ writeOf (world r rtc page ram sram gpio fb (partsIn l v .devices)) (fullOf (partsIn l v .ring)) addr size value
+      = w .0 ∙ ap (λ (b : Bool). writeOf (world r rtc page ram sram gpio fb (partsIn l v .devices)) b addr size value)
+      (j ∙ ap (λ (o : Ring). fullOf o) i) in
       let d : partsIn l₂ v₁ .devices ≡ partsIn l₁ v₁ .devices = ap (λ (o : Parts). o .devices) (n .1) in (
         rw (← e, n .0, d, w .1 .only .ring),
         ap (λ (o : Parts). o .keys) (n .1) ∙ w .1 .only .keys,

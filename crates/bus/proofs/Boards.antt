@@ -8,6 +8,7 @@ use native.Mathlib.Omega.{arith}
 use lib.ListN.{length, take, drop, set}
 use lib.Seq.{sets, take-set-le}
 use lib.Dec.{leb}
+use Rattle.map.specs.Numbers.{FLASH-SIZE}
 use Rattle.whole.proofs.Choice.{by-cond}
 use Rattle.memory.specs.Bytes.{bytesOf, storedAt}
 use Rattle.flash.specs.declared.Chip.{Chip}
@@ -38,17 +39,18 @@ rejoin (suc k) (y ∷ l) (x ∷ m) e = ap (λ (t : List ℕ). y ∷ t) (rejoin k
 abbrev pub boardLeft : Chipped → Board
 boardLeft c = boardOf (c .chip) (c .page) (c .ram)
 
-module _ (c : Chip) (p m : List ℕ) where
-  ram-step : (x : Step) → boardLeft (inRam (afterStep (boardOf c p m) x) m) ≡ afterStep (boardOf c p m) x
+module _ (c : Chip) (page ram : List ℕ) where
+  ram-step : (x : Step) → boardLeft (inRam (afterStep (boardOf c page ram) x) ram) ≡ afterStep (boardOf c page ram) x
   ram-step x =
-      let b : Board = afterStep (boardOf c p m) x in
-      ap (λ (l : List ℕ). board (b .chip) (b .page) l) (rejoin 8388608 (b .array) m (step-long (boardOf c p m) x))
+      let b : Board = afterStep (boardOf c page ram) x in
+      ap (λ (l : List ℕ). board (b .chip) (b .page) l)
+      (rejoin FLASH-SIZE (b .array) ram (step-long (boardOf c page ram) x))
 
-  pub select-step : (on : Bool) → boardLeft (selectedOver c p m on) ≡ afterStep (boardOf c p m) (cs on)
+  pub select-step : (on : Bool) → boardLeft (selectedOver c page ram on) ≡ afterStep (boardOf c page ram) (cs on)
   unfolding selectedOver
   select-step on = ram-step (cs on)
 
-  pub send-step : (b : ℕ) → boardLeft (sentOver c p m b) ≡ afterStep (boardOf c p m) (byte b)
+  pub send-step : (b : ℕ) → boardLeft (sentOver c page ram b) ≡ afterStep (boardOf c page ram) (byte b)
   unfolding sentOver
   send-step b = ram-step (byte b)
 
@@ -68,22 +70,22 @@ store-past m k o n v h = by-cond (λ (l : List ℕ). take k l ≡ take k m) (leb
 abbrev pub Alone : Devices → Devices → Type 0
 Alone d e = (e .flash ≡ d .flash) × (e .panel ≡ d .panel)
 
-module _ (own : List ℕ) (d : Devices) (clock : ℕ) (full : Bool) where
+module _ (slots : List ℕ) (d : Devices) (clock : ℕ) (full : Bool) where
   abbrev Spared : OwnOut → Type 0
   Spared x = Alone d (x .wrote .devices)
 
-  sound-alone : (next : Devices) (word v : ℕ) → Alone d next → Spared (soundWritten own d next clock full word v)
-  sound-alone next word v h = by-sound Spared own d clock full next word v (λ e. (refl, refl)) (λ e. h) (λ tone e. h)
+  sound-alone : (next : Devices) (word v : ℕ) → Alone d next → Spared (soundWritten slots d next clock full word v)
+  sound-alone next word v h = by-sound Spared slots d clock full next word v (λ e. (refl, refl)) (λ e. h) (λ tone e. h)
 
-  timer-alone : (n word old new : ℕ) → Spared (timerWritten own d clock full n word old new)
+  timer-alone : (n word old new : ℕ) → Spared (timerWritten slots d clock full n word old new)
   timer-alone n word old new =
-      by-timer Spared own d clock full n word old new _ refl (λ e. sound-alone _ word _ (refl, refl))
+      by-timer Spared slots d clock full n word old new _ refl (λ e. sound-alone _ word _ (refl, refl))
       (λ e. (refl, refl))
 
-  pub word-alone : (e : Effect) (word old new part : ℕ) → Spared (wordWritten e own d clock full word old new part)
+  pub word-alone : (e : Effect) (word old new part : ℕ) → Spared (wordWritten e slots d clock full word old new part)
   unfolding adcWritten daySet
   word-alone e word old new part =
-      by-word Spared own d clock full e word old new part
+      by-word Spared slots d clock full e word old new part
       (λ k. timer-alone (timerOf word) word old new)
       (refl, refl)
       (sound-alone d word new (refl, refl))

@@ -93,16 +93,16 @@ by-write P w full a n v bad ram sram gpio register stray =
 
 module _ (P : Out → Type 0) (w : World) (full : Bool) (word old new part : ℕ) where
   pub by-port : (portOf word ≡ Select
-      → P (byFlash w (selectWritten (w .registers .own) (w .devices .flash) (w .page) (w .ram) new)))
+      → P (byFlash w (selectWritten (w .registers .slots) (w .devices .flash) (w .page) (w .ram) new)))
       → (portOf word ≡ Send
-      → P (byFlash w (sendWritten (w .registers .own) (w .devices .flash) (w .page) (w .ram) new)))
+      → P (byFlash w (sendWritten (w .registers .slots) (w .devices .flash) (w .page) (w .ram) new)))
       → (portOf word ≡ LcdControl
       → P (byPanel w (controlled (w .registers) (w .ram) (w .sram) (w .gpio) (screen (w .devices .panel) (w .fb)) new)))
       → (portOf word ≡ RtcCommand
-      → P (byRtc w (commandWritten (w .registers .own) (rtcOf (w .rtc) (w .devices .latch))
+      → P (byRtc w (commandWritten (w .registers .slots) (rtcOf (w .rtc) (w .devices .latch))
       (w .devices .clocks .times .game) new)))
       → ((e : Effect) → portOf word ≡ Acts e
-      → P (byWord w (wordWritten e (w .registers .own) (w .devices) (clockIn (w .sram)) full word old new part)))
+      → P (byWord w (wordWritten e (w .registers .slots) (w .devices) (clockIn (w .sram)) full word old new part)))
       → ((p : Port) → portOf word ≡ p → Stores p → P (byStore w (storedWord (w .registers) (w .devices) word new)))
       → P (portWritten w full word old new part)
   unfolding portWritten
@@ -120,17 +120,17 @@ module _ (P : Out → Type 0) (w : World) (full : Bool) (word old new part : ℕ
 
 -- ---- a word that acts
 
-module _ (P : OwnOut → Type 0) (own : List ℕ) (d : Devices) (clock : ℕ) (full : Bool) where
+module _ (P : OwnOut → Type 0) (slots : List ℕ) (d : Devices) (clock : ℕ) (full : Bool) where
   pub by-word : (e : Effect) (word old new part : ℕ)
-      → (e ≡ TimerControl → P (timerWritten own d clock full (timerOf word) word old new))
-      → P (ownDone own (daySet d (fieldOf word) new))
-      → P (soundWritten own d d clock full word new)
-      → P (ownDone (ownWith own word (bitAnd old (bitXor new 0xFFFFFFFF))) d)
-      → P (ownDone (ownWith own word (bitAnd old (bitXor part 0xFFFFFFFF))) d)
-      → P (adcWritten own d old new)
-      → P (ownDone (ownWith own word new) (poweredBy d new))
-      → P (ownDone (spiSent own new) d)
-      → P (wordWritten e own d clock full word old new part)
+      → (e ≡ TimerControl → P (timerWritten slots d clock full (timerOf word) word old new))
+      → P (ownDone slots (daySet d (fieldOf word) new))
+      → P (soundWritten slots d d clock full word new)
+      → P (ownDone (ownWith slots word (bitAnd old (bitXor new 0xFFFFFFFF))) d)
+      → P (ownDone (ownWith slots word (bitAnd old (bitXor part 0xFFFFFFFF))) d)
+      → P (adcWritten slots d old new)
+      → P (ownDone (ownWith slots word new) (poweredBy d new))
+      → P (ownDone (spiSent slots new) d)
+      → P (wordWritten e slots d clock full word old new part)
   by-word TimerControl word old new part timer day sound lcd tick adc power spi = timer refl
   by-word DayField word old new part timer day sound lcd tick adc power spi = day
   by-word Sound word old new part timer day sound lcd tick adc power spi = sound
@@ -140,16 +140,16 @@ module _ (P : OwnOut → Type 0) (own : List ℕ) (d : Devices) (clock : ℕ) (f
   by-word Power word old new part timer day sound lcd tick adc power spi = power
   by-word SpiSend word old new part timer day sound lcd tick adc power spi = spi
 
-  pub by-sound : (next : Devices) (word v : ℕ) → (soundOf own (d .tone) clock full word v ≡ SoundFull
-      → P (ownOut own (answer 5 d)))
-      → (soundOf own (d .tone) clock full word v ≡ Same → P (ownDone (ownWith own word v) next))
-      → ((tone : Tone) → soundOf own (d .tone) clock full word v ≡ Change tone
-      → P (ownOut (ownWith own word v) (record { refusal = 0; event = true; devices = withTone next tone })))
-      → P (soundWritten own d next clock full word v)
+  pub by-sound : (next : Devices) (word v : ℕ) → (soundOf slots (d .tone) clock full word v ≡ SoundFull
+      → P (ownOut slots (answer 5 d)))
+      → (soundOf slots (d .tone) clock full word v ≡ Same → P (ownDone (ownWith slots word v) next))
+      → ((tone : Tone) → soundOf slots (d .tone) clock full word v ≡ Change tone
+      → P (ownOut (ownWith slots word v) (record { refusal = 0; event = true; devices = withTone next tone })))
+      → P (soundWritten slots d next clock full word v)
   unfolding soundWritten
-  by-sound next word v refused same change = go (soundOf own (d .tone) clock full word v) refl
+  by-sound next word v refused same change = go (soundOf slots (d .tone) clock full word v) refl
     where
-      go : (x : Sounded) → soundOf own (d .tone) clock full word v ≡ x → P (sounding x own d next word v)
+      go : (x : Sounded) → soundOf slots (d .tone) clock full word v ≡ x → P (sounding x slots d next word v)
       go SoundFull e = refused e
       go Same e = same e
       go (Change tone) e = change tone e
@@ -157,8 +157,8 @@ module _ (P : OwnOut → Type 0) (own : List ℕ) (d : Devices) (clock : ℕ) (f
   -- x: what the write makes of the timer and of its control word
   pub by-timer : (n word old new : ℕ) (x : Written) → writtenOf (getD (d .clocks .timers) n none)
       (d .clocks .times .now) new old ≡ x
-      → (n ≡ 4 → P (soundWritten own d (timerSet d n (x .timer)) clock full word (x .control)))
-      → (n ≢ 4 → P (ownDone (ownWith own word (x .control)) (timerSet d n (x .timer))))
-      → P (timerWritten own d clock full n word old new)
+      → (n ≡ 4 → P (soundWritten slots d (timerSet d n (x .timer)) clock full word (x .control)))
+      → (n ≢ 4 → P (ownDone (ownWith slots word (x .control)) (timerSet d n (x .timer))))
+      → P (timerWritten slots d clock full n word old new)
   unfolding timerWritten
   by-timer n word old new x e sound plain = rw e (by-equal P n 4 _ _ sound plain)

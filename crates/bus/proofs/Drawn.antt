@@ -4,7 +4,7 @@ use mathlib.Core.Path.{_≡_, refl, sym, ap, _∙_}
 use mathlib.Core.List.{List, []}
 use mathlib.Core.Logic.{_≢_}
 use lib.Ieee.{Float}
-use Rattle.panel.specs.declared.Held.{Held}
+use Rattle.panel.specs.declared.MaybeByte.{MaybeByte}
 use Rattle.panel.specs.declared.Window.{Window}
 use Rattle.panel.specs.declared.Pen.{Pen}
 use Rattle.panel.specs.declared.Panel.{Panel}
@@ -16,7 +16,7 @@ use Rattle.state.specs.declared.Parts.{Parts}
 use Rattle.state.specs.Bank.{panelIn, partsIn}
 use Rattle.state.specs.Packed.{Put}
 use Rattle.state.specs.Parts.{panelPut}
-use Rattle.bus.specs.Bank.{OnlyPanel}
+use Rattle.bus.specs.Inner.{OnlyPanel}
 
 -- ---- the panel was put, whole or its pen alone; not at all; twice
 
@@ -45,9 +45,9 @@ panel-again {n = n} a b =
 
 -- ---- a data byte
 
-module _ (l fb : List ℕ) (b : ℕ) {order : Held} {n : ℕ} (o : order ≡ panelIn l .cmd) (e : n ≡ codeOf order) where
+module _ (l fb : List ℕ) (b : ℕ) {order : MaybeByte} {n : ℕ} (o : order ≡ panelIn l .cmd) (e : n ≡ codeOf order) where
   code : codeOf (panelIn l .cmd) ≡ n
-  code = ap (λ (h : Held). codeOf h) (sym o) ∙ sym e
+  code = ap (λ (h : MaybeByte). codeOf h) (sym o) ∙ sym e
 
   pub data-pixel : {l′ w fb′ : List ℕ} {window : Window} {pen next : Pen} → n ≡ 0x2C → window ≡ panelIn l .window
       → pen ≡ panelIn l .pen

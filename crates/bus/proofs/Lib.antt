@@ -1,7 +1,5 @@
 -- The branches of the definitions, laws by subject, and uniqueness.
 pub mod Parts
-pub mod Whole
-pub mod Laid
 pub mod Slots
 pub mod Values
 pub mod Sizes

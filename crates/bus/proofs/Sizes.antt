@@ -9,9 +9,9 @@ use Rattle.memory.specs.Access.{goodSize}
 use Rattle.memory.specs.Bytes.{loaded, storedAt}
 use Rattle.bus.specs.declared.WriteAnswer.{WriteAnswer}
 use Rattle.bus.specs.declared.Got.{Got}
-use Rattle.bus.specs.Bank.{withoutEvent}
-use Rattle.bus.specs.Read.{sizedGot}
-use Rattle.bus.specs.Write.{sizedPut, sizedNumber}
+use Rattle.bus.specs.Inner.{withoutEvent}
+use Rattle.bus.specs.Inner.{sizedGot}
+use Rattle.bus.specs.Inner.{sizedPut, sizedNumber}
 
 pub good-one : goodSize 1 ≡ true
 unfolding goodSize

@@ -22,9 +22,9 @@ module _ (s : ℕ) (h : s < 76) where
       (λ z. ne-eqb _ _ (λ w. z (sym (slot-back s h) ∙ ap slotOf (w ∙ sym e) ∙ slot-back k l)) ∙ sym (ne-eqb s k z))
 
   -- what is stored in the slot is stored in its word
-  pub slot-stored : (own : List ℕ) (v : ℕ) → set own s v ≡ ownWith own (slotWord s) v
+  pub slot-stored : (slots : List ℕ) (v : ℕ) → set slots s v ≡ ownWith slots (slotWord s) v
   unfolding ownWith
-  slot-stored own v = rw (slot-back s h)
+  slot-stored slots v = rw (slot-back s h)
 
 -- ---- the time of day
 

@@ -20,13 +20,13 @@ use Rattle.registers.proofs.Slots.{port-slot, port-none, slot-no-day, slot-time
 use Rattle.state.specs.declared.Clocks.{Clocks}
 use Rattle.state.specs.declared.Devices.{Devices}
 use Rattle.bus.specs.Read.{dayRead, timerRead, counterRead, Given, given, actingValue, viewOf, readBy, wordRead}
-use Rattle.bus.specs.Read.{otherValue}
+use Rattle.bus.specs.Inner.{otherValue}
 
 -- ---- a word in its own storage; s is its slot, p its port
 
-module _ (own : List ℕ) (d : Devices) (clock s : ℕ) {old : ℕ} (h : s < 76) (o : old ≡ getD own s 0) where
-  pub read-as : (p : Port) {x : Given} → p ≡ portAt s → x ≡ readBy p own d clock (slotWord s) old
-      → x ≡ wordRead own d clock (slotWord s) (getD own s 0)
+module _ (slots : List ℕ) (d : Devices) (clock s : ℕ) {old : ℕ} (h : s < 76) (o : old ≡ getD slots s 0) where
+  pub read-as : (p : Port) {x : Given} → p ≡ portAt s → x ≡ readBy p slots d clock (slotWord s) old
+      → x ≡ wordRead slots d clock (slotWord s) (getD slots s 0)
   unfolding wordRead
   read-as p e k = rw (port-slot s h, ← e, ← o) k
 
@@ -39,10 +39,10 @@ module _ (s : ℕ) (h : s < 76) where
   pub acting-no-day : {e : Effect} → portAt s ≡ Acts e → e ≡ DayField → ⊥
   acting-no-day p k = slot-no-day s h (p ∙ ap Acts k)
 
-  pub view-counter : (own : List ℕ) (d : Devices) (clock old : ℕ) {w : View} {v l : ℕ} → portAt s ≡ Shows w
-      → w ≡ TimerCounter → l ≡ clock → v ≡ counterRead own (d .clocks) l (s / 8) old
-      → given own v ≡ viewOf w own d clock (slotWord s) old
-  view-counter own d clock old p k j i =
+  pub view-counter : (slots : List ℕ) (d : Devices) (clock old : ℕ) {w : View} {v l : ℕ} → portAt s ≡ Shows w
+      → w ≡ TimerCounter → l ≡ clock → v ≡ counterRead slots (d .clocks) l (s / 8) old
+      → given slots v ≡ viewOf w slots d clock (slotWord s) old
+  view-counter slots d clock old p k j i =
       rw (k, slot-timer-of s h (ap timers (p ∙ ap Shows k)), ← j, i)
 
   -- a counter's slot is one of the timers'
@@ -52,12 +52,12 @@ module _ (s : ℕ) (h : s < 76) where
 -- ---- a word that has none
 
 module _ (r : Registers) (d : Devices) (clock word : ℕ) (none : slotOf word ≡ 76) where
-  pub other-reads : wordRead (r .own) d clock word (wordAt r word) ≡ given (r .own) (otherValue r (d .clocks) word)
+  pub other-reads : wordRead (r .slots) d clock word (wordAt r word) ≡ given (r .slots) (otherValue r (d .clocks) word)
   unfolding wordRead otherValue
   other-reads = rw (port-none word none) (by (dayWord word))
     where
-      by : (b : Bool) → readBy (cond b (Acts DayField) Other) (r .own) d clock word (wordAt r word)
-          ≡ given (r .own) (cond b (dayRead (d .clocks) (fieldOf word)) (wordAt r word))
+      by : (b : Bool) → readBy (cond b (Acts DayField) Other) (r .slots) d clock word (wordAt r word)
+          ≡ given (r .slots) (cond b (dayRead (d .clocks) (fieldOf word)) (wordAt r word))
       by true = refl
       by false = refl
 
@@ -67,9 +67,9 @@ module _ (r : Registers) (d : Devices) (clock word : ℕ) (none : slotOf word �
     unfolding otherValue
     other-field t g k = rw (← e, t, ← g) k
 
-    pub other-held : {v : ℕ} {x : Spot} → b ≡ false → x ≡ otherSpot (r .addresses) word
-        → v ≡ wordIn (r .own) (r .values) x → v ≡ otherValue r (d .clocks) word
+    pub other-present : {v : ℕ} {x : Spot} → b ≡ false → x ≡ otherSpot (r .addresses) word
+        → v ≡ wordIn (r .slots) (r .values) x → v ≡ otherValue r (d .clocks) word
     unfolding otherValue wordAt
-    other-held t i k =
+    other-present t i k =
         let out : 76 ≤ slotOf word = omega arith in
         rw (← e, t, ← spot-other (r .addresses) word (slotOf word) refl out, ← i) k

@@ -22,34 +22,34 @@ pub record Chipped : Type 0 where
   pub ram : List ℕ
 
 abbrev pub chipped : Chip → List ℕ → List ℕ → Chipped
-chipped c p ram = record { chip = c; page = p; ram = ram }
+chipped c page ram = record { chip = c; page = page; ram = ram }
 
 -- the chip on its board, whose array is the first 8 MiB of RAM
 abbrev pub boardOf : Chip → List ℕ → List ℕ → Board
-boardOf c p ram = board c p (take FLASH-SIZE ram)
+boardOf c page ram = board c page (take FLASH-SIZE ram)
 
 -- a board's outcome, in RAM
 abbrev pub inRam : Board → List ℕ → Chipped
 inRam b ram = chipped (b .chip) (b .page) (b .array ++ drop FLASH-SIZE ram)
 
 unfoldable pub selectedOver : Chip → List ℕ → List ℕ → Bool → Chipped
-selectedOver c p ram on = inRam (selected (boardOf c p ram) on .board) ram
+selectedOver c page ram on = inRam (selected (boardOf c page ram) on .board) ram
 
 -- a transfer stores nothing
 unfoldable pub sentOver : Chip → List ℕ → List ℕ → ℕ → Chipped
-sentOver c p ram b = inRam (transferred (boardOf c p ram) b .board) ram
+sentOver c page ram b = inRam (transferred (boardOf c page ram) b .board) ram
 
 pub record Flashed : Type 0 where
-  pub own : List ℕ
+  pub slots : List ℕ
   pub left : Chipped
 
 abbrev pub flashed : List ℕ → Chipped → Flashed
-flashed o c = record { own = o; left = c }
+flashed slots c = record { slots = slots; left = c }
 
 -- bit 6 selects
 unfoldable pub selectWritten : List ℕ → Chip → List ℕ → List ℕ → ℕ → Flashed
-selectWritten own c p ram new = flashed (ownWith own SPIFC-SELECT new) (selectedOver c p ram (has new 0x40))
+selectWritten slots c page ram new = flashed (ownWith slots SPIFC-SELECT new) (selectedOver c page ram (has new 0x40))
 
 -- the low byte is sent
 unfoldable pub sendWritten : List ℕ → Chip → List ℕ → List ℕ → ℕ → Flashed
-sendWritten own c p ram new = flashed (ownWith own SPIFC-SEND new) (sentOver c p ram (new % 256))
+sendWritten slots c page ram new = flashed (ownWith slots SPIFC-SEND new) (sentOver c page ram (new % 256))

@@ -2,10 +2,10 @@
 pub mod World
 pub mod Chip
 pub mod Rtc
-pub mod Block
 pub mod Screen
 pub mod Sounds
 pub mod Words
 pub mod Write
 pub mod Read
 pub mod Bank
+pub mod Inner

@@ -15,7 +15,7 @@ use Rattle.registers.specs.declared.View.the-variants.{TimerCounter, SpiAnswer,
 use Rattle.registers.specs.declared.View.the-variants.{FlashAnswer, ClockStatus, Pending, PendingFiq}
 use Rattle.registers.specs.declared.Port.{Port}
 use Rattle.registers.specs.declared.Port.the-variants.{Select, Send, LcdControl, RtcCommand, Acts, Shows, Holds, Other}
-use Rattle.registers.specs.Ports.{dayWord, portOf, timerOf, fieldOf}
+use Rattle.registers.specs.Ports.{portOf, timerOf, fieldOf}
 use Rattle.registers.specs.Words.{ownAt, ownWith, wordAt}
 use Rattle.memory.specs.declared.Place.{Place}
 use Rattle.memory.specs.declared.Place.the-variants.{Ram, Sram, Gpio, Register, Stray}
@@ -35,7 +35,7 @@ use Rattle.bus.specs.Write.{wordAddress}
 
 -- 2 if bit 15 of the clock switch is set, else 1
 unfoldable pub statusOf : List ℕ → ℕ
-statusOf own = cond (has (ownAt own CLOCK-SWITCH) 0x8000) 2 1
+statusOf slots = cond (has (ownAt slots CLOCK-SWITCH) 0x8000) 2 1
 
 unfoldable pub dayRead : Clocks → ℕ → ℕ
 dayRead c field = clock.fieldOf (todOf (c .irq) (c .times .game)) field % 2 ^ 32
@@ -48,17 +48,17 @@ abbrev pub baseOf : ℕ → ℕ
 baseOf n = TIMER-BASE + n * TIMER-STEP
 
 unfoldable pub counterRead : List ℕ → Clocks → ℕ → ℕ → ℕ → ℕ
-counterRead own c clock n old =
-    counterOf (getD (c .timers) n none) (c .times .now) clock (ownAt own (baseOf n)) (ownAt own (baseOf n + 8)) old
+counterRead slots c clock n old =
+    counterOf (getD (c .timers) n none) (c .times .now) clock (ownAt slots (baseOf n)) (ownAt slots (baseOf n + 8)) old
 
 -- ---- what a word reads as, before shifting, and what the words with storage of their own then are
 
 pub record Given : Type 0 where
-  pub own : List ℕ
+  pub slots : List ℕ
   pub value : ℕ
 
 abbrev pub given : List ℕ → ℕ → Given
-given o v = record { own = o; value = v }
+given slots v = record { slots = slots; value = v }
 
 -- of the words that act when they are written, timer control and time of day read otherwise than stored; old: what
 -- the word holds
@@ -74,62 +74,55 @@ actingValue SpiSend c word old = old
 
 -- what the second SPI answered reads as stored, and its reading clears the low three bits of its status
 abbrev pub viewOf : View → List ℕ → Devices → ℕ → ℕ → ℕ → Given
-viewOf TimerCounter own d clock word old = given own (counterRead own (d .clocks) clock (timerOf word) old)
-viewOf SpiAnswer own d clock word old = given (ownWith own SPI2-STATUS (bitAnd (ownAt own SPI2-STATUS) 0xFFFFFFF8)) old
-viewOf RtcReady own d clock word old = given own 1
-viewOf RtcOut own d clock word old = given own (d .latch .out)
-viewOf FlashStatus own d clock word old = given own (bitAnd old 0xFFFFFFF7)
-viewOf FlashAnswer own d clock word old = given own (d .flash .rx)
-viewOf ClockStatus own d clock word old = given own (statusOf own)
-viewOf Pending own d clock word old = given own (pendingOf own (d .clocks .timers))
-viewOf PendingFiq own d clock word old = given own 0
+viewOf TimerCounter slots d clock word old = given slots (counterRead slots (d .clocks) clock (timerOf word) old)
+viewOf SpiAnswer slots d clock word old = given
+    (ownWith slots SPI2-STATUS (bitAnd (ownAt slots SPI2-STATUS) 0xFFFFFFF8)) old
+viewOf RtcReady slots d clock word old = given slots 1
+viewOf RtcOut slots d clock word old = given slots (d .latch .out)
+viewOf FlashStatus slots d clock word old = given slots (bitAnd old 0xFFFFFFF7)
+viewOf FlashAnswer slots d clock word old = given slots (d .flash .rx)
+viewOf ClockStatus slots d clock word old = given slots (statusOf slots)
+viewOf Pending slots d clock word old = given slots (pendingOf slots (d .clocks .timers))
+viewOf PendingFiq slots d clock word old = given slots 0
 
 -- by the word's port
 abbrev pub readBy : Port → List ℕ → Devices → ℕ → ℕ → ℕ → Given
-readBy Select own d clock word old = given own old
-readBy Send own d clock word old = given own old
-readBy LcdControl own d clock word old = given own old
-readBy RtcCommand own d clock word old = given own old
-readBy (Acts e) own d clock word old = given own (actingValue e (d .clocks) word old)
-readBy (Shows v) own d clock word old = viewOf v own d clock word old
-readBy Holds own d clock word old = given own old
-readBy Other own d clock word old = given own old
+readBy Select slots d clock word old = given slots old
+readBy Send slots d clock word old = given slots old
+readBy LcdControl slots d clock word old = given slots old
+readBy RtcCommand slots d clock word old = given slots old
+readBy (Acts e) slots d clock word old = given slots (actingValue e (d .clocks) word old)
+readBy (Shows v) slots d clock word old = viewOf v slots d clock word old
+readBy Holds slots d clock word old = given slots old
+readBy Other slots d clock word old = given slots old
 
 unfoldable pub wordRead : List ℕ → Devices → ℕ → ℕ → ℕ → Given
-wordRead own d clock word old = readBy (portOf word) own d clock word old
-
--- of a word that has no storage of its own
-unfoldable pub otherValue : Registers → Clocks → ℕ → ℕ
-otherValue r c word = cond (dayWord word) (dayRead c (fieldOf word)) (wordAt r word)
+wordRead slots d clock word old = readBy (portOf word) slots d clock word old
 
 -- the part of a word that an access reaches
 abbrev pub cutGiven : Given → ℕ → ℕ → Given
-cutGiven x a n = given (x .own) (cutOf (x .value) a n)
+cutGiven x a n = given (x .slots) (cutOf (x .value) a n)
 
 unfoldable pub regRead : Registers → List ℕ → Devices → ℕ → ℕ → Given
-regRead r sram d a n = cutGiven (wordRead (r .own) d (clockIn sram) (wordAddress a) (wordAt r (wordAddress a))) a n
+regRead r sram d a n = cutGiven (wordRead (r .slots) d (clockIn sram) (wordAddress a) (wordAt r (wordAddress a))) a n
 
 pub record ReadOut : Type 0 where
-  pub own : List ℕ
+  pub slots : List ℕ
   pub got : Got
 
 abbrev pub got : List ℕ → Got → ReadOut
-got o x = record { own = o; got = x }
-
--- what an access to a memory reads; 9 where its size is not 1, 2 or 4
-abbrev pub sizedGot : ℕ → ℕ → Got
-sizedGot n v = cond (goodSize n) (record { refusal = DONE; value = v }) (record { refusal = BAD-SIZE; value = 0 })
+got slots x = record { slots = slots; got = x }
 
 abbrev pub reads : Given → ReadOut
-reads x = got (x .own) (record { refusal = DONE; value = x .value })
+reads x = got (x .slots) (record { refusal = DONE; value = x .value })
 
 abbrev pub readAt : Place → Registers → List ℕ → List ℕ → List ℕ → Devices → ℕ → ℕ → ReadOut
-readAt (Ram o) r ram sram gpio d a n = reads (given (r .own) (loaded ram o n))
-readAt (Sram o) r ram sram gpio d a n = reads (given (r .own) (loaded sram o n))
-readAt (Gpio o) r ram sram gpio d a n = reads (given (r .own) (loaded gpio o n))
+readAt (Ram o) r ram sram gpio d a n = reads (given (r .slots) (loaded ram o n))
+readAt (Sram o) r ram sram gpio d a n = reads (given (r .slots) (loaded sram o n))
+readAt (Gpio o) r ram sram gpio d a n = reads (given (r .slots) (loaded gpio o n))
 readAt Register r ram sram gpio d a n = reads (regRead r sram d a n)
-readAt Stray r ram sram gpio d a n = reads (given (r .own) 0)
+readAt Stray r ram sram gpio d a n = reads (given (r .slots) 0)
 
 unfoldable pub readOf : Registers → List ℕ → List ℕ → List ℕ → Devices → ℕ → ℕ → ReadOut
 readOf r ram sram gpio d a n = cond (goodSize n) (readAt (placeOf a) r ram sram gpio d a n)
-    (got (r .own) (record { refusal = BAD-SIZE; value = 0 }))
+    (got (r .slots) (record { refusal = BAD-SIZE; value = 0 }))

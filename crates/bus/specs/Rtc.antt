@@ -7,15 +7,15 @@ use Rattle.registers.specs.Words.{ownAt, ownWith}
 use Rattle.clock.specs.declared.Rtc.{Rtc}
 use Rattle.clock.specs.Rtc.{commandedOf}
 
-pub record Ran : Type 0 where
-  pub own : List ℕ
+pub record RtcDone : Type 0 where
+  pub slots : List ℕ
   pub chip : Rtc
 
-abbrev pub ran : List ℕ → Rtc → Ran
-ran o r = record { own = o; chip = r }
+abbrev pub rtcDone : List ℕ → Rtc → RtcDone
+rtcDone slots r = record { slots = slots; chip = r }
 
-abbrev pub commandedBy : List ℕ → Rtc → Float → ℕ → Ran
-commandedBy own r game new = ran own (commandedOf r game (ownAt own RTC-ADDRESS) (ownAt own RTC-DATA) new)
+abbrev pub commandedBy : List ℕ → Rtc → Float → ℕ → RtcDone
+commandedBy slots r game new = rtcDone slots (commandedOf r game (ownAt slots RTC-ADDRESS) (ownAt slots RTC-DATA) new)
 
-unfoldable pub commandWritten : List ℕ → Rtc → Float → ℕ → Ran
-commandWritten own r game new = commandedBy (ownWith own RTC-COMMAND new) r game new
+unfoldable pub commandWritten : List ℕ → Rtc → Float → ℕ → RtcDone
+commandWritten slots r game new = commandedBy (ownWith slots RTC-COMMAND new) r game new

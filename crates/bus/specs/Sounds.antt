@@ -25,32 +25,33 @@ timerSet d n t = withClocks d (timerWith (d .clocks) n t)
 
 -- the buzzer by timer 4's control, reload and compare words, once one of them is v
 unfoldable pub soundOf : List ℕ → Tone → ℕ → Bool → ℕ → ℕ → Sounded
-soundOf own tone clock full word v =
+soundOf slots tone clock full word v =
     soundedOf tone full
     (toneOf clock
-    (cond (eqb word SOUND-CONTROL) v (ownAt own SOUND-CONTROL))
-    (cond (eqb word SOUND-RELOAD) v (ownAt own SOUND-RELOAD))
-    (cond (eqb word SOUND-COMPARE) v (ownAt own SOUND-COMPARE)))
+    (cond (eqb word SOUND-CONTROL) v (ownAt slots SOUND-CONTROL))
+    (cond (eqb word SOUND-RELOAD) v (ownAt slots SOUND-RELOAD))
+    (cond (eqb word SOUND-COMPARE) v (ownAt slots SOUND-COMPARE)))
 
 -- the word is stored and the devices are the next ones, with the new tone; or nothing changes
 abbrev pub sounding : Sounded → List ℕ → Devices → Devices → ℕ → ℕ → OwnOut
-sounding SoundFull own d next word v = ownOut own (answer SOUND-FULL d)
-sounding Same own d next word v = ownDone (ownWith own word v) next
-sounding (Change tone) own d next word v = ownOut (ownWith own word v)
+sounding SoundFull slots d next word v = ownOut slots (answer SOUND-FULL d)
+sounding Same slots d next word v = ownDone (ownWith slots word v) next
+sounding (Change tone) slots d next word v = ownOut (ownWith slots word v)
     (record { refusal = DONE; event = true; devices = withTone next tone })
 
 unfoldable pub soundWritten : List ℕ → Devices → Devices → ℕ → Bool → ℕ → ℕ → OwnOut
-soundWritten own d next clock full word v = sounding (soundOf own (d .tone) clock full word v) own d next word v
+soundWritten slots d next clock full word v = sounding (soundOf slots (d .tone) clock full word v) slots d next word v
 
 abbrev pub controlWritten : Written → List ℕ → Devices → ℕ → Bool → ℕ → ℕ → OwnOut
-controlWritten x own d clock full n word =
-    cond (eqb n SOUND-TIMER) (soundWritten own d (timerSet d n (x .timer)) clock full word (x .control))
-    (ownDone (ownWith own word (x .control)) (timerSet d n (x .timer)))
+controlWritten x slots d clock full n word =
+    cond (eqb n SOUND-TIMER) (soundWritten slots d (timerSet d n (x .timer)) clock full word (x .control))
+    (ownDone (ownWith slots word (x .control)) (timerSet d n (x .timer)))
 
 -- the control word of timer n
 unfoldable pub timerWritten : List ℕ → Devices → ℕ → Bool → ℕ → ℕ → ℕ → ℕ → OwnOut
-timerWritten own d clock full n word old new =
-    controlWritten (writtenOf (getD (d .clocks .timers) n none) (d .clocks .times .now) new old) own d clock full n word
+timerWritten slots d clock full n word old new =
+    controlWritten (writtenOf (getD (d .clocks .timers) n none) (d .clocks .times .now) new old)
+    slots d clock full n word
 
 -- ---- the sound queue
 

@@ -28,8 +28,8 @@ abbrev pub withRegisters : World → Registers → World
 withRegisters w r = world r (w .rtc) (w .page) (w .ram) (w .sram) (w .gpio) (w .fb) (w .devices)
 
 -- of the registers those with storage of their own
-abbrev pub withOwn : World → List ℕ → World
-withOwn w own = withRegisters w (registersOf own (w .registers .addresses) (w .registers .values))
+abbrev pub withSlots : World → List ℕ → World
+withSlots w slots = withRegisters w (registersOf slots (w .registers .addresses) (w .registers .values))
 
 abbrev pub withRtc : World → List ℕ → World
 withRtc w rtc = world (w .registers) rtc (w .page) (w .ram) (w .sram) (w .gpio) (w .fb) (w .devices)
@@ -75,11 +75,11 @@ pub record Wrote : Type 0 where
   pub devices : Devices
 
 pub record OwnOut : Type 0 where
-  pub own : List ℕ
+  pub slots : List ℕ
   pub wrote : Wrote
 
 abbrev pub ownOut : List ℕ → Wrote → OwnOut
-ownOut o w = record { own = o; wrote = w }
+ownOut slots w = record { slots = slots; wrote = w }
 
 -- an answer without an event
 abbrev pub answer : ℕ → Devices → Wrote

@@ -1,12 +1,11 @@
 -- What a write on the bus does: slow_write and mmio_write.
 use Prim.Native.Nat.{ℕ, _-_, _%_}
 use mathlib.Core.Bool.{Bool, false, cond}
-use mathlib.Core.List.{List}
-use Rattle.map.specs.Numbers.{DONE, STRAY-WRITE, BAD-SIZE}
+use Rattle.map.specs.Numbers.{STRAY-WRITE, BAD-SIZE}
 use Rattle.registers.specs.declared.Registers.{Registers}
 use Rattle.registers.specs.declared.Port.{Port}
 use Rattle.registers.specs.declared.Port.the-variants.{Select, Send, LcdControl, RtcCommand, Acts, Shows, Holds, Other}
-use Rattle.registers.specs.Ports.{dayWord, portOf, fieldOf}
+use Rattle.registers.specs.Ports.{portOf}
 use Rattle.registers.specs.Words.{Outcome, wordAt, putWord}
 use Rattle.memory.specs.declared.Place.{Place}
 use Rattle.memory.specs.declared.Place.the-variants.{Ram, Sram, Gpio, Register, Stray}
@@ -21,13 +20,13 @@ use Rattle.state.specs.declared.Devices.{Devices}
 use Rattle.state.specs.Parts.{withFlash, withPanel, withLatch}
 use Rattle.time.specs.Clocks.{clockIn}
 use Rattle.bus.specs.World.{World, Out, out, outDone, Wrote, OwnOut, answer}
-use Rattle.bus.specs.World.{withRegisters, withOwn, withRtc, withPage, withRam, withSram, withGpio, withFb}
+use Rattle.bus.specs.World.{withRegisters, withSlots, withRtc, withPage, withRam, withSram, withGpio, withFb}
 use Rattle.bus.specs.World.{withDevices}
 use Rattle.bus.specs.Chip.{Flashed, selectWritten, sendWritten}
-use Rattle.bus.specs.Rtc.{Ran, commandWritten}
+use Rattle.bus.specs.Rtc.{RtcDone, commandWritten}
 use Rattle.bus.specs.Screen.{Copied, controlled}
 use Rattle.bus.specs.Sounds.{noted}
-use Rattle.bus.specs.Words.{daySet, wordWritten}
+use Rattle.bus.specs.Words.{wordWritten}
 
 -- a word that only is stored
 pub record Stored : Type 0 where
@@ -43,28 +42,23 @@ settled o d = stored (o .registers) (answer (o .refusal) d)
 unfoldable pub storedWord : Registers → Devices → ℕ → ℕ → Stored
 storedWord r d word new = settled (putWord r word new) d
 
--- a word that has no storage of its own: a field of the time of day, or one that is only stored
-unfoldable pub otherWritten : Registers → Devices → ℕ → ℕ → Stored
-otherWritten r d word new = cond (dayWord word) (stored r (answer 0 (daySet d (fieldOf word) new)))
-    (storedWord r d word new)
-
 -- ---- an outcome in the world
 
 abbrev pub byFlash : World → Flashed → Out
 byFlash w x =
-    outDone (withDevices (withRam (withPage (withOwn w (x .own)) (x .left .page)) (x .left .ram))
+    outDone (withDevices (withRam (withPage (withSlots w (x .slots)) (x .left .page)) (x .left .ram))
     (withFlash (w .devices) (x .left .chip)))
 
 abbrev pub byPanel : World → Copied → Out
-byPanel w x = outDone (withDevices (withFb (withOwn w (x .own)) (x .screen .fb))
+byPanel w x = outDone (withDevices (withFb (withSlots w (x .slots)) (x .screen .fb))
     (withPanel (w .devices) (x .screen .panel)))
 
-abbrev pub byRtc : World → Ran → Out
-byRtc w x = outDone (withDevices (withRtc (withOwn w (x .own)) (x .chip .regs))
+abbrev pub byRtc : World → RtcDone → Out
+byRtc w x = outDone (withDevices (withRtc (withSlots w (x .slots)) (x .chip .regs))
     (withLatch (w .devices) (x .chip .latch)))
 
 abbrev pub byWord : World → OwnOut → Out
-byWord w x = out (withDevices (withOwn w (x .own)) (x .wrote .devices)) (x .wrote .refusal) (x .wrote .event)
+byWord w x = out (withDevices (withSlots w (x .slots)) (x .wrote .devices)) (x .wrote .refusal) (x .wrote .event)
 
 abbrev pub byStore : World → Stored → Out
 byStore w x = out (withDevices (withRegisters w (x .registers)) (x .wrote .devices)) (x .wrote .refusal)
@@ -74,17 +68,17 @@ byStore w x = out (withDevices (withRegisters w (x .registers)) (x .wrote .devic
 
 -- what a write does, by the word's port
 abbrev pub writtenAt : Port → World → Bool → ℕ → ℕ → ℕ → ℕ → Out
-writtenAt Select w full word old new part = byFlash w (selectWritten (w .registers .own) (w .devices .flash) (w .page)
+writtenAt Select w full word old new part = byFlash w (selectWritten (w .registers .slots) (w .devices .flash) (w .page)
     (w .ram) new)
-writtenAt Send w full word old new part = byFlash w (sendWritten (w .registers .own) (w .devices .flash) (w .page)
+writtenAt Send w full word old new part = byFlash w (sendWritten (w .registers .slots) (w .devices .flash) (w .page)
     (w .ram) new)
 writtenAt LcdControl w full word old new part =
     byPanel w (controlled (w .registers) (w .ram) (w .sram) (w .gpio) (screen (w .devices .panel) (w .fb)) new)
 writtenAt RtcCommand w full word old new part =
-    byRtc w (commandWritten (w .registers .own) (rtcOf (w .rtc) (w .devices .latch)) (w .devices .clocks .times .game)
+    byRtc w (commandWritten (w .registers .slots) (rtcOf (w .rtc) (w .devices .latch)) (w .devices .clocks .times .game)
     new)
 writtenAt (Acts e) w full word old new part =
-    byWord w (wordWritten e (w .registers .own) (w .devices) (clockIn (w .sram)) full word old new part)
+    byWord w (wordWritten e (w .registers .slots) (w .devices) (clockIn (w .sram)) full word old new part)
 writtenAt (Shows v) w full word old new part = byStore w (storedWord (w .registers) (w .devices) word new)
 writtenAt Holds w full word old new part = byStore w (storedWord (w .registers) (w .devices) word new)
 writtenAt Other w full word old new part = byStore w (storedWord (w .registers) (w .devices) word new)
@@ -102,14 +96,6 @@ regWritten w full a n v =
     (mergedOf (wordAt (w .registers) (wordAddress a)) a n v) (writtenOf a n v)
 
 -- ---- any address
-
--- what an access leaves of a memory: as it was, where its size is not 1, 2 or 4
-abbrev pub sizedPut : List ℕ → ℕ → ℕ → ℕ → List ℕ
-sizedPut m o n v = cond (goodSize n) (storedAt m o n v) m
-
--- and its number
-abbrev pub sizedNumber : ℕ → ℕ
-sizedNumber n = cond (goodSize n) DONE BAD-SIZE
 
 abbrev pub writeAt : Place → World → Bool → ℕ → ℕ → ℕ → Out
 writeAt (Ram o) w full a n v = outDone (withRam w (storedAt (w .ram) o n v))

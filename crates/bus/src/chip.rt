@@ -33,29 +33,29 @@ fn flash_xfer(page: &mut [u8; 256], ram: &[u8], chip: Chip, byte: u8) -> Chip
 }
 
 pub(crate) fn select_write(
-    own: &mut [u32; 76],
+    slots: &mut [u32; 76],
     page: &mut [u8; 256],
     ram: &mut [u8],
     chip: Chip,
     new: u32,
 ) -> Chip
-    ensures { λ r. ⌜ flashed (now (own .exit)) (chipped r (now (page .exit)) (now (ram .exit)))
-        ≡ selectWritten (now (own .entry)) chip (now (page .entry)) (now (ram .entry)) new ⌝ }
+    ensures { λ r. ⌜ flashed (now (slots .exit)) (chipped r (now (page .exit)) (now (ram .exit)))
+        ≡ selectWritten (now (slots .entry)) chip (now (page .entry)) (now (ram .entry)) new ⌝ }
 {
-    registers::own_insert(own, map::SPIFC_SELECT, new);
+    registers::own_insert(slots, map::SPIFC_SELECT, new);
     flash_select(page, ram, chip, new & 0x40 != 0)
 }
 
 pub(crate) fn send_write(
-    own: &mut [u32; 76],
+    slots: &mut [u32; 76],
     page: &mut [u8; 256],
     ram: &[u8],
     chip: Chip,
     new: u32,
 ) -> Chip
-    ensures { λ r. ⌜ flashed (now (own .exit)) (chipped r (now (page .exit)) (now (ram .entry)))
-        ≡ sendWritten (now (own .entry)) chip (now (page .entry)) (now (ram .entry)) new ⌝ }
+    ensures { λ r. ⌜ flashed (now (slots .exit)) (chipped r (now (page .exit)) (now (ram .entry)))
+        ≡ sendWritten (now (slots .entry)) chip (now (page .entry)) (now (ram .entry)) new ⌝ }
 {
-    registers::own_insert(own, map::SPIFC_SEND, new);
+    registers::own_insert(slots, map::SPIFC_SEND, new);
     flash_xfer(page, ram, chip, memory::low(new))
 }

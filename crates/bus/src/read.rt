@@ -2,6 +2,7 @@
 ghost use mathlib.Core.Path.{_≡_};
 ghost use Prim.Native.Nat.{_<_};
 ghost use lib.ListN.{getD};
+ghost use Rattle.map.specs.Numbers.{TIMER-COUNT, BAD-SIZE};
 ghost use Rattle.memory.specs.Bytes.{loaded};
 ghost use Rattle.registers.specs.Words.{registersOf};
 ghost use Rattle.registers.specs.Ports.{slotOf, slotWord, portAt};
@@ -9,7 +10,8 @@ ghost use Rattle.time.specs.Clocks.{clockIn};
 ghost use Rattle.state.specs.Bank.{partsIn};
 ghost use Rattle.bus.specs.Read.{statusOf, baseOf, dayRead, timerRead, counterRead, actingValue, viewOf};
 ghost use Rattle.bus.specs.Read.{wordRead};
-ghost use Rattle.bus.specs.Read.{otherValue, got, given, sizedGot, regRead, readOf};
+ghost use Rattle.bus.specs.Read.{got, given, regRead, readOf};
+ghost use Rattle.bus.specs.Inner.{otherValue, sizedGot};
 use crate::Got;
 use crate::words::field_of;
 use memory::Place;
@@ -20,11 +22,11 @@ use state::Cells;
 use state::Floats;
 use whole::forms::choose;
 
-fn clock_status(own: &[u32; 76]) -> u32
-    ensures { λ r. ⌜ r ≡ statusOf (now (own .entry)) ⌝ }
+fn clock_status(slots: &[u32; 76]) -> u32
+    ensures { λ r. ⌜ r ≡ statusOf (now (slots .entry)) ⌝ }
 {
     choose(
-        registers::own_reg(own, map::CLOCK_SWITCH) & 0x8000 != 0,
+        registers::own_reg(slots, map::CLOCK_SWITCH) & 0x8000 != 0,
         2,
         1,
     )
@@ -47,36 +49,36 @@ fn timer_read(cells: &Cells, floats: &Floats, n: usize, old: u32) -> u32
 
 // The control word of a timer.
 fn base_of(n: usize) -> u32
-    requires { ⌜ n < 6 ⌝ }
+    requires { ⌜ n < TIMER-COUNT ⌝ }
     ensures { λ r. ⌜ r ≡ baseOf n ⌝ }
 {
     map::TIMER_BASE + (n as u32) * map::TIMER_STEP
 }
 
 fn counter_read(
-    own: &[u32; 76],
+    slots: &[u32; 76],
     cells: &Cells,
     floats: &Floats,
     clock: u32,
     n: usize,
     old: u32,
 ) -> u32
-    requires { ⌜ n < 6 ⌝ }
-    ensures { λ r. ⌜ r ≡ counterRead (now (own .entry)) (partsIn (now (cells .entry))
+    requires { ⌜ n < TIMER-COUNT ⌝ }
+    ensures { λ r. ⌜ r ≡ counterRead (now (slots .entry)) (partsIn (now (cells .entry))
         (now (floats .entry)) .devices .clocks) clock n old ⌝ }
 {
     let t = state::moments::timer_of(cells, floats, n);
     let times = state::moments::times_of(floats);
     let base = base_of(n);
-    let control = registers::own_reg(own, base);
-    let reload = registers::own_reg(own, base + 8);
+    let control = registers::own_reg(slots, base);
+    let reload = registers::own_reg(slots, base + 8);
     timer::counter(t, times.now, clock, control, reload, old)
 }
 
 // What a word reads as that shows something else than what is stored, by its slot; old is what it holds. Reading the
 // answer of the second SPI clears three bits beside it.
 fn view_of(
-    own: &mut [u32; 76],
+    slots: &mut [u32; 76],
     cells: &Cells,
     floats: &Floats,
     sram: &[u8],
@@ -85,18 +87,18 @@ fn view_of(
     old: u32,
 ) -> u32
     requires { ⌜ (s < 76) × (portAt s ≡ Port.Shows view) ⌝ }
-    ensures { λ r. ⌜ given (now (own .exit)) r
-        ≡ viewOf view (now (own .entry)) (partsIn (now (cells .entry))
+    ensures { λ r. ⌜ given (now (slots .exit)) r
+        ≡ viewOf view (now (slots .entry)) (partsIn (now (cells .entry))
         (now (floats .entry)) .devices) (clockIn (now (sram .entry))) (slotWord s) old ⌝ }
 {
     match view {
         View::TimerCounter => {
             let clock = time::sysclk_var(sram);
-            return counter_read(own, cells, floats, clock, s / 8, old);
+            return counter_read(slots, cells, floats, clock, s / 8, old);
         }
         View::SpiAnswer => {
-            let c = registers::own_reg(own, map::SPI2_STATUS);
-            registers::own_insert(own, map::SPI2_STATUS, c & 0xFFFF_FFF8);
+            let c = registers::own_reg(slots, map::SPI2_STATUS);
+            registers::own_insert(slots, map::SPI2_STATUS, c & 0xFFFF_FFF8);
             return old;
         }
         View::RtcReady => {
@@ -113,10 +115,10 @@ fn view_of(
             return rx as u32;
         }
         View::ClockStatus => {
-            return clock_status(own);
+            return clock_status(slots);
         }
         View::Pending => {
-            return time::irq::pending_irq(own, cells);
+            return time::irq::pending_irq(slots, cells);
         }
         View::PendingFiq => {
             return 0;
@@ -159,20 +161,20 @@ fn acting_value(cells: &Cells, floats: &Floats, effect: Effect, s: usize, old: u
 }
 
 // What a word in its own storage reads as, before shifting.
-fn own_value(own: &mut [u32; 76], cells: &Cells, floats: &Floats, sram: &[u8], s: usize) -> u32
+fn own_value(slots: &mut [u32; 76], cells: &Cells, floats: &Floats, sram: &[u8], s: usize) -> u32
     requires { ⌜ s < 76 ⌝ }
-    ensures { λ r. ⌜ given (now (own .exit)) r
-        ≡ wordRead (now (own .entry)) (partsIn (now (cells .entry)) (now (floats .entry)) .devices)
-        (clockIn (now (sram .entry))) (slotWord s) (getD (now (own .entry)) s 0) ⌝ }
+    ensures { λ r. ⌜ given (now (slots .exit)) r
+        ≡ wordRead (now (slots .entry)) (partsIn (now (cells .entry)) (now (floats .entry)) .devices)
+        (clockIn (now (sram .entry))) (slotWord s) (getD (now (slots .entry)) s 0) ⌝ }
 {
-    let old = registers::slot_get(own, s);
+    let old = registers::slot_get(slots, s);
     let port = registers::port_at(s);
     match port {
         Port::Acts(effect) => {
             return acting_value(cells, floats, effect, s, old);
         }
         Port::Shows(view) => {
-            return view_of(own, cells, floats, sram, view, s, old);
+            return view_of(slots, cells, floats, sram, view, s, old);
         }
         Port::Select => {
             return old;
@@ -197,7 +199,7 @@ fn own_value(own: &mut [u32; 76], cells: &Cells, floats: &Floats, sram: &[u8], s
 
 // The same of a word that has none: a field of the time of day, or one of the others.
 fn other_value(
-    own: &[u32; 76],
+    slots: &[u32; 76],
     addresses: &[u32; 256],
     values: &[u32; 256],
     cells: &Cells,
@@ -206,18 +208,18 @@ fn other_value(
 ) -> u32
     requires { ⌜ slotOf word ≡ 76 ⌝ }
     ensures { λ r. ⌜ r
-        ≡ otherValue (registersOf (now (own .entry)) (now (addresses .entry)) (now (values .entry)))
+        ≡ otherValue (registersOf (now (slots .entry)) (now (addresses .entry)) (now (values .entry)))
         (partsIn (now (cells .entry)) (now (floats .entry)) .devices .clocks) word ⌝ }
 {
     if registers::day_word(word) {
         return tod_read(cells, floats, field_of(word));
     }
     let spot = registers::find_other(addresses, word);
-    registers::word_in(own, values, spot)
+    registers::word_in(slots, values, spot)
 }
 
 fn mmio_read(
-    own: &mut [u32; 76],
+    slots: &mut [u32; 76],
     addresses: &[u32; 256],
     values: &[u32; 256],
     cells: &Cells,
@@ -226,22 +228,22 @@ fn mmio_read(
     addr: u32,
     size: u32,
 ) -> u32
-    ensures { λ r. ⌜ given (now (own .exit)) r
-        ≡ regRead (registersOf (now (own .entry)) (now (addresses .entry)) (now (values .entry))) (now (sram .entry))
+    ensures { λ r. ⌜ given (now (slots .exit)) r
+        ≡ regRead (registersOf (now (slots .entry)) (now (addresses .entry)) (now (values .entry))) (now (sram .entry))
         (partsIn (now (cells .entry)) (now (floats .entry)) .devices) addr size ⌝ }
 {
     let word = addr - addr % 4;
     let s = registers::slot(word);
     if s < 76 {
-        let value = own_value(own, cells, floats, sram, s);
+        let value = own_value(slots, cells, floats, sram, s);
         return memory::cut(value, addr, size);
     }
-    let value = other_value(own, addresses, values, cells, floats, word);
+    let value = other_value(slots, addresses, values, cells, floats, word);
     memory::cut(value, addr, size)
 }
 
 fn bad_size() -> Got
-    ensures { λ r. ⌜ r ≡ record { refusal = 9; value = 0 } ⌝ }
+    ensures { λ r. ⌜ r ≡ record { refusal = BAD-SIZE; value = 0 } ⌝ }
 {
     Got {
         refusal: map::BAD_SIZE,
@@ -278,7 +280,7 @@ fn get(m: &[u8], at: usize, size: u32) -> Got
 }
 
 pub fn read(
-    own: &mut [u32; 76],
+    slots: &mut [u32; 76],
     addresses: &[u32; 256],
     values: &[u32; 256],
     cells: &Cells,
@@ -289,8 +291,8 @@ pub fn read(
     addr: u32,
     size: u32,
 ) -> Got
-    ensures { λ r. ⌜ got (now (own .exit)) r
-        ≡ readOf (registersOf (now (own .entry)) (now (addresses .entry)) (now (values .entry)))
+    ensures { λ r. ⌜ got (now (slots .exit)) r
+        ≡ readOf (registersOf (now (slots .entry)) (now (addresses .entry)) (now (values .entry)))
         (now (ram .entry)) (now (sram .entry)) (now (gpio .entry)) (partsIn (now (cells .entry))
         (now (floats .entry)) .devices) addr size ⌝ }
 {
@@ -309,7 +311,7 @@ pub fn read(
             if !memory::good_size(size) {
                 return bad_size();
             }
-            let value = mmio_read(own, addresses, values, cells, floats, sram, addr, size);
+            let value = mmio_read(slots, addresses, values, cells, floats, sram, addr, size);
             return Got {
                 refusal: map::DONE,
                 value,

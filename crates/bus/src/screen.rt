@@ -4,7 +4,7 @@ ghost use Rattle.registers.specs.Words.{registersOf};
 ghost use Rattle.panel.specs.Entries.{screen};
 ghost use Rattle.panel.specs.Runs.{byte, screenAfterInput};
 ghost use Rattle.state.specs.Bank.{panelIn};
-ghost use Rattle.bus.specs.Bank.{OnlyPanel};
+ghost use Rattle.bus.specs.Inner.{OnlyPanel};
 ghost use Rattle.bus.specs.Screen.{fedWord, copied, dmaDone, actResult, controlled};
 use state::Cells;
 
@@ -43,7 +43,7 @@ fn feed(cells: &mut Cells, fb: &mut [u8], one: bool, word: u32)
 
 // A whole frame from the address that was set, if one was.
 fn lcd_dma(
-    own: &mut [u32; 76],
+    slots: &mut [u32; 76],
     addresses: &[u32; 256],
     values: &[u32; 256],
     cells: &mut Cells,
@@ -52,19 +52,19 @@ fn lcd_dma(
     gpio: &[u8],
     fb: &mut [u8],
 )
-    ensures { λ _. ⌜ (copied (now (own .exit)) (screen (panelIn (now (cells .exit))) (now (fb .exit)))
-        ≡ dmaDone (registersOf (now (own .entry)) (now (addresses .entry)) (now (values .entry))) (now (ram .entry))
+    ensures { λ _. ⌜ (copied (now (slots .exit)) (screen (panelIn (now (cells .exit))) (now (fb .exit)))
+        ≡ dmaDone (registersOf (now (slots .entry)) (now (addresses .entry)) (now (values .entry))) (now (ram .entry))
         (now (sram .entry)) (now (gpio .entry))
         (screen (panelIn (now (cells .entry))) (now (fb .entry))))
         × OnlyPanel (now (cells .entry)) (now (cells .exit)) ⌝ }
 {
-    let addr = registers::own_reg(own, map::LCD_DMA);
+    let addr = registers::own_reg(slots, map::LCD_DMA);
     if addr == 0 {
         return;
     }
-    crate::block::read_block(own, addresses, values, ram, sram, gpio, addr, fb);
-    let status = registers::own_reg(own, map::LCD_STATUS);
-    registers::own_insert(own, map::LCD_STATUS, status | 0x40);
+    block::read_block(slots, addresses, values, ram, sram, gpio, addr, fb);
+    let status = registers::own_reg(slots, map::LCD_STATUS);
+    registers::own_insert(slots, map::LCD_STATUS, status | 0x40);
     let p = state::panels::panel_of(cells);
     let next = panel::lcd::count_frame(p);
     state::panels::put_panel(cells, next);
@@ -72,7 +72,7 @@ fn lcd_dma(
 
 // What a control word with bit 0 set asks for.
 fn act(
-    own: &mut [u32; 76],
+    slots: &mut [u32; 76],
     addresses: &[u32; 256],
     values: &[u32; 256],
     cells: &mut Cells,
@@ -82,13 +82,13 @@ fn act(
     fb: &mut [u8],
     val: u32,
 )
-    ensures { λ _. ⌜ (copied (now (own .exit)) (screen (panelIn (now (cells .exit))) (now (fb .exit)))
-        ≡ actResult (registersOf (now (own .entry)) (now (addresses .entry)) (now (values .entry))) (now (ram .entry))
+    ensures { λ _. ⌜ (copied (now (slots .exit)) (screen (panelIn (now (cells .exit))) (now (fb .exit)))
+        ≡ actResult (registersOf (now (slots .entry)) (now (addresses .entry)) (now (values .entry))) (now (ram .entry))
         (now (sram .entry)) (now (gpio .entry))
         (screen (panelIn (now (cells .entry))) (now (fb .entry))) val)
         × OnlyPanel (now (cells .entry)) (now (cells .exit)) ⌝ }
 {
-    let word = registers::own_reg(own, map::LCD_DATA);
+    let word = registers::own_reg(slots, map::LCD_DATA);
     let asked = val & 0xF0;
     match asked {
         0x80 => {
@@ -102,7 +102,7 @@ fn act(
             return;
         }
         0xD0 => {
-            lcd_dma(own, addresses, values, cells, ram, sram, gpio, fb);
+            lcd_dma(slots, addresses, values, cells, ram, sram, gpio, fb);
             return;
         }
         _ => {
@@ -113,7 +113,7 @@ fn act(
 
 // The control word is stored, acts if bit 0 is set, and then loses that bit.
 pub(crate) fn lcd_write_ctrl(
-    own: &mut [u32; 76],
+    slots: &mut [u32; 76],
     addresses: &[u32; 256],
     values: &[u32; 256],
     cells: &mut Cells,
@@ -123,16 +123,17 @@ pub(crate) fn lcd_write_ctrl(
     fb: &mut [u8],
     val: u32,
 )
-    ensures { λ _. ⌜ (copied (now (own .exit)) (screen (panelIn (now (cells .exit))) (now (fb .exit)))
-        ≡ controlled (registersOf (now (own .entry)) (now (addresses .entry)) (now (values .entry))) (now (ram .entry))
+    ensures { λ _. ⌜ (copied (now (slots .exit)) (screen (panelIn (now (cells .exit))) (now (fb .exit)))
+        ≡ controlled (registersOf (now (slots .entry)) (now (addresses .entry)) (now (values .entry)))
+        (now (ram .entry))
         (now (sram .entry)) (now (gpio .entry))
         (screen (panelIn (now (cells .entry))) (now (fb .entry))) val)
         × OnlyPanel (now (cells .entry)) (now (cells .exit)) ⌝ }
 {
-    registers::own_insert(own, map::LCD_CONTROL, val);
+    registers::own_insert(slots, map::LCD_CONTROL, val);
     if val & 1 == 0 {
         return;
     }
-    act(own, addresses, values, cells, ram, sram, gpio, fb, val);
-    registers::own_insert(own, map::LCD_CONTROL, val & 0xFFFF_FFFE);
+    act(slots, addresses, values, cells, ram, sram, gpio, fb, val);
+    registers::own_insert(slots, map::LCD_CONTROL, val & 0xFFFF_FFFE);
 }

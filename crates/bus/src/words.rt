@@ -8,7 +8,7 @@ ghost use Rattle.time.specs.Clocks.{clockIn};
 ghost use Rattle.state.specs.Bank.{partsIn};
 ghost use Rattle.state.specs.Packed.{StaysPacked};
 ghost use Rattle.state.specs.Parts.{devicesPut};
-ghost use Rattle.bus.specs.Bank.{Only, Rest, wroteOf, withoutEvent};
+ghost use Rattle.bus.specs.Inner.{Only, Rest, wroteOf, withoutEvent};
 ghost use Rattle.bus.specs.Words.{spiSent, adcWritten, daySet, poweredBy, wordWritten};
 ghost use Rattle.bus.specs.World.{ownOut, answer};
 use crate::WriteAnswer;
@@ -46,18 +46,18 @@ pub(crate) fn refused(refusal: u8) -> WriteAnswer
     }
 }
 
-fn spi_sent(own: &mut [u32; 76], new: u32)
-    ensures { λ _. ⌜ now (own .exit) ≡ spiSent (now (own .entry)) new ⌝ }
+fn spi_sent(slots: &mut [u32; 76], new: u32)
+    ensures { λ _. ⌜ now (slots .exit) ≡ spiSent (now (slots .entry)) new ⌝ }
 {
-    registers::own_insert(own, map::SPI2_SEND, new);
-    registers::own_insert(own, map::SPI2_ANSWER, 0);
-    let c = registers::own_reg(own, map::SPI2_STATUS);
-    registers::own_insert(own, map::SPI2_STATUS, c | 1);
+    registers::own_insert(slots, map::SPI2_SEND, new);
+    registers::own_insert(slots, map::SPI2_ANSWER, map::SPI2_IDLE);
+    let c = registers::own_reg(slots, map::SPI2_STATUS);
+    registers::own_insert(slots, map::SPI2_STATUS, c | 1);
 }
 
-fn adc_write(own: &mut [u32; 76], cells: &mut Cells, floats: &Floats, old: u32, new: u32)
-    ensures { λ _. ⌜ (ownOut (now (own .exit)) (answer 0 (partsIn (now (cells .exit)) (now (floats .entry)) .devices))
-        ≡ adcWritten (now (own .entry)) (partsIn (now (cells .entry)) (now (floats .entry)) .devices) old new)
+fn adc_write(slots: &mut [u32; 76], cells: &mut Cells, floats: &Floats, old: u32, new: u32)
+    ensures { λ _. ⌜ (ownOut (now (slots .exit)) (answer 0 (partsIn (now (cells .exit)) (now (floats .entry)) .devices))
+        ≡ adcWritten (now (slots .entry)) (partsIn (now (cells .entry)) (now (floats .entry)) .devices) old new)
         × Only (partsIn (now (cells .entry)) (now (floats .entry))) (partsIn (now (cells .exit))
         (now (floats .entry)))
         × StaysPacked (now (cells .entry)) (now (floats .entry)) (now (cells .exit)) (now (floats .entry)) ⌝ }
@@ -65,10 +65,10 @@ fn adc_write(own: &mut [u32; 76], cells: &mut Cells, floats: &Floats, old: u32, 
     let before = Adc {
         converting: state::moments::converting_of(cells),
         control: old,
-        result: registers::own_reg(own, map::ADC_RESULT),
+        result: registers::own_reg(slots, map::ADC_RESULT),
     };
     let after = clock::convert::adc_write_ctrl(before, new);
-    registers::own_insert(own, map::ADC_CONTROL, after.control);
+    registers::own_insert(slots, map::ADC_CONTROL, after.control);
     state::moments::put_converting(cells, after.converting);
 }
 
@@ -95,17 +95,17 @@ fn power(cells: &mut Cells, floats: &Floats, new: u32)
 }
 
 // A word is stored in its slot.
-pub(crate) fn store_word(own: &mut [u32; 76], s: usize, new: u32) -> WriteAnswer
-    ensures { λ r. ⌜ (now (own .exit) ≡ set (now (own .entry)) s new) × (r ≡ withoutEvent 0) ⌝ }
+pub(crate) fn store_word(slots: &mut [u32; 76], s: usize, new: u32) -> WriteAnswer
+    ensures { λ r. ⌜ (now (slots .exit) ≡ set (now (slots .entry)) s new) × (r ≡ withoutEvent 0) ⌝ }
 {
-    registers::slot_set(own, s, new);
+    registers::slot_set(slots, s, new);
     accepted()
 }
 
 // A word that acts and reaches no memory and no array but its own, by its slot: old is what it holds, new the merged
 // word, part the bits that were written.
 pub(crate) fn word_write(
-    own: &mut [u32; 76],
+    slots: &mut [u32; 76],
     cells: &mut Cells,
     floats: &mut Floats,
     sram: &[u8],
@@ -117,15 +117,15 @@ pub(crate) fn word_write(
     part: u32,
 ) -> WriteAnswer
     requires { ⌜ (s < 76) × (portAt s ≡ Port.Acts effect) ⌝ }
-    ensures { λ r. ⌜ (ownOut (now (own .exit)) (wroteOf r (partsIn (now (cells .exit)) (now (floats .exit)) .devices))
-        ≡ wordWritten effect (now (own .entry)) (partsIn (now (cells .entry))
+    ensures { λ r. ⌜ (ownOut (now (slots .exit)) (wroteOf r (partsIn (now (cells .exit)) (now (floats .exit)) .devices))
+        ≡ wordWritten effect (now (slots .entry)) (partsIn (now (cells .entry))
         (now (floats .entry)) .devices) (clockIn (now (sram .entry))) full (slotWord s) old new part)
         × Rest r (now (cells .entry)) (now (floats .entry)) (now (cells .exit)) (now (floats .exit)) ⌝ }
 {
     match effect {
         Effect::TimerControl => {
             let clock = time::sysclk_var(sram);
-            return timer_write_ctrl(own, cells, floats, clock, full, s, old, new);
+            return timer_write_ctrl(slots, cells, floats, clock, full, s, old, new);
         }
         // The time of day has no slot.
         Effect::DayField => {
@@ -133,24 +133,24 @@ pub(crate) fn word_write(
         }
         Effect::Sound => {
             let clock = time::sysclk_var(sram);
-            return sound_write(own, cells, floats, clock, full, s, new);
+            return sound_write(slots, cells, floats, clock, full, s, new);
         }
         Effect::LcdStatus => {
-            return store_word(own, s, old & (new ^ 0xFFFF_FFFF));
+            return store_word(slots, s, old & (new ^ 0xFFFF_FFFF));
         }
         Effect::Tick => {
-            return store_word(own, s, old & (part ^ 0xFFFF_FFFF));
+            return store_word(slots, s, old & (part ^ 0xFFFF_FFFF));
         }
         Effect::AdcControl => {
-            adc_write(own, cells, floats, old, new);
+            adc_write(slots, cells, floats, old, new);
             return accepted();
         }
         Effect::Power => {
             power(cells, floats, new);
-            return store_word(own, s, new);
+            return store_word(slots, s, new);
         }
         Effect::SpiSend => {
-            spi_sent(own, new);
+            spi_sent(slots, new);
             return accepted();
         }
     }

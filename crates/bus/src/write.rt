@@ -9,9 +9,11 @@ ghost use Rattle.timer.specs.Events.{queueOf};
 ghost use Rattle.state.specs.Bank.{partsIn};
 ghost use Rattle.state.specs.Packed.{StaysPacked, Answered};
 ghost use Rattle.state.specs.Parts.{ringPut};
-ghost use Rattle.bus.specs.Bank.{Rest, worldOf, wroteOf, withoutEvent, outOf};
+ghost use Rattle.bus.specs.Bank.{worldOf, outOf};
+ghost use Rattle.bus.specs.Inner.{Rest, wroteOf, withoutEvent};
 ghost use Rattle.bus.specs.Sounds.{noted};
-ghost use Rattle.bus.specs.Write.{stored, otherWritten, portWritten, regWritten, sizedPut, sizedNumber};
+ghost use Rattle.bus.specs.Write.{stored, portWritten, regWritten};
+ghost use Rattle.bus.specs.Inner.{otherWritten, sizedPut, sizedNumber};
 ghost use Rattle.bus.specs.Write.{writeOf, together, notedWrite};
 use crate::WriteAnswer;
 use crate::words::accepted;
@@ -31,7 +33,7 @@ use timer::Event;
 // A word in its own storage is written, by its slot: old is what it holds, new the merged word, part the bits that were
 // written.
 fn own_write(
-    own: &mut [u32; 76],
+    slots: &mut [u32; 76],
     addresses: &mut [u32; 256],
     values: &mut [u32; 256],
     rtc: &mut [u8; 256],
@@ -49,11 +51,11 @@ fn own_write(
     part: u32,
 ) -> WriteAnswer
     requires { ⌜ s < 76 ⌝ }
-    ensures { λ r. ⌜ (outOf (worldOf (now (own .exit)) (now (addresses .exit)) (now (values .exit))
+    ensures { λ r. ⌜ (outOf (worldOf (now (slots .exit)) (now (addresses .exit)) (now (values .exit))
         (now (rtc .exit)) (now (page .exit))
         (now (ram .exit)) (now (sram .entry)) (now (gpio .entry)) (now (fb .exit)) (partsIn (now (cells .exit))
         (now (floats .exit)))) r
-        ≡ portWritten (worldOf (now (own .entry)) (now (addresses .entry)) (now (values .entry)) (now (rtc .entry))
+        ≡ portWritten (worldOf (now (slots .entry)) (now (addresses .entry)) (now (values .entry)) (now (rtc .entry))
         (now (page .entry))
         (now (ram .entry)) (now (sram .entry)) (now (gpio .entry)) (now (fb .entry)) (partsIn (now (cells .entry))
         (now (floats .entry))))
@@ -64,38 +66,48 @@ fn own_write(
     match port {
         Port::Select => {
             let chip = state::chips::chip_of(cells);
-            let next = crate::chip::select_write(own, page, ram, chip, new);
+            let next = crate::chip::select_write(slots, page, ram, chip, new);
             state::chips::put_chip(cells, next);
             return accepted();
         }
         Port::Send => {
             let chip = state::chips::chip_of(cells);
-            let next = crate::chip::send_write(own, page, ram, chip, new);
+            let next = crate::chip::send_write(slots, page, ram, chip, new);
             state::chips::put_sent(cells, next.rx, next.tx);
             return accepted();
         }
         Port::LcdControl => {
-            crate::screen::lcd_write_ctrl(own, addresses, values, cells, ram, sram, gpio, fb, new);
+            crate::screen::lcd_write_ctrl(
+                slots,
+                addresses,
+                values,
+                cells,
+                ram,
+                sram,
+                gpio,
+                fb,
+                new,
+            );
             return accepted();
         }
         Port::RtcCommand => {
             let times = state::moments::times_of(floats);
             let latch = state::rests::latch_of(cells, floats);
-            let next = crate::rtc::command_write(own, rtc, latch, times.game, new);
+            let next = crate::rtc::command_write(slots, rtc, latch, times.game, new);
             state::rests::put_latch(cells, floats, next);
             return accepted();
         }
         Port::Acts(effect) => {
-            return word_write(own, cells, floats, sram, full, effect, s, old, new, part);
+            return word_write(slots, cells, floats, sram, full, effect, s, old, new, part);
         }
         Port::Shows(_) => {
-            return store_word(own, s, new);
+            return store_word(slots, s, new);
         }
         Port::Holds => {
-            return store_word(own, s, new);
+            return store_word(slots, s, new);
         }
         Port::Other => {
-            return store_word(own, s, new);
+            return store_word(slots, s, new);
         }
     }
 }
@@ -112,7 +124,7 @@ fn answer(refusal: Refusal) -> WriteAnswer
 
 // A word that has no storage of its own is written: a field of the time of day, or one of the others.
 fn other_write(
-    own: &[u32; 76],
+    slots: &[u32; 76],
     addresses: &mut [u32; 256],
     values: &mut [u32; 256],
     cells: &mut Cells,
@@ -123,11 +135,11 @@ fn other_write(
     value: u32,
 ) -> WriteAnswer
     requires { ⌜ slotOf word ≡ 76 ⌝ }
-    ensures { λ r. ⌜ (stored (registersOf (now (own .entry)) (now (addresses .exit)) (now (values .exit)))
+    ensures { λ r. ⌜ (stored (registersOf (now (slots .entry)) (now (addresses .exit)) (now (values .exit)))
         (wroteOf r (partsIn (now (cells .exit)) (now (floats .exit)) .devices))
-        ≡ otherWritten (registersOf (now (own .entry)) (now (addresses .entry)) (now (values .entry)))
+        ≡ otherWritten (registersOf (now (slots .entry)) (now (addresses .entry)) (now (values .entry)))
         (partsIn (now (cells .entry)) (now (floats .entry)) .devices) word
-        (mergedOf (wordAt (registersOf (now (own .entry)) (now (addresses .entry)) (now (values .entry))) word)
+        (mergedOf (wordAt (registersOf (now (slots .entry)) (now (addresses .entry)) (now (values .entry))) word)
         addr size value))
         × Rest r (now (cells .entry)) (now (floats .entry)) (now (cells .exit)) (now (floats .exit)) ⌝ }
 {
@@ -148,9 +160,9 @@ fn other_write(
         Spot::Never => {
             return accepted();
         }
-        Spot::Held(i) => {
+        Spot::Present(i) => {
             let old = registers::place_get(values, i);
-            registers::put_held(addresses, values, i, memory::merged(old, addr, size, value));
+            registers::put_present(addresses, values, i, memory::merged(old, addr, size, value));
             return accepted();
         }
         Spot::Absent(i) => {
@@ -162,7 +174,7 @@ fn other_write(
 }
 
 fn mmio_write(
-    own: &mut [u32; 76],
+    slots: &mut [u32; 76],
     addresses: &mut [u32; 256],
     values: &mut [u32; 256],
     rtc: &mut [u8; 256],
@@ -178,11 +190,11 @@ fn mmio_write(
     size: u32,
     value: u32,
 ) -> WriteAnswer
-    ensures { λ r. ⌜ (outOf (worldOf (now (own .exit)) (now (addresses .exit)) (now (values .exit))
+    ensures { λ r. ⌜ (outOf (worldOf (now (slots .exit)) (now (addresses .exit)) (now (values .exit))
         (now (rtc .exit)) (now (page .exit))
         (now (ram .exit)) (now (sram .entry)) (now (gpio .entry)) (now (fb .exit)) (partsIn (now (cells .exit))
         (now (floats .exit)))) r
-        ≡ regWritten (worldOf (now (own .entry)) (now (addresses .entry)) (now (values .entry)) (now (rtc .entry))
+        ≡ regWritten (worldOf (now (slots .entry)) (now (addresses .entry)) (now (values .entry)) (now (rtc .entry))
         (now (page .entry))
         (now (ram .entry)) (now (sram .entry)) (now (gpio .entry)) (now (fb .entry)) (partsIn (now (cells .entry))
         (now (floats .entry))))
@@ -192,11 +204,11 @@ fn mmio_write(
     let word = addr - addr % 4;
     let s = registers::slot(word);
     if s < 76 {
-        let old = registers::slot_get(own, s);
+        let old = registers::slot_get(slots, s);
         let new = memory::merged(old, addr, size, value);
         let part = memory::written(addr, size, value);
         return own_write(
-            own,
+            slots,
             addresses,
             values,
             rtc,
@@ -215,7 +227,7 @@ fn mmio_write(
         );
     }
     other_write(
-        own,
+        slots,
         addresses,
         values,
         cells,
@@ -252,7 +264,7 @@ fn put(m: &mut [u8], at: usize, size: u32, value: u32) -> WriteAnswer
 
 // A write to any address. `full` says that 256 sound events wait.
 fn slow_write(
-    own: &mut [u32; 76],
+    slots: &mut [u32; 76],
     addresses: &mut [u32; 256],
     values: &mut [u32; 256],
     rtc: &mut [u8; 256],
@@ -268,11 +280,11 @@ fn slow_write(
     size: u32,
     value: u32,
 ) -> WriteAnswer
-    ensures { λ r. ⌜ (outOf (worldOf (now (own .exit)) (now (addresses .exit)) (now (values .exit))
+    ensures { λ r. ⌜ (outOf (worldOf (now (slots .exit)) (now (addresses .exit)) (now (values .exit))
         (now (rtc .exit)) (now (page .exit))
         (now (ram .exit)) (now (sram .exit)) (now (gpio .exit)) (now (fb .exit)) (partsIn (now (cells .exit))
         (now (floats .exit)))) r
-        ≡ writeOf (worldOf (now (own .entry)) (now (addresses .entry)) (now (values .entry)) (now (rtc .entry))
+        ≡ writeOf (worldOf (now (slots .entry)) (now (addresses .entry)) (now (values .entry)) (now (rtc .entry))
         (now (page .entry))
         (now (ram .entry)) (now (sram .entry)) (now (gpio .entry)) (now (fb .entry)) (partsIn (now (cells .entry))
         (now (floats .entry))))
@@ -295,7 +307,7 @@ fn slow_write(
                 return refused(map::BAD_SIZE);
             }
             return mmio_write(
-                own,
+                slots,
                 addresses,
                 values,
                 rtc,
@@ -323,16 +335,16 @@ fn slow_write(
 
 // The event of a change: from the time on, the tone that the bank has.
 fn note(
-    at: &mut [f64; 256],
+    onsets: &mut [f64; 256],
     frequencies: &mut [f64; 256],
     duties: &mut [f64; 256],
     cells: &mut Cells,
     floats: &Floats,
     event: bool,
 )
-    ensures { λ _. ⌜ (queueOf (now (at .exit)) (now (frequencies .exit)) (now (duties .exit))
+    ensures { λ _. ⌜ (queueOf (now (onsets .exit)) (now (frequencies .exit)) (now (duties .exit))
         (partsIn (now (cells .exit)) (now (floats .entry)) .ring)
-        ≡ noted (queueOf (now (at .entry)) (now (frequencies .entry)) (now (duties .entry))
+        ≡ noted (queueOf (now (onsets .entry)) (now (frequencies .entry)) (now (duties .entry))
         (partsIn (now (cells .entry)) (now (floats .entry)) .ring))
         (partsIn (now (cells .entry)) (now (floats .entry)) .devices) event)
         × (partsIn (now (cells .exit)) (now (floats .entry))
@@ -346,7 +358,7 @@ fn note(
         let times = state::moments::times_of(floats);
         let tone = state::rests::tone_of(floats);
         let added = timer::events::put_in(
-            at,
+            onsets,
             frequencies,
             duties,
             ring,
@@ -363,12 +375,12 @@ fn note(
 // A write on the bus: the one function that every accepted write passes through, so that what later requests keep of
 // writes has one place. The event that a write makes is put into the sound queue.
 pub fn write(
-    own: &mut [u32; 76],
+    slots: &mut [u32; 76],
     addresses: &mut [u32; 256],
     values: &mut [u32; 256],
     rtc: &mut [u8; 256],
     page: &mut [u8; 256],
-    at: &mut [f64; 256],
+    onsets: &mut [f64; 256],
     frequencies: &mut [f64; 256],
     duties: &mut [f64; 256],
     cells: &mut Cells,
@@ -382,18 +394,18 @@ pub fn write(
     value: u32,
 ) -> WriteAnswer
     ensures { λ r. ⌜ (together
-        (outOf (worldOf (now (own .exit)) (now (addresses .exit)) (now (values .exit)) (now (rtc .exit))
+        (outOf (worldOf (now (slots .exit)) (now (addresses .exit)) (now (values .exit)) (now (rtc .exit))
         (now (page .exit))
         (now (ram .exit)) (now (sram .exit)) (now (gpio .exit)) (now (fb .exit)) (partsIn (now (cells .exit))
         (now (floats .exit)))) r)
-        (queueOf (now (at .exit)) (now (frequencies .exit)) (now (duties .exit))
+        (queueOf (now (onsets .exit)) (now (frequencies .exit)) (now (duties .exit))
         (partsIn (now (cells .exit)) (now (floats .exit)) .ring))
         ≡ notedWrite
-        (worldOf (now (own .entry)) (now (addresses .entry)) (now (values .entry)) (now (rtc .entry))
+        (worldOf (now (slots .entry)) (now (addresses .entry)) (now (values .entry)) (now (rtc .entry))
         (now (page .entry))
         (now (ram .entry)) (now (sram .entry)) (now (gpio .entry)) (now (fb .entry)) (partsIn (now (cells .entry))
         (now (floats .entry))))
-        (queueOf (now (at .entry)) (now (frequencies .entry)) (now (duties .entry))
+        (queueOf (now (onsets .entry)) (now (frequencies .entry)) (now (duties .entry))
         (partsIn (now (cells .entry)) (now (floats .entry)) .ring))
         addr size value)
         × (partsIn (now (cells .exit)) (now (floats .exit)) .keys
@@ -402,8 +414,8 @@ pub fn write(
 {
     let ring = state::rests::ring_of(cells);
     let full = timer::events::full(ring);
-    let told = slow_write(
-        own,
+    let answer = slow_write(
+        slots,
         addresses,
         values,
         rtc,
@@ -419,6 +431,6 @@ pub fn write(
         size,
         value,
     );
-    note(at, frequencies, duties, cells, floats, told.event);
-    told
+    note(onsets, frequencies, duties, cells, floats, answer.event);
+    answer
 }

@@ -3,6 +3,7 @@ use mathlib.Core.Bool.{Bool, false, cond, _&&_, _||_}
 use Prim.Native.Nat.{ℕ}
 use lib.Bits.{bitAnd, bitOr}
 use lib.Dec.{eqb}
+use Rattle.map.specs.Numbers.{ADC-BATTERY}
 use Rattle.whole.specs.Words.{has, lacks}
 use Rattle.clock.specs.declared.Adc.{Adc}
 
@@ -23,10 +24,10 @@ writtenOf adc new = record {
   result = adc .result;
 }
 
--- its result is 0xC000, the battery's
+-- its result is the battery's
 unfoldable pub convertedOf : Adc → Adc
 convertedOf adc = cond (adc .converting)
-    (record { converting = false; control = bitOr (adc .control) 0x8080; result = 0xC000 }) adc
+    (record { converting = false; control = bitOr (adc .control) 0x8080; result = ADC-BATTERY }) adc
 
 abbrev pub lineOf : ℕ → Bool
 lineOf control = eqb (bitAnd control 0x8040) 0x8040

@@ -4,6 +4,7 @@ use Prim.Native.Nat.{ℕ}
 use lib.Bits.{bitOr}
 use lib.Dec.{ltb}
 use lib.Ieee.{Float, binary64, ofBits, mul, div, toUnsigned}
+use Rattle.map.specs.Numbers.{RTC-TICK-BIT}
 use Rattle.clock.specs.declared.RtcIrq.{RtcIrq}
 use Rattle.clock.specs.declared.Signal.{Signal}
 use Rattle.clock.specs.declared.Ticked.{Ticked}
@@ -21,7 +22,7 @@ vsyncOf last now status = signalOf (toUnsigned 64 (mul binary64 now (ofBits bina
 -- (game / 1.0) as u64
 abbrev pub tickOf : ℕ → Float → ℕ → Signal
 tickOf fired game status = signalOf (toUnsigned 64 (div binary64 game (ofBits binary64 0x3FF0_0000_0000_0000))) fired
-    status 2
+    status RTC-TICK-BIT
 
 abbrev pub tickedOf : RtcIrq → Float → ℕ → Ticked
 tickedOf irq game status = record {

@@ -41,7 +41,7 @@ pub fn adc_advance(adc: Adc) -> Adc
         return Adc {
             converting: false,
             control: adc.control | 0x8080,
-            result: 0xC000,
+            result: map::ADC_BATTERY,
         };
     }
     adc

@@ -29,7 +29,12 @@ pub fn vsync(last: u64, now: f64, status: u32) -> Signal
 pub fn rtc_irq_advance(irq: RtcIrq, game: f64, status: u32) -> Ticked
     ensures { λ r. ⌜ r ≡ tickedOf irq game status ⌝ }
 {
-    let s = signal(whole::whole(game / 1.0), irq.fired, status, 2);
+    let s = signal(
+        whole::whole(game / 1.0),
+        irq.fired,
+        status,
+        map::RTC_TICK_BIT,
+    );
     Ticked {
         irq: RtcIrq {
             fired: s.seen,

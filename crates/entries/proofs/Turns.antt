@@ -27,8 +27,9 @@ use Rattle.system.specs.Steps as steps
 use Rattle.system.specs.Steps.{Op, step, withSystem, byChange}
 use Rattle.entries.specs.declared.Entry.{Entry}
 use Rattle.entries.specs.declared.Answer.{Answer}
-use Rattle.entries.specs.Answers.{laid, laidWithin, reply, inBits, replyOf, soundReply, countersReply}
-use Rattle.entries.specs.Answers.{colourReply}
+use Rattle.entries.specs.Answers.{laid, laidWithin, reply, inBits, replyOf}
+use Rattle.entries.specs.Inner.{soundReply, countersReply}
+use Rattle.entries.specs.Inner.{colourReply}
 use Rattle.entries.specs.Turn.{lastKind, kindIn, Turn, turn, turnOf, opOf, runState, afterEntry, afterStep}
 
 pub no-bits : bitsOf nought ≡ 0

@@ -1,15 +1,12 @@
 -- What an entry answers, and where it stands in the output: a refusal u8 and three u64.
-use Prim.Native.Nat.{ℕ, _+_, _*_, _/_, _%_, _^_}
+use Prim.Native.Nat.{ℕ, _+_, _/_, _%_, _^_}
 use mathlib.Core.Bool.{Bool, cond, _||_}
 use mathlib.Core.List.{List, [], _∷_}
 use lib.Dec.{eqb, leb}
 use lib.ListN.{length}
 use Rattle.map.specs.Numbers.{ANSWER-BYTES, NEXT, SOUND}
-use Rattle.whole.specs.Forms.{bitsOf, bit}
-use Rattle.panel.specs.declared.Colours.{Colours}
-use Rattle.timer.specs.declared.Event.{Event}
+use Rattle.whole.specs.Forms.{bitsOf}
 use Rattle.memory.specs.Bytes.{storedAt}
-use Rattle.state.specs.declared.Devices.{Devices}
 use Rattle.system.specs.Steps.{Outcome}
 use Rattle.entries.specs.declared.Answer.{Answer}
 
@@ -24,20 +21,6 @@ unfoldable pub replyOf : Bool → Outcome → Answer
 replyOf bits o =
     cond bits (reply (o .refusal) (bitsOf (o .x)) (bitsOf (o .y)) (bitsOf (o .z)))
     (reply (o .refusal) (o .a) (o .b) (o .c))
-
--- ---- the answers of some kinds
-
--- 9: the bits of a sound event
-abbrev pub soundReply : ℕ → Event → Answer
-soundReply n e = reply n (bitsOf (e .time)) (bitsOf (e .frequency)) (bitsOf (e .duty))
-
--- 10: frames, flash writes, 1 if powered off
-abbrev pub countersReply : Devices → Answer
-countersReply d = reply 0 (d .panel .pen .frames) (d .flash .writes) (bit (d .off))
-
--- 11: r * 65536 + g * 256 + b
-abbrev pub colourReply : Colours → Answer
-colourReply c = reply 0 (c .r * 65536 + c .g * 256 + c .b) 0 0
 
 -- ---- in the output
 

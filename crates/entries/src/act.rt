@@ -4,7 +4,7 @@ ghost use mathlib.Core.List.{List};
 ghost use lib.Ieee.{Float};
 ghost use Rattle.state.specs.Bank.{devicesIn, partsIn};
 ghost use Rattle.system.specs.Bank.{machineOf};
-ghost use Rattle.entries.specs.Answers.{soundReply, countersReply, colourReply};
+ghost use Rattle.entries.specs.Inner.{soundReply, countersReply, colourReply};
 ghost use Rattle.entries.specs.Turn.{runState, afterStep};
 use crate::Answer;
 use crate::Entry;
@@ -50,15 +50,15 @@ fn colour(c: Colours) -> Answer
 // stored as it is, and no arm hands four numbers on. The kinds are patterns, so here and nowhere else they are spelled
 // as numbers.
 pub fn act(
-    own: &mut [u32; 76],
+    slots: &mut [u32; 76],
     addresses: &mut [u32; 256],
     values: &mut [u32; 256],
     rtc: &mut [u8; 256],
     page: &mut [u8; 256],
-    at: &mut [f64; 256],
+    onsets: &mut [f64; 256],
     frequencies: &mut [f64; 256],
     duties: &mut [f64; 256],
-    times: &mut [f64; 64],
+    starts: &mut [f64; 64],
     codes: &mut [u8; 64],
     cells: &mut Cells,
     floats: &mut Floats,
@@ -71,15 +71,16 @@ pub fn act(
     to: usize,
 )
     ensures { λ _. ⌜ runState
-        (machineOf (now (own .exit)) (now (addresses .exit)) (now (values .exit)) (now (rtc .exit)) (now (page .exit))
-        (now (at .exit)) (now (frequencies .exit)) (now (duties .exit)) (now (times .exit)) (now (codes .exit))
+        (machineOf (now (slots .exit)) (now (addresses .exit)) (now (values .exit)) (now (rtc .exit)) (now (page .exit))
+        (now (onsets .exit)) (now (frequencies .exit)) (now (duties .exit)) (now (starts .exit)) (now (codes .exit))
         (partsIn (now (cells .exit)) (now (floats .exit)))
         (now (ram .exit)) (now (sram .exit)) (now (gpio .exit)) (now (fb .exit))) (now (out .exit))
         ≡ afterStep
         (runState
-        (machineOf (now (own .entry)) (now (addresses .entry)) (now (values .entry)) (now (rtc .entry))
+        (machineOf (now (slots .entry)) (now (addresses .entry)) (now (values .entry)) (now (rtc .entry))
         (now (page .entry))
-        (now (at .entry)) (now (frequencies .entry)) (now (duties .entry)) (now (times .entry)) (now (codes .entry))
+        (now (onsets .entry)) (now (frequencies .entry)) (now (duties .entry)) (now (starts .entry))
+        (now (codes .entry))
         (partsIn (now (cells .entry)) (now (floats .entry)))
         (now (ram .entry)) (now (sram .entry)) (now (gpio .entry)) (now (fb .entry))) (now (out .entry)))
         to e ⌝ }
@@ -88,7 +89,7 @@ pub fn act(
     match kind {
         1 => {
             let got = bus::read::read(
-                own,
+                slots,
                 addresses,
                 values,
                 cells,
@@ -103,12 +104,12 @@ pub fn act(
         }
         2 => {
             let written = bus::write::write(
-                own,
+                slots,
                 addresses,
                 values,
                 rtc,
                 page,
-                at,
+                onsets,
                 frequencies,
                 duties,
                 cells,
@@ -125,23 +126,23 @@ pub fn act(
         }
         3 => {
             let n = time::advancing::advance_bits(
-                own,
+                slots,
                 cells,
                 floats,
                 sram,
                 gpio,
-                times,
+                starts,
                 codes,
                 e.value,
             );
             lay(out, to, refused(n));
         }
         4 => {
-            let next = time::next::next_event(own, cells, floats, sram, times);
+            let next = time::next::next_event(slots, cells, floats, sram, starts);
             lay(out, to, numbers(next.refusal, bits_of(next.time), 0, 0));
         }
         5 => {
-            let n = time::irq::pending_irq(own, cells);
+            let n = time::irq::pending_irq(slots, cells);
             lay(out, to, numbers(map::DONE, n as u64, 0, 0));
         }
         6 => {
@@ -157,7 +158,7 @@ pub fn act(
             lay(out, to, refused(n));
         }
         9 => {
-            let waited = time::tones::take_event(at, frequencies, duties, cells);
+            let waited = time::tones::take_event(onsets, frequencies, duties, cells);
             lay(out, to, sound(waited));
         }
         10 => {
@@ -169,15 +170,15 @@ pub fn act(
         }
         12 => {
             system::wipe::wipe_all(
-                own,
+                slots,
                 addresses,
                 values,
                 rtc,
                 page,
-                at,
+                onsets,
                 frequencies,
                 duties,
-                times,
+                starts,
                 codes,
                 cells,
                 floats,

@@ -4,7 +4,7 @@ use mathlib.Core.Bool.{Bool, true, false}
 use mathlib.Core.Path.{_≡_}
 use mathlib.Core.List.{List}
 use lib.Dec.{eqb}
-use Rattle.map.specs.Numbers.{DONE, BAD-MEMORY}
+use Rattle.map.specs.Numbers.{FLASH-SIZE, DONE, BAD-MEMORY}
 use Rattle.flash.specs.Pick.{either}
 use Rattle.flash.specs.declared.Mode.{Mode}
 use Rattle.flash.specs.declared.Mode.the-variants.{Rust, Strict}
@@ -85,7 +85,7 @@ pub record Power (n : ℕ) : Type 0 where
 pub record Sized (n : ℕ) : Type 0 where
   pub whole : n % 0x1_0000 ≡ 0
   pub least : 0x1_0000 ≤ n
-  pub most : n ≤ 0x80_0000
+  pub most : n ≤ FLASH-SIZE
 
 abbrev pub isStrict : Mode → Bool
 isStrict Rust = false
@@ -97,10 +97,3 @@ refusedOutcome w = record { refusal = BAD-MEMORY; answer = 0; board = w }
 
 abbrev pub acceptedOutcome : ℕ → Board → Outcome
 acceptedOutcome a w = record { refusal = DONE; answer = a; board = w }
-
--- the struct that a step answers with
-abbrev pub refusing : Chip → Reply
-refusing s = record { refusal = BadMemory; answer = 0; chip = s }
-
-abbrev pub giving : ℕ → Chip → Reply
-giving a s = record { refusal = Done; answer = a; chip = s }

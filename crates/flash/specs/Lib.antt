@@ -13,3 +13,4 @@ pub mod Sheet
 pub mod Departures
 pub mod Session
 pub mod Strict
+pub mod Inner

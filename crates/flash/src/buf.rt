@@ -2,6 +2,7 @@
 ghost use mathlib.Core.Path.{_≡_};
 ghost use Prim.Native.Nat.{_+_, _≤_, _<_};
 ghost use lib.Dec.{leb};
+ghost use Rattle.map.specs.Numbers.{FLASH-SIZE};
 ghost use Rattle.flash.specs.Pick.{pick, either};
 ghost use Rattle.flash.specs.Buf.{fresh, blank, nextPos, gathered, pushed, addrOf};
 use crate::Trans;
@@ -33,7 +34,7 @@ pub(crate) fn clear(page: &mut [u8; 256])
 }
 
 fn next(pos: usize, n: usize) -> usize
-    requires { ⌜ n ≤ 0x80_0000 ⌝ }
+    requires { ⌜ n ≤ FLASH-SIZE ⌝ }
     ensures { λ r. ⌜ r ≡ nextPos n pos ⌝ }
 {
     if 4 + n <= pos { 5 } else { pos + 1 }
@@ -66,7 +67,7 @@ fn byte_if(here: bool, byte: u8, old: u8) -> u8
 
 // Four choices without a branch: a match on the position would branch at every byte that is sent.
 pub(crate) fn push(t: Trans, n: usize, byte: u8) -> Trans
-    requires { ⌜ n ≤ 0x80_0000 ⌝ }
+    requires { ⌜ n ≤ FLASH-SIZE ⌝ }
     ensures { λ r. ⌜ r ≡ pushed t n byte ⌝ }
 {
     let pos = t.pos;

@@ -8,7 +8,8 @@ mod finish;
 mod xfer;
 
 ghost use mathlib.Core.Path.{_≡_};
-ghost use Rattle.flash.specs.Board.{board, outcome, served, chipWithPage, withCs, goodSize, refusing, giving};
+ghost use Rattle.flash.specs.Board.{board, outcome, served, chipWithPage, withCs, goodSize};
+ghost use Rattle.flash.specs.Inner.{refusing, giving};
 ghost use Rattle.flash.specs.Flash.{begun, selected, transferred, madeIn};
 
 // Whose rules hold: document 000's alone, or also those that are named for strict mode.

@@ -2,6 +2,7 @@
 ghost use mathlib.Core.Path.{_≡_};
 ghost use Prim.Native.Nat.{_≤_, _<_};
 ghost use lib.ListN.{length};
+ghost use Rattle.map.specs.Numbers.{FLASH-SIZE};
 ghost use Rattle.flash.specs.Board.{isStrict};
 ghost use Rattle.flash.specs.Xfer.{jedec, makerOf, readOf, kindOf, replyTo, answerOf};
 use crate::Chip;
@@ -52,7 +53,7 @@ fn maker(mode: Mode, a3: u8, i: usize) -> u8
 // The byte that is so far on from the address, going round.
 fn read(t: Trans, far: usize, array: &[u8]) -> u8
     requires { ⌜ 0 < length (now array) ⌝ }
-    requires { ⌜ length (now array) ≤ 0x80_0000 ⌝ }
+    requires { ⌜ length (now array) ≤ FLASH-SIZE ⌝ }
     ensures { λ r. ⌜ r ≡ readOf t far (now (array .entry)) ⌝ }
 {
     let n = array.len();
@@ -79,7 +80,7 @@ fn decode(cmd: u8) -> Kind
 
 fn respond(kind: Kind, chip: Chip, array: &[u8]) -> u8
     requires { ⌜ 0 < length (now array) ⌝ }
-    requires { ⌜ length (now array) ≤ 0x80_0000 ⌝ }
+    requires { ⌜ length (now array) ≤ FLASH-SIZE ⌝ }
     ensures { λ r. ⌜ r ≡ replyTo kind (chip .mode) (chip .wel) (chip .tx) (now (array .entry)) ⌝ }
 {
     let t = chip.tx;
@@ -130,7 +131,7 @@ fn respond(kind: Kind, chip: Chip, array: &[u8]) -> u8
 
 pub(crate) fn answer(chip: Chip, array: &[u8]) -> u8
     requires { ⌜ 0 < length (now array) ⌝ }
-    requires { ⌜ length (now array) ≤ 0x80_0000 ⌝ }
+    requires { ⌜ length (now array) ≤ FLASH-SIZE ⌝ }
     ensures { λ r. ⌜ r ≡ answerOf (chip .mode) (chip .wel) (chip .tx) (now (array .entry)) ⌝ }
 {
     let t = chip.tx;

@@ -48,12 +48,12 @@ module _ (place count n : ℕ) (e : n ≡ placesOf count) where
   counted-after l = rw (← e, le-ltb _ _ l)
 
 -- ---- the search for a place
-module _ (times : List Float) (now : Float) (m i : ℕ) where
-  pub from-waits : waits (getD times i nan) now ≡ true → freeFrom (suc m) i times now ≡ freeFrom m (i + 1) times now
+module _ (starts : List Float) (now : Float) (m i : ℕ) where
+  pub from-waits : waits (getD starts i nan) now ≡ true → freeFrom (suc m) i starts now ≡ freeFrom m (i + 1) starts now
   unfolding freeFrom
   from-waits h = rw h
 
-  pub from-expired : waits (getD times i nan) now ≡ false → freeFrom (suc m) i times now ≡ i
+  pub from-expired : waits (getD starts i nan) now ≡ false → freeFrom (suc m) i starts now ≡ i
   unfolding freeFrom
   from-expired h = rw h
 
@@ -62,35 +62,36 @@ turned : (b : Bool) (x : Bool) → x ≡ not b → b ≡ not x
 turned true x h = rw h
 turned false x h = rw h
 
-module _ (times : List Float) (count : ℕ) (now : Float) (n : ℕ) where
-  pub free-start : n ≡ placesOf count → freeOf times count now ≡ freeFrom (n - 0) 0 times now
+module _ (starts : List Float) (count : ℕ) (now : Float) (n : ℕ) where
+  pub free-start : n ≡ placesOf count → freeOf starts count now ≡ freeFrom (n - 0) 0 starts now
   unfolding freeOf
   free-start e = rw (sub-zero, e)
 
-  module _ (i : ℕ) (x : Bool) (l : i < n) (e : freeOf times count now ≡ freeFrom (n - i) i times now)
-      (w : x ≡ not (waits (getD times i nan) now)) where
-    step : freeOf times count now ≡ freeFrom (suc (n - (i + 1))) i times now
+  module _ (i : ℕ) (x : Bool) (l : i < n) (e : freeOf starts count now ≡ freeFrom (n - i) i starts now)
+      (w : x ≡ not (waits (getD starts i nan) now)) where
+    step : freeOf starts count now ≡ freeFrom (suc (n - (i + 1))) i starts now
     step = let z : n - i ≡ suc (n - (i + 1)) = omega arith in rw z at e
 
-    pub free-here : x ≡ true → i ≡ freeOf times count now
-    free-here t = sym (step ∙ from-expired times now (n - (i + 1)) i (turned _ x w ∙ ap not t))
+    pub free-here : x ≡ true → i ≡ freeOf starts count now
+    free-here t = sym (step ∙ from-expired starts now (n - (i + 1)) i (turned _ x w ∙ ap not t))
 
-    pub free-on : x ≡ false → freeOf times count now ≡ freeFrom (n - (i + 1)) (i + 1) times now
-    free-on t = step ∙ from-waits times now (n - (i + 1)) i (turned _ x w ∙ ap not t)
+    pub free-on : x ≡ false → freeOf starts count now ≡ freeFrom (n - (i + 1)) (i + 1) starts now
+    free-on t = step ∙ from-waits starts now (n - (i + 1)) i (turned _ x w ∙ ap not t)
 
-  pub free-none : (i : ℕ) → n ≤ i → freeOf times count now ≡ freeFrom (n - i) i times now → i ≡ freeOf times count now
+  pub free-none : (i : ℕ) → n ≤ i → freeOf starts count now ≡ freeFrom (n - i) i starts now
+      → i ≡ freeOf starts count now
   unfolding freeFrom
-  free-none i h e = let z : n - i ≡ 0 = omega arith in sym (e ∙ ap (λ (k : ℕ). freeFrom k i times now) z)
+  free-none i h e = let z : n - i ≡ 0 = omega arith in sym (e ∙ ap (λ (k : ℕ). freeFrom k i starts now) z)
 
 -- ---- press
-module _ (times : List Float) (codes : List ℕ) (count code : ℕ) (at now : Float) (p : ℕ)
-    (e : p ≡ freeOf times count now) where
-  pub put-in : (n : ℕ) → p < 64 → n ≡ countedOf p count → outcome Done (script (set times p at) (set codes p code) n)
-      ≡ putOf (script times codes count) code at now
+module _ (starts : List Float) (codes : List ℕ) (count code : ℕ) (at now : Float) (p : ℕ)
+    (e : p ≡ freeOf starts count now) where
+  pub put-in : (n : ℕ) → p < 64 → n ≡ countedOf p count → outcome Done (script (set starts p at) (set codes p code) n)
+      ≡ putOf (script starts codes count) code at now
   unfolding putOf placed
   put-in n l k = rw (← e, lt-ltb _ _ l, k)
 
-  pub put-full : 64 ≤ p → outcome KeysFull (script times codes count) ≡ putOf (script times codes count) code at now
+  pub put-full : 64 ≤ p → outcome KeysFull (script starts codes count) ≡ putOf (script starts codes count) code at now
   unfolding putOf
   put-full l = rw (← e, le-ltb _ _ l)
 
@@ -109,15 +110,15 @@ module _ (s : Script) (key : ℕ) (at now : Float) where
 
   -- what holds after each answer holds after a press
   pub press-each : (P : Outcome → Type 0) → P (outcome BadKey s) → P (outcome BadTime s) → P (outcome KeysFull s)
-      → (key ≤ 2 → T (goodTime at) → freeOf (s .times) (s .count) now < 64
-      → P (outcome Done (placed s (freeOf (s .times) (s .count) now) key at)))
+      → (key ≤ 2 → T (goodTime at) → freeOf (s .starts) (s .count) now < 64
+      → P (outcome Done (placed s (freeOf (s .starts) (s .count) now) key at)))
       → P (pressOf s key at now)
   unfolding pressOf putOf
-  press-each P k t f d = by (leb key 2) refl (goodTime at) refl (ltb (freeOf (s .times) (s .count) now) 64) refl
+  press-each P k t f d = by (leb key 2) refl (goodTime at) refl (ltb (freeOf (s .starts) (s .count) now) 64) refl
     where
       by : (a : Bool) → leb key 2 ≡ a → (b : Bool) → goodTime at ≡ b → (c : Bool)
-          → ltb (freeOf (s .times) (s .count) now) 64 ≡ c
-          → P (cond a (cond b (cond c (outcome Done (placed s (freeOf (s .times) (s .count) now) key at))
+          → ltb (freeOf (s .starts) (s .count) now) 64 ≡ c
+          → P (cond a (cond b (cond c (outcome Done (placed s (freeOf (s .starts) (s .count) now) key at))
           (outcome KeysFull s)) (outcome BadTime s)) (outcome BadKey s))
       by false p b q c r = k
       by true p false q c r = t
@@ -180,58 +181,58 @@ up-still h t code now d =
     rw (d, and-false (eqb code 0), and-false (eqb code 1), and-false (eqb code 2))
     (rw (or-false (h .a), or-false (h .b), or-false (h .c)))
 
-module _ (times : List Float) (now : Float) where
+module _ (starts : List Float) (now : Float) where
   -- none of n presses from the i-th on is down
   abbrev pub Up : ℕ → ℕ → Type 0
-  Up i n = (j : ℕ) → j < n → downOf (getD times (i + j) nan) now ≡ false
+  Up i n = (j : ℕ) → j < n → downOf (getD starts (i + j) nan) now ≡ false
 
-  pub up-more : (i n : ℕ) (on down : Bool) → down ≡ downOf (getD times (i + n) nan) now → (on ≡ false → Up i n)
+  pub up-more : (i n : ℕ) (on down : Bool) → down ≡ downOf (getD starts (i + n) nan) now → (on ≡ false → Up i n)
       → (on || down) ≡ false → Up i (n + 1)
   up-more i n true down e u h = absurd (true≢false h)
   up-more i n false down e u h =
-      below-more (λ (j : ℕ). downOf (getD times (i + j) nan) now ≡ false) n (u refl) (sym e ∙ h)
+      below-more (λ (j : ℕ). downOf (getD starts (i + j) nan) now ≡ false) n (u refl) (sym e ∙ h)
 
-module _ (times : List Float) (codes : List ℕ) (now : Float) where
-  pub held-none : (h : Held) → h ≡ heldFrom times codes h now 0
+module _ (starts : List Float) (codes : List ℕ) (now : Float) where
+  pub held-none : (h : Held) → h ≡ heldFrom starts codes h now 0
   unfolding heldFrom
   held-none h = refl
 
-  pub held-more : (h₀ h : Held) (i : ℕ) → h ≡ heldFrom times codes h₀ now i
-      → also h (getD times i nan) (getD codes i 0) now ≡ heldFrom times codes h₀ now (i + 1)
+  pub held-more : (h₀ h : Held) (i : ℕ) → h ≡ heldFrom starts codes h₀ now i
+      → also h (getD starts i nan) (getD codes i 0) now ≡ heldFrom starts codes h₀ now (i + 1)
   unfolding heldFrom
   held-more h₀ h i e = rw (add-one, e)
 
-  pub held-upto : (h₀ h : Held) (i to : ℕ) → i ≤ to → to ≤ i → h ≡ heldFrom times codes h₀ now i
-      → h ≡ heldFrom times codes h₀ now to
+  pub held-upto : (h₀ h : Held) (i to : ℕ) → i ≤ to → to ≤ i → h ≡ heldFrom starts codes h₀ now i
+      → h ≡ heldFrom starts codes h₀ now to
   held-upto h₀ h i to a b e = let z : i ≡ to = omega arith in e ∙ rw z
 
   -- presses that are not down change nothing, however many
-  pub held-past : (h : Held) (i n : ℕ) → Up times now i n
-      → heldFrom times codes h now i ≡ heldFrom times codes h now (i + n)
+  pub held-past : (h : Held) (i n : ℕ) → Up starts now i n
+      → heldFrom starts codes h now i ≡ heldFrom starts codes h now (i + n)
   unfolding heldFrom
   held-past h i zero up = let z : i + 0 ≡ i = omega arith in rw z
   held-past h i (suc n) up =
       let z : i + suc n ≡ suc (i + n) = omega arith in
       rw z (held-past h i n (λ j l. up j (omega arith))
-      ∙ sym (up-still _ (getD times (i + n) nan) (getD codes (i + n) 0) now (up n (omega arith))))
+      ∙ sym (up-still _ (getD starts (i + n) nan) (getD codes (i + n) 0) now (up n (omega arith))))
 
   pub held-all : (k : Keys) (n : ℕ) (h₀ h : Held) → n ≡ placesOf (k .count) → h₀ ≡ tapped (k .live) (k .holds) now
-      → h ≡ heldFrom times codes h₀ now n → h ≡ heldOf times codes k now
+      → h ≡ heldFrom starts codes h₀ now n → h ≡ heldOf starts codes k now
   unfolding heldOf
   held-all k n h₀ h p q e = e ∙ rw (p, q)
 
-module _ (times : List Float) (now t : Float) where
-  pub edges-none : t ≡ edgesFrom times now t 0
+module _ (starts : List Float) (now t : Float) where
+  pub edges-none : t ≡ edgesFrom starts now t 0
   unfolding edgesFrom
   edges-none = refl
 
-  pub edges-more : (r : Float) (i : ℕ) → r ≡ edgesFrom times now t i → edgesOf (getD times i nan) now r ≡ edgesFrom
-      times now t (i + 1)
+  pub edges-more : (r : Float) (i : ℕ) → r ≡ edgesFrom starts now t i → edgesOf (getD starts i nan) now r ≡ edgesFrom
+      starts now t (i + 1)
   unfolding edgesFrom
   edges-more r i e = rw (add-one, e)
 
-  pub edges-all : (count n i : ℕ) (r : Float) → n ≡ placesOf count → i ≤ n → n ≤ i → r ≡ edgesFrom times now t i
-      → r ≡ pressEdges times count now t
+  pub edges-all : (count n i : ℕ) (r : Float) → n ≡ placesOf count → i ≤ n → n ≤ i → r ≡ edgesFrom starts now t i
+      → r ≡ pressEdges starts count now t
   unfolding pressEdges
   edges-all count n i r p a b e = let z : i ≡ n = omega arith in e ∙ rw (z, p)
 

@@ -37,24 +37,25 @@ module _ (n : ℕ) (room : 2 ^ 22 ≤ n) (now : Float) where
   good : (k : Float) → T (goodTime k) → AtMost k n
   good k g = weaken k (2 ^ 21) n (le-trans (lit≤ tt) room) (good-at-most k g)
 
-  pub edges-at-most : (times : List Float) (t : Float) (m : ℕ) → ((i : ℕ) → i < m → T (goodTime (getD times i nan)))
-      → AtMost t n → AtMost (edgesFrom times now t m) n
+  pub edges-at-most : (starts : List Float) (t : Float) (m : ℕ) → ((i : ℕ) → i < m → T (goodTime (getD starts i nan)))
+      → AtMost t n → AtMost (edgesFrom starts now t m) n
   unfolding edgesFrom
-  edges-at-most times t zero g p = p
-  edges-at-most times t (suc m) g p =
-      after-at-most (afterOf now (edgesFrom times now t m) (getD times m nan)) (endOf (getD times m nan))
-      (after-at-most (edgesFrom times now t m) (getD times m nan) (edges-at-most times t m (λ i l. g i (omega arith)) p)
-      (good (getD times m nan) (g m (omega arith))))
-      (weaken (endOf (getD times m nan)) (2 ^ 22) n room (end-most (getD times m nan) (g m (omega arith))))
+  edges-at-most starts t zero g p = p
+  edges-at-most starts t (suc m) g p =
+      after-at-most (afterOf now (edgesFrom starts now t m) (getD starts m nan)) (endOf (getD starts m nan))
+      (after-at-most (edgesFrom starts now t m) (getD starts m nan) (edges-at-most starts t m (λ i l. g i
+      (omega arith)) p)
+      (good (getD starts m nan) (g m (omega arith))))
+      (weaken (endOf (getD starts m nan)) (2 ^ 22) n room (end-most (getD starts m nan) (g m (omega arith))))
 
-  pub edge-at-most : (b : Buttons) (t : Float) → Within b → AtMost t n → AtMost (nextEdge (b .times) (b .keys) now t) n
+  pub edge-at-most : (b : Buttons) (t : Float) → Within b → AtMost t n → AtMost (nextEdge (b .starts) (b .keys) now t) n
   unfolding nextEdge holdEdges pressEdges
   edge-at-most b t w p =
       let h = b .keys .holds in
-      let e = edgesFrom (b .times) now t (placesOf (b .keys .count)) in
+      let e = edgesFrom (b .starts) now t (placesOf (b .keys .count)) in
       after-at-most (afterOf now (afterOf now e (h .a)) (h .b)) (h .c)
       (after-at-most (afterOf now e (h .a)) (h .b)
-      (after-at-most e (h .a) (edges-at-most (b .times) t (placesOf (b .keys .count)) (λ i l. w .presses i l .time) p)
+      (after-at-most e (h .a) (edges-at-most (b .starts) t (placesOf (b .keys .count)) (λ i l. w .presses i l .time) p)
       (good (h .a) (w .hold-a)))
       (good (h .b) (w .hold-b)))
       (good (h .c) (w .hold-c))

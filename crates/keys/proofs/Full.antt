@@ -15,12 +15,12 @@ use Rattle.keys.specs.Script.{placesOf, waits, waitingIn, freeFrom, free
 use Rattle.keys.specs.declared.Refusal.the-variants.{Done, BadKey, BadTime, KeysFull}
 use Rattle.keys.proofs.Cases.{places-most, from-waits, from-expired}
 
-module _ (times : List Float) (now : Float) where
+module _ (starts : List Float) (now : Float) where
   abbrev waitsAt : ℕ → Bool
-  waitsAt i = waits (getD times i nan) now
+  waitsAt i = waits (getD starts i nan) now
 
   abbrev found : ℕ → ℕ → ℕ
-  found n i = freeFrom n i times now
+  found n i = freeFrom n i starts now
 
   -- ---- the search stays within its places
   abbrev Between : ℕ → ℕ → Type 0
@@ -32,8 +32,9 @@ module _ (times : List Float) (now : Float) where
   free-between (suc n) i = by (waitsAt i) refl (free-between n (i + 1))
     where
       by : (b : Bool) → waitsAt i ≡ b → Between n (i + 1) → Between (suc n) i
-      by true h w = let e : found (suc n) i ≡ found n (i + 1) = from-waits times now n i h in (omega arith, omega arith)
-      by false h w = let e : found (suc n) i ≡ i = from-expired times now n i h in (omega arith, omega arith)
+      by true h w = let e : found (suc n) i ≡ found n (i + 1) = from-waits starts now n i h in
+          (omega arith, omega arith)
+      by false h w = let e : found (suc n) i ≡ i = from-expired starts now n i h in (omega arith, omega arith)
 
   -- before the place that is found every press waits
   free-before : (n i j : ℕ) → i ≤ j → j < found n i → waitsAt j ≡ true
@@ -43,9 +44,9 @@ module _ (times : List Float) (now : Float) where
     where
       by : (b : Bool) → waitsAt i ≡ b → (i + 1 ≤ j → j < found n (i + 1) → waitsAt j ≡ true)
           → (i + 1 ≤ j) ⊎ (j < i + 1) → waitsAt j ≡ true
-      by true h r (inl k) = let e : found (suc n) i ≡ found n (i + 1) = from-waits times now n i h in r k (omega arith)
+      by true h r (inl k) = let e : found (suc n) i ≡ found n (i + 1) = from-waits starts now n i h in r k (omega arith)
       by true h r (inr k) = let e : j ≡ i = omega arith in ap waitsAt e ∙ h
-      by false h r k = let e : found (suc n) i ≡ i = from-expired times now n i h in absurd
+      by false h r k = let e : found (suc n) i ≡ i = from-expired starts now n i h in absurd
           (let z : ⊥ = omega arith in z)
 
   -- and the press at the place that is found has expired
@@ -56,13 +57,13 @@ module _ (times : List Float) (now : Float) where
     where
       by : (b : Bool) → waitsAt i ≡ b → (found n (i + 1) < (i + 1) + n → waitsAt (found n (i + 1)) ≡ false)
           → waitsAt (found (suc n) i) ≡ false
-      by true h r = let e : found (suc n) i ≡ found n (i + 1) = from-waits times now n i h in ap waitsAt e ∙ r
+      by true h r = let e : found (suc n) i ≡ found n (i + 1) = from-waits starts now n i h in ap waitsAt e ∙ r
           (omega arith)
-      by false h r = ap waitsAt (from-expired times now n i h) ∙ h
+      by false h r = ap waitsAt (from-expired starts now n i h) ∙ h
 
   -- ---- the count of those that wait
   abbrev many : ℕ → ℕ
-  many n = waitingIn times now n
+  many n = waitingIn starts now n
 
   many-step : (n : ℕ) (b : Bool) → waitsAt n ≡ b → many (suc n) ≡ cond b (many n + 1) (many n)
   unfolding waitingIn
@@ -121,7 +122,7 @@ module _ (times : List Float) (now : Float) where
 -- 8, 1, 3: KeysFull exactly where 64 presses have time + 0.15 > now
 pub keys-full : (s : Script) (key : ℕ) (at now : Float)
     → pressOf s key at now .refusal ≡ cond (leb key 2)
-    (cond (goodTime at) (cond (eqb (waitingIn (s .times) now (placesOf (s .count))) 64) 3 0) 1) 8
+    (cond (goodTime at) (cond (eqb (waitingIn (s .starts) now (placesOf (s .count))) 64) 3 0) 1) 8
 unfolding pressOf putOf freeOf
 keys-full s key at now = by (leb key 2) (goodTime at)
   where
@@ -130,8 +131,8 @@ keys-full s key at now = by (leb key 2) (goodTime at)
     put false p = refl
 
     by : (a b : Bool) → cond a (cond b (putOf s key at now) (outcome BadTime s)) (outcome BadKey s) .refusal
-        ≡ cond a (cond b (cond (eqb (waitingIn (s .times) now (placesOf (s .count))) 64) 3 0) 1) 8
+        ≡ cond a (cond b (cond (eqb (waitingIn (s .starts) now (placesOf (s .count))) 64) 3 0) 1) 8
     by false b = refl
     by true false = refl
-    by true true = put (ltb (freeOf (s .times) (s .count) now) 64) _ ∙ full (s .times) now (placesOf (s .count))
+    by true true = put (ltb (freeOf (s .starts) (s .count) now) 64) _ ∙ full (s .starts) now (placesOf (s .count))
         (places-most (s .count))

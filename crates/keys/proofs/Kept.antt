@@ -34,7 +34,7 @@ places-is n l = by (ltb n 64) refl
 pub record Grown (p count : ℕ) : Type 0 where
   pub most : countedOf p count ≤ 64
   pub here : p < placesOf (countedOf p count)
-  pub kept : placesOf count ≤ placesOf (countedOf p count)
+  pub more : placesOf count ≤ placesOf (countedOf p count)
   pub only : (i : ℕ) → i < placesOf (countedOf p count) → i ≢ p → i < placesOf count
 
 pub grown : (p count : ℕ) → p ≤ placesOf count → p < 64 → Grown p count
@@ -44,7 +44,7 @@ grown p count h l = by (ltb p (placesOf count)) refl
         → ((i : ℕ) → i < c → i ≢ p → i < placesOf count) → Grown p count
     from c e m a b o =
         let q : placesOf (countedOf p count) ≡ c = ap placesOf (sym e) ∙ places-is c m in
-        record { most = omega arith; here = omega arith; kept = omega arith; only = λ i k d. o i (omega arith) d }
+        record { most = omega arith; here = omega arith; more = omega arith; only = λ i k d. o i (omega arith) d }
 
     by : (b : Bool) → ltb p (placesOf count) ≡ b → Grown p count
     by true t =
@@ -57,30 +57,30 @@ grown p count h l = by (ltb p (placesOf count)) refl
         (λ i k d. omega arith)
 
 -- the place of a press, among those that it finds
-pub place-most : (times : List Float) (count : ℕ) (now : Float) → freeOf times count now ≤ placesOf count
+pub place-most : (starts : List Float) (count : ℕ) (now : Float) → freeOf starts count now ≤ placesOf count
 unfolding freeOf
-place-most times count now = let l : freeFrom (placesOf count) 0 times now ≤ 0 + placesOf count = free-between times
+place-most starts count now = let l : freeFrom (placesOf count) 0 starts now ≤ 0 + placesOf count = free-between starts
     now (placesOf count) 0 .1 in omega arith
 
-place-expired : (times : List Float) (count : ℕ) (now : Float) → freeOf times count now < placesOf count
-    → waits (getD times (freeOf times count now) nan) now ≡ false
+place-expired : (starts : List Float) (count : ℕ) (now : Float) → freeOf starts count now < placesOf count
+    → waits (getD starts (freeOf starts count now) nan) now ≡ false
 unfolding freeOf
-place-expired times count now l = free-at times now (placesOf count) 0 (omega arith)
+place-expired starts count now l = free-at starts now (placesOf count) 0 (omega arith)
 
 -- ---- no press that waits is lost
-pub put-keeps : (s : Script) (key : ℕ) (at now : Float) → freeOf (s .times) (s .count) now < 64
-    → NoneLost s (placed s (freeOf (s .times) (s .count) now) key at) now
+pub put-keeps : (s : Script) (key : ℕ) (at now : Float) → freeOf (s .starts) (s .count) now < 64
+    → NoneLost s (placed s (freeOf (s .starts) (s .count) now) key at) now
 unfolding placed
 put-keeps s key at now l i m w =
-    let p = freeOf (s .times) (s .count) now in
+    let p = freeOf (s .starts) (s .count) now in
     let g : placesOf (s .count) ≤ placesOf (countedOf p (s .count)) = grown p (s .count)
-    (place-most (s .times) (s .count) now) l .kept in
+    (place-most (s .starts) (s .count) now) l .more in
     let apart : i ≢ p =
-    λ e. true≢false (sym w ∙ ap (λ (j : ℕ). waits (getD (s .times) j nan) now) e ∙ place-expired (s .times) (s .count)
+    λ e. true≢false (sym w ∙ ap (λ (j : ℕ). waits (getD (s .starts) j nan) now) e ∙ place-expired (s .starts) (s .count)
     now (omega arith)) in
     record {
       place = omega arith;
-      time = getD-set-other (s .times) p i at nan apart;
+      time = getD-set-other (s .starts) p i at nan apart;
       code = getD-set-other (s .codes) p i key 0 apart;
     }
 
@@ -105,60 +105,61 @@ lands h t now (suc zero) k d = rw (d, or-true (h .b))
 lands h t now (suc (suc zero)) k d = rw (d, or-true (h .c))
 lands h t now (suc (suc (suc key))) k d = absurd (let z : ⊥ = omega arith in z)
 
-pub down-in : (times : List Float) (codes : List ℕ) (h : Held) (now : Float) (key n i : ℕ) → key ≤ 2 → i < n
-    → downOf (getD times i nan) now ≡ true
-    → getD codes i 0 ≡ key → isDown (heldFrom times codes h now n) key ≡ true
+pub down-in : (starts : List Float) (codes : List ℕ) (h : Held) (now : Float) (key n i : ℕ) → key ≤ 2 → i < n
+    → downOf (getD starts i nan) now ≡ true
+    → getD codes i 0 ≡ key → isDown (heldFrom starts codes h now n) key ≡ true
 unfolding heldFrom
-down-in times codes h now key zero i k l d e = absurd (let z : ⊥ = omega arith in z)
-down-in times codes h now key (suc n) i k l d e = by (le-or-lt (i + 1) n) (λ m. down-in times codes h now key n i k m
+down-in starts codes h now key zero i k l d e = absurd (let z : ⊥ = omega arith in z)
+down-in starts codes h now key (suc n) i k l d e = by (le-or-lt (i + 1) n) (λ m. down-in starts codes h now key n i k m
     d e)
   where
-    by : (i + 1 ≤ n) ⊎ (n < i + 1) → (i < n → isDown (heldFrom times codes h now n) key ≡ true)
-        → isDown (also (heldFrom times codes h now n) (getD times n nan) (getD codes n 0) now) key ≡ true
-    by (inl m) r = stays (heldFrom times codes h now n) (getD times n nan) (getD codes n 0) now key k (r (omega arith))
+    by : (i + 1 ≤ n) ⊎ (n < i + 1) → (i < n → isDown (heldFrom starts codes h now n) key ≡ true)
+        → isDown (also (heldFrom starts codes h now n) (getD starts n nan) (getD codes n 0) now) key ≡ true
+    by (inl m) r = stays (heldFrom starts codes h now n) (getD starts n nan) (getD codes n 0) now key k
+        (r (omega arith))
     by (inr m) r =
         let z : i ≡ n = omega arith in
-        rw (← z, e) (lands (heldFrom times codes h now i) (getD times i nan) now key k d)
+        rw (← z, e) (lands (heldFrom starts codes h now i) (getD starts i nan) now key k d)
 
-pub press-kept : (s : Script) (key : ℕ) (at now : Float) (k : Keys) → 64 ≤ length (s .times) → 64 ≤ length (s .codes)
+pub press-kept : (s : Script) (key : ℕ) (at now : Float) (k : Keys) → 64 ≤ length (s .starts) → 64 ≤ length (s .codes)
     → pressOf s key at now .refusal ≡ 0
-    → isDown (heldOf (pressOf s key at now .script .times) (pressOf s key at now .script .codes)
+    → isDown (heldOf (pressOf s key at now .script .starts) (pressOf s key at now .script .codes)
     (withCount k (pressOf s key at now .script .count)) at) key ≡ true
 unfolding placed heldOf
 press-kept s key at now k a b z =
     press-each s key at now
-    (λ (o : Outcome). o .refusal ≡ 0 → isDown (heldOf (o .script .times) (o .script .codes)
+    (λ (o : Outcome). o .refusal ≡ 0 → isDown (heldOf (o .script .starts) (o .script .codes)
     (withCount k (o .script .count)) at) key ≡ true)
     (λ z. absurd (let y : ⊥ = omega arith in y)) (λ z. absurd (let y : ⊥ = omega arith in y))
     (λ z. absurd (let y : ⊥ = omega arith in y)) put z
   where
-    put : key ≤ 2 → T (goodTime at) → freeOf (s .times) (s .count) now < 64 → _≡_ {A = ℕ} 0 0
-        → isDown (heldOf (placed s (freeOf (s .times) (s .count) now) key at .times)
-        (placed s (freeOf (s .times) (s .count) now) key at .codes)
-        (withCount k (placed s (freeOf (s .times) (s .count) now) key at .count)) at) key ≡ true
+    put : key ≤ 2 → T (goodTime at) → freeOf (s .starts) (s .count) now < 64 → _≡_ {A = ℕ} 0 0
+        → isDown (heldOf (placed s (freeOf (s .starts) (s .count) now) key at .starts)
+        (placed s (freeOf (s .starts) (s .count) now) key at .codes)
+        (withCount k (placed s (freeOf (s .starts) (s .count) now) key at .count)) at) key ≡ true
     put h g l z =
-        let p = freeOf (s .times) (s .count) now in
-        let t : getD (set (s .times) p at) p nan ≡ at = getD-set-same (s .times) p at nan (omega arith) in
-        down-in (set (s .times) p at) (set (s .codes) p key) (tapped (k .live) (k .holds) at) at key
+        let p = freeOf (s .starts) (s .count) now in
+        let t : getD (set (s .starts) p at) p nan ≡ at = getD-set-same (s .starts) p at nan (omega arith) in
+        down-in (set (s .starts) p at) (set (s .codes) p key) (tapped (k .live) (k .holds) at) at key
         (placesOf (countedOf p (s .count))) p h
-        (grown p (s .count) (place-most (s .times) (s .count) now) l .here) (rw t (down-at-once at g))
+        (grown p (s .count) (place-most (s .starts) (s .count) now) l .here) (rw t (down-at-once at g))
         (getD-set-same (s .codes) p key 0 (omega arith))
 
 -- ---- the limits
-pub laid : (P : Float → ℕ → Type 0) (times : List Float) (codes : List ℕ) (p key : ℕ) (at : Float) (i : ℕ)
-    → p < length times → p < length codes → P at key
-    → (i ≢ p → P (getD times i nan) (getD codes i 0)) → P (getD (set times p at) i nan) (getD (set codes p key) i 0)
-laid P times codes p key at i a b new old = by (eqb i p) refl
+pub laid : (P : Float → ℕ → Type 0) (starts : List Float) (codes : List ℕ) (p key : ℕ) (at : Float) (i : ℕ)
+    → p < length starts → p < length codes → P at key
+    → (i ≢ p → P (getD starts i nan) (getD codes i 0)) → P (getD (set starts p at) i nan) (getD (set codes p key) i 0)
+laid P starts codes p key at i a b new old = by (eqb i p) refl
   where
-    by : (t : Bool) → eqb i p ≡ t → P (getD (set times p at) i nan) (getD (set codes p key) i 0)
+    by : (t : Bool) → eqb i p ≡ t → P (getD (set starts p at) i nan) (getD (set codes p key) i 0)
     by true e = let z : i ≡ p = eqb-true i p e in rw (
       z,
-      getD-set-same times p at nan a,
+      getD-set-same starts p at nan a,
       getD-set-same codes p key 0
           b,
     ) new
     by false e = let d : i ≢ p = eqb-false i p e in rw (
-      getD-set-other times p i at nan d,
+      getD-set-other starts p i at nan d,
       getD-set-other codes p i
           key 0 d,
     ) (old d)
@@ -169,16 +170,16 @@ unfolding placed
 press-within b key at now w = press-each (scriptOf b) key at now (λ (o : Outcome). Within (withScript b (o .script)))
     w w w put
   where
-    put : key ≤ 2 → T (goodTime at) → freeOf (b .times) (b .keys .count) now < 64
-        → Within (withScript b (placed (scriptOf b) (freeOf (b .times) (b .keys .count) now) key at))
+    put : key ≤ 2 → T (goodTime at) → freeOf (b .starts) (b .keys .count) now < 64
+        → Within (withScript b (placed (scriptOf b) (freeOf (b .starts) (b .keys .count) now) key at))
     put h g l =
-        let p = freeOf (b .times) (b .keys .count) now in
-        let c : Grown p (b .keys .count) = grown p (b .keys .count) (place-most (b .times) (b .keys .count) now) l in
+        let p = freeOf (b .starts) (b .keys .count) now in
+        let c : Grown p (b .keys .count) = grown p (b .keys .count) (place-most (b .starts) (b .keys .count) now) l in
         record {
-          times = length-set (b .times) p at ∙ w .times;
+          starts = length-set (b .starts) p at ∙ w .starts;
           codes = length-set (b .codes) p key ∙ w .codes;
           count = c .most;
-          presses = λ i m. laid Press (b .times) (b .codes) p key at i (omega (arith, w .times))
+          presses = λ i m. laid Press (b .starts) (b .codes) p key at i (omega (arith, w .starts))
               (omega (arith, w .codes)) (record { time = g; key = h }) (λ d. w .presses i (c .only i m d));
           hold-a = w .hold-a;
           hold-b = w .hold-b;

@@ -18,7 +18,7 @@ use Rattle.keys.specs.Within.{Within, withApplied, withKeys}
 pub fresh-within : Within freshButtons
 unfolding freshButtons ofBits
 fresh-within = record {
-  times = refl;
+  starts = refl;
   codes = refl;
   count = omega arith;
   presses = λ i l. absurd (let z : ⊥ = omega arith in z);
@@ -37,7 +37,7 @@ live-within b key down w = by (leb key 2)
         (outcome Done (withLive (b .keys) (heldWith (b .keys .live) key down))) (outcome BadKey (b .keys)) .keys))
     by false = w
     by true = record {
-      times = w .times;
+      starts = w .starts;
       codes = w .codes;
       count = w .count;
       presses = w .presses;
@@ -63,7 +63,7 @@ hold-within b key until w = by (leb key 2) (goodTime until) refl
     by false u e = w
     by true false e = w
     by true true e = record {
-      times = w .times;
+      starts = w .starts;
       codes = w .codes;
       count = w .count;
       presses = w .presses;
@@ -93,7 +93,7 @@ pub sync-within : (b : Buttons) (gpio : List ℕ) (h : Held) → Within b
     → Within (withKeys b (withApplied (b .keys) (syncOf gpio (b .keys .applied) h .applied)))
 unfolding syncOf
 sync-within b gpio h w = record {
-  times = w .times;
+  starts = w .starts;
   codes = w .codes;
   count = w .count;
   presses = w .presses;

@@ -48,41 +48,41 @@ module _ (now x edge : Float) (p : Clear x) (q : Clear edge) where
       (λ a l. inl refl) (λ a. inl refl)
 
 -- e is an edge, ahead, of one of the first n presses
-pub record Edge (times : List Float) (n : ℕ) (now e : Float) : Type 0 where
+pub record Edge (starts : List Float) (n : ℕ) (now e : Float) : Type 0 where
   pub place : ℕ
   pub below : place < n
-  pub side : (e ≡ getD times place nan) ⊎ (e ≡ endOf (getD times place nan))
+  pub side : (e ≡ getD starts place nan) ⊎ (e ≡ endOf (getD starts place nan))
   pub ahead : lt now e ≡ true
 
 -- ---- the presses
-module _ (times : List Float) (now t : Float) (c : Clear t) where
+module _ (starts : List Float) (now t : Float) (c : Clear t) where
   abbrev Good : ℕ → Type 0
-  Good n = (i : ℕ) → i < n → T (goodTime (getD times i nan))
+  Good n = (i : ℕ) → i < n → T (goodTime (getD starts i nan))
 
-  edges-clear : (n : ℕ) → Good n → Clear (edgesFrom times now t n)
+  edges-clear : (n : ℕ) → Good n → Clear (edgesFrom starts now t n)
   unfolding edgesFrom
   edges-clear zero g = c
   edges-clear (suc n) g =
-      let k = getD times n nan in
+      let k = getD starts n nan in
       let s = edges-clear n (λ i l. g i (omega arith)) in
-      after-clear now (afterOf now (edgesFrom times now t n) k) (endOf k)
-      (after-clear now (edgesFrom times now t n) k s (good-clear k (g n (omega arith))))
+      after-clear now (afterOf now (edgesFrom starts now t n) k) (endOf k)
+      (after-clear now (edgesFrom starts now t n) k s (good-clear k (g n (omega arith))))
       (end-clear k (g n (omega arith)))
 
   -- one press more makes it no later, and it is none of that press's edges ahead that is earlier
   record More (n : ℕ) : Type 0 where
-    pub so-far : T (le (edgesFrom times now t (suc n)) (edgesFrom times now t n))
-    pub begin : lt now (getD times n nan) ≡ true → T (le (edgesFrom times now t (suc n)) (getD times n nan))
-    pub end : lt now (endOf (getD times n nan)) ≡ true
-        → T (le (edgesFrom times now t (suc n)) (endOf (getD times n nan)))
-    pub is : (edgesFrom times now t (suc n) ≡ edgesFrom times now t n) ⊎ Edge times (suc n) now
-        (edgesFrom times now t (suc n))
+    pub so-far : T (le (edgesFrom starts now t (suc n)) (edgesFrom starts now t n))
+    pub begin : lt now (getD starts n nan) ≡ true → T (le (edgesFrom starts now t (suc n)) (getD starts n nan))
+    pub end : lt now (endOf (getD starts n nan)) ≡ true
+        → T (le (edgesFrom starts now t (suc n)) (endOf (getD starts n nan)))
+    pub is : (edgesFrom starts now t (suc n) ≡ edgesFrom starts now t n) ⊎ Edge starts (suc n) now
+        (edgesFrom starts now t (suc n))
 
   more : (n : ℕ) → Good (suc n) → More n
   unfolding edgesFrom
   more n g =
-      let k = getD times n nan in
-      let x = edgesFrom times now t n in
+      let k = getD starts n nan in
+      let x = edgesFrom starts now t n in
       let y = afterOf now x k in
       let p : Clear x = edges-clear n (λ i l. g i (omega arith)) in
       let q : Clear k = good-clear k (g n (omega arith)) in
@@ -97,10 +97,10 @@ module _ (times : List Float) (now t : Float) (c : Clear t) where
         is = which (after-is now y (endOf k) s r) (after-is now x k p q);
       }
     where
-      which : let k = getD times n nan in let x = edgesFrom times now t n in let y = afterOf now x k in let e =
+      which : let k = getD starts n nan in let x = edgesFrom starts now t n in let y = afterOf now x k in let e =
           afterOf now y (endOf k) in
           (e ≡ y) ⊎ ((e ≡ endOf k) × (lt now (endOf k) ≡ true)) → (y ≡ x) ⊎ ((y ≡ k) × (lt now k ≡ true))
-          → (e ≡ x) ⊎ Edge times (suc n) now e
+          → (e ≡ x) ⊎ Edge starts (suc n) now e
       which (inr a) b = inr (record { place = n; below = omega arith; side = inr (a .0); ahead = rw (a .0) (a .1) })
       which (inl a) (inl b) = inl (a ∙ b)
       which (inl a) (inr b) = inr (record {
@@ -112,17 +112,17 @@ module _ (times : List Float) (now t : Float) (c : Clear t) where
       })
 
   -- no later than the time so far
-  least-so-far : (n : ℕ) → Good n → T (le (edgesFrom times now t n) t)
+  least-so-far : (n : ℕ) → Good n → T (le (edgesFrom starts now t n) t)
   unfolding edgesFrom
   least-so-far zero g = le-refl-clear t c
   least-so-far (suc n) g =
       let f : Good n = λ i l. g i (omega arith) in
-      le-trans-clear (edgesFrom times now t (suc n)) (edgesFrom times now t n) t (edges-clear (suc n) g)
+      le-trans-clear (edgesFrom starts now t (suc n)) (edgesFrom starts now t n) t (edges-clear (suc n) g)
       (edges-clear n f) c (more n g .so-far)
       (least-so-far n f)
 
   -- nor than any edge ahead
-  least : (n : ℕ) → Good n → (e : Float) → Clear e → Edge times n now e → T (le (edgesFrom times now t n) e)
+  least : (n : ℕ) → Good n → (e : Float) → Clear e → Edge starts n now e → T (le (edgesFrom starts now t n) e)
   least zero g e d x = absurd (let l : x .place < 0 = x .below in let z : ⊥ = omega arith in z)
   least (suc n) g e d x =
       by (le-or-lt (x .place + 1) n) (x .side)
@@ -130,23 +130,23 @@ module _ (times : List Float) (now t : Float) (c : Clear t) where
       (record { place = x .place; below = l; side = x .side; ahead = x .ahead }))
     where
       by : (x .place + 1 ≤ n) ⊎ (n < x .place + 1)
-          → (e ≡ getD times (x .place) nan) ⊎ (e ≡ endOf (getD times (x .place) nan))
-          → (x .place < n → T (le (edgesFrom times now t n) e)) → T (le (edgesFrom times now t (suc n)) e)
+          → (e ≡ getD starts (x .place) nan) ⊎ (e ≡ endOf (getD starts (x .place) nan))
+          → (x .place < n → T (le (edgesFrom starts now t n) e)) → T (le (edgesFrom starts now t (suc n)) e)
       by (inl l) s r =
-          le-trans-clear (edgesFrom times now t (suc n)) (edgesFrom times now t n) e (edges-clear (suc n) g)
+          le-trans-clear (edgesFrom starts now t (suc n)) (edgesFrom starts now t n) e (edges-clear (suc n) g)
           (edges-clear n (λ i m. g i (omega arith))) d
           (more n g .so-far) (r (omega arith))
       by (inr l) (inl s) r =
           let z : x .place ≡ n = omega (arith, x .below) in
-          let k : e ≡ getD times n nan = s ∙ ap (λ (j : ℕ). getD times j nan) z in
+          let k : e ≡ getD starts n nan = s ∙ ap (λ (j : ℕ). getD starts j nan) z in
           rw k (more n g .begin (rw k at (x .ahead)))
       by (inr l) (inr s) r =
           let z : x .place ≡ n = omega (arith, x .below) in
-          let k : e ≡ endOf (getD times n nan) = s ∙ ap (λ (j : ℕ). endOf (getD times j nan)) z in
+          let k : e ≡ endOf (getD starts n nan) = s ∙ ap (λ (j : ℕ). endOf (getD starts j nan)) z in
           rw k (more n g .end (rw k at (x .ahead)))
 
   -- and it is one of them
-  carried : (n : ℕ) (x y : Float) → x ≡ y → Edge times n now y → Edge times (suc n) now x
+  carried : (n : ℕ) (x y : Float) → x ≡ y → Edge starts n now y → Edge starts (suc n) now x
   carried n x y e s = record {
     place = s .place;
     below = omega (arith, s .below);
@@ -155,60 +155,60 @@ module _ (times : List Float) (now t : Float) (c : Clear t) where
         (s .ahead);
   }
 
-  is-one : (n : ℕ) → Good n → (edgesFrom times now t n ≡ t) ⊎ Edge times n now (edgesFrom times now t n)
+  is-one : (n : ℕ) → Good n → (edgesFrom starts now t n ≡ t) ⊎ Edge starts n now (edgesFrom starts now t n)
   unfolding edgesFrom
   is-one zero g = inl refl
   is-one (suc n) g = by (more n g .is) (is-one n (λ i l. g i (omega arith)))
     where
-      by : (edgesFrom times now t (suc n) ≡ edgesFrom times now t n) ⊎ Edge times (suc n) now
-          (edgesFrom times now t (suc n))
-          → (edgesFrom times now t n ≡ t) ⊎ Edge times n now (edgesFrom times now t n)
-          → (edgesFrom times now t (suc n) ≡ t) ⊎ Edge times (suc n) now (edgesFrom times now t (suc n))
+      by : (edgesFrom starts now t (suc n) ≡ edgesFrom starts now t n) ⊎ Edge starts (suc n) now
+          (edgesFrom starts now t (suc n))
+          → (edgesFrom starts now t n ≡ t) ⊎ Edge starts n now (edgesFrom starts now t n)
+          → (edgesFrom starts now t (suc n) ≡ t) ⊎ Edge starts (suc n) now (edgesFrom starts now t (suc n))
       by (inr e) b = inr e
       by (inl a) (inl b) = inl (a ∙ b)
-      by (inl a) (inr e) = inr (carried n (edgesFrom times now t (suc n)) (edgesFrom times now t n) a e)
+      by (inl a) (inr e) = inr (carried n (edgesFrom starts now t (suc n)) (edgesFrom starts now t n) a e)
 
-  edges-fits : (n : ℕ) → Good n → T (fits binary64 t) → ((i : ℕ) → i < n → T (fits binary64 (getD times i nan)))
-      → T (fits binary64 (edgesFrom times now t n))
+  edges-fits : (n : ℕ) → Good n → T (fits binary64 t) → ((i : ℕ) → i < n → T (fits binary64 (getD starts i nan)))
+      → T (fits binary64 (edgesFrom starts now t n))
   edges-fits n g f h = by (is-one n g)
     where
-      at : (x : Edge times n now (edgesFrom times now t n))
-          → (edgesFrom times now t n ≡ getD times (x .place) nan) ⊎
-          (edgesFrom times now t n ≡ endOf (getD times (x .place) nan))
-          → T (fits binary64 (edgesFrom times now t n))
+      at : (x : Edge starts n now (edgesFrom starts now t n))
+          → (edgesFrom starts now t n ≡ getD starts (x .place) nan) ⊎
+          (edgesFrom starts now t n ≡ endOf (getD starts (x .place) nan))
+          → T (fits binary64 (edgesFrom starts now t n))
       at x (inl s) = rw s (h (x .place) (x .below))
-      at x (inr s) = rw s (add-fits binary64 (getD times (x .place) nan) _)
+      at x (inr s) = rw s (add-fits binary64 (getD starts (x .place) nan) _)
 
-      by : (edgesFrom times now t n ≡ t) ⊎ Edge times n now (edgesFrom times now t n)
-          → T (fits binary64 (edgesFrom times now t n))
+      by : (edgesFrom starts now t n ≡ t) ⊎ Edge starts n now (edgesFrom starts now t n)
+          → T (fits binary64 (edgesFrom starts now t n))
       by (inl e) = rw e f
       by (inr x) = at x (x .side)
 
-pub same-edges : (times : List Float) (n : ℕ) (ts : List Float) (m : ℕ) (now t : Float) → Clear t → T (fits binary64 t)
-    → ((i : ℕ) → i < n → T (goodTime (getD times i nan))) → ((i : ℕ) → i < m → T (goodTime (getD ts i nan)))
-    → ((i : ℕ) → i < n → T (fits binary64 (getD times i nan))) → ((i : ℕ) → i < m → T (fits binary64 (getD ts i nan)))
-    → ((e : Float) → Edge times n now e → Edge ts m now e) → ((e : Float) → Edge ts m now e → Edge times n now e)
-    → edgesFrom times now t n ≡ edgesFrom ts now t m
-same-edges times n ts m now t c f g h p q there back =
-    one-number x y (edges-fits times now t c n g f p) (edges-fits ts now t c m h f q) cx cy
-    (before (is-one ts now t c m h)) (behind (is-one times now t c n g))
+pub same-edges : (starts : List Float) (n : ℕ) (ts : List Float) (m : ℕ) (now t : Float) → Clear t → T (fits binary64 t)
+    → ((i : ℕ) → i < n → T (goodTime (getD starts i nan))) → ((i : ℕ) → i < m → T (goodTime (getD ts i nan)))
+    → ((i : ℕ) → i < n → T (fits binary64 (getD starts i nan))) → ((i : ℕ) → i < m → T (fits binary64 (getD ts i nan)))
+    → ((e : Float) → Edge starts n now e → Edge ts m now e) → ((e : Float) → Edge ts m now e → Edge starts n now e)
+    → edgesFrom starts now t n ≡ edgesFrom ts now t m
+same-edges starts n ts m now t c f g h p q there back =
+    one-number x y (edges-fits starts now t c n g f p) (edges-fits ts now t c m h f q) cx cy
+    (before (is-one ts now t c m h)) (behind (is-one starts now t c n g))
   where
     x : Float
-    x = edgesFrom times now t n
+    x = edgesFrom starts now t n
 
     y : Float
     y = edgesFrom ts now t m
 
     cx : Clear x
-    cx = edges-clear times now t c n g
+    cx = edges-clear starts now t c n g
 
     cy : Clear y
     cy = edges-clear ts now t c m h
 
     before : (y ≡ t) ⊎ Edge ts m now y → T (le x y)
-    before (inl e) = rw e (least-so-far times now t c n g)
-    before (inr e) = least times now t c n g y cy (back y e)
+    before (inl e) = rw e (least-so-far starts now t c n g)
+    before (inr e) = least starts now t c n g y cy (back y e)
 
-    behind : (x ≡ t) ⊎ Edge times n now x → T (le y x)
+    behind : (x ≡ t) ⊎ Edge starts n now x → T (le y x)
     behind (inl e) = rw e (least-so-far ts now t c m h)
     behind (inr e) = least ts now t c m h x cx (there x e)

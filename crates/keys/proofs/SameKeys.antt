@@ -16,10 +16,10 @@ use Rattle.keys.specs.Within.{isDown}
 use Rattle.keys.proofs.Kept.{stays, down-in}
 
 -- a press is among the first n
-pub record Found (times : List Float) (codes : List ℕ) (n : ℕ) (t : Float) (code : ℕ) : Type 0 where
+pub record Found (starts : List Float) (codes : List ℕ) (n : ℕ) (t : Float) (code : ℕ) : Type 0 where
   pub place : ℕ
   pub below : place < n
-  pub time : getD times place nan ≡ t
+  pub time : getD starts place nan ≡ t
   pub key : getD codes place 0 ≡ code
 
 pub or-split : (x y : Bool) → (x || y) ≡ true → (x ≡ true) ⊎ (y ≡ true)
@@ -46,32 +46,32 @@ was h t code now key k d = by key k d
     by (suc (suc (suc key))) k d = absurd (let z : ⊥ = omega arith in z)
 
 -- what is down stays down with more presses
-still : (times : List Float) (codes : List ℕ) (h : Held) (now : Float) (key n : ℕ) → key ≤ 2 → isDown h key ≡ true
-    → isDown (heldFrom times codes h now n) key ≡ true
+still : (starts : List Float) (codes : List ℕ) (h : Held) (now : Float) (key n : ℕ) → key ≤ 2 → isDown h key ≡ true
+    → isDown (heldFrom starts codes h now n) key ≡ true
 unfolding heldFrom
-still times codes h now key zero k d = d
-still times codes h now key (suc n) k d =
-    stays (heldFrom times codes h now n) (getD times n nan) (getD codes n 0) now key k
-    (still times codes h now key n k d)
+still starts codes h now key zero k d = d
+still starts codes h now key (suc n) k d =
+    stays (heldFrom starts codes h now n) (getD starts n nan) (getD codes n 0) now key k
+    (still starts codes h now key n k d)
 
-module _ (times : List Float) (codes : List ℕ) (ts : List Float) (cs : List ℕ) (m : ℕ) (h : Held) (now : Float)
+module _ (starts : List Float) (codes : List ℕ) (ts : List Float) (cs : List ℕ) (m : ℕ) (h : Held) (now : Float)
     (key : ℕ) (k : key ≤ 2) where
-  covered : (n : ℕ) → ((i : ℕ) → i < n → downOf (getD times i nan) now ≡ true
-      → Found ts cs m (getD times i nan) (getD codes i 0))
-      → isDown (heldFrom times codes h now n) key ≡ true → isDown (heldFrom ts cs h now m) key ≡ true
+  covered : (n : ℕ) → ((i : ℕ) → i < n → downOf (getD starts i nan) now ≡ true
+      → Found ts cs m (getD starts i nan) (getD codes i 0))
+      → isDown (heldFrom starts codes h now n) key ≡ true → isDown (heldFrom ts cs h now m) key ≡ true
   unfolding heldFrom
   covered zero f d = still ts cs h now key m k d
   covered (suc n) f d =
-      by (was (heldFrom times codes h now n) (getD times n nan) (getD codes n 0) now key k d)
+      by (was (heldFrom starts codes h now n) (getD starts n nan) (getD codes n 0) now key k d)
       (covered n (λ i l. f i (omega arith)))
     where
-      by : (isDown (heldFrom times codes h now n) key ≡ true) ⊎
-          ((getD codes n 0 ≡ key) × (downOf (getD times n nan) now ≡ true))
-          → (isDown (heldFrom times codes h now n) key ≡ true → isDown (heldFrom ts cs h now m) key ≡ true)
+      by : (isDown (heldFrom starts codes h now n) key ≡ true) ⊎
+          ((getD codes n 0 ≡ key) × (downOf (getD starts n nan) now ≡ true))
+          → (isDown (heldFrom starts codes h now n) key ≡ true → isDown (heldFrom ts cs h now m) key ≡ true)
           → isDown (heldFrom ts cs h now m) key ≡ true
       by (inl y) r = r y
       by (inr y) r =
-          let g : Found ts cs m (getD times n nan) (getD codes n 0) = f n (omega arith) (y .1) in
+          let g : Found ts cs m (getD starts n nan) (getD codes n 0) = f n (omega arith) (y .1) in
           down-in ts cs h now key m (g .place) k (g .below) (ap (λ (t : Float). downOf t now) (g .time) ∙ y .1)
           (g .key ∙ y .0)
 
@@ -84,14 +84,14 @@ held-is : {a b c x y z : Bool} → a ≡ x → b ≡ y → c ≡ z → _≡_ {A 
     (record { a = x; b = y; c = z })
 held-is e f g = rw (e, f, g)
 
-pub same-keys : (times : List Float) (codes : List ℕ) (n : ℕ) (ts : List Float) (cs : List ℕ) (m : ℕ) (h : Held)
+pub same-keys : (starts : List Float) (codes : List ℕ) (n : ℕ) (ts : List Float) (cs : List ℕ) (m : ℕ) (h : Held)
     (now : Float)
-    → ((i : ℕ) → i < n → downOf (getD times i nan) now ≡ true → Found ts cs m (getD times i nan) (getD codes i 0))
-    → ((i : ℕ) → i < m → downOf (getD ts i nan) now ≡ true → Found times codes n (getD ts i nan) (getD cs i 0))
-    → heldFrom times codes h now n ≡ heldFrom ts cs h now m
-same-keys times codes n ts cs m h now f g = held-is (one 0 (omega arith)) (one 1 (omega arith)) (one 2 (omega arith))
+    → ((i : ℕ) → i < n → downOf (getD starts i nan) now ≡ true → Found ts cs m (getD starts i nan) (getD codes i 0))
+    → ((i : ℕ) → i < m → downOf (getD ts i nan) now ≡ true → Found starts codes n (getD ts i nan) (getD cs i 0))
+    → heldFrom starts codes h now n ≡ heldFrom ts cs h now m
+same-keys starts codes n ts cs m h now f g = held-is (one 0 (omega arith)) (one 1 (omega arith)) (one 2 (omega arith))
   where
-    one : (key : ℕ) → key ≤ 2 → isDown (heldFrom times codes h now n) key ≡ isDown (heldFrom ts cs h now m) key
+    one : (key : ℕ) → key ≤ 2 → isDown (heldFrom starts codes h now n) key ≡ isDown (heldFrom ts cs h now m) key
     one key k =
-        same-bool (isDown (heldFrom times codes h now n) key) (isDown (heldFrom ts cs h now m) key)
-        (covered times codes ts cs m h now key k n f) (covered ts cs times codes n h now key k m g)
+        same-bool (isDown (heldFrom starts codes h now n) key) (isDown (heldFrom ts cs h now m) key)
+        (covered starts codes ts cs m h now key k n f) (covered ts cs starts codes n h now key k m g)

@@ -34,15 +34,15 @@ pressed-is : {a b : Refusal} {m n : ℕ} → a ≡ b → m ≡ n → _≡_ {A = 
 pressed-is e f = rw (e, f)
 
 -- of a press there is one answer, and the later arrays are one pair of lists
-pub one-press : (d : presses.Outcome) (r s : Pressed) (times ts : List Float) (codes cs : List ℕ)
-    → outcome (r .refusal) (script times codes (r .count)) ≡ d → outcome (s .refusal) (script ts cs (s .count)) ≡ d
-    → (r ≡ s) × (times ≡ ts) × (codes ≡ cs)
-one-press d r s times ts codes cs h k =
-    let e : outcome (r .refusal) (script times codes (r .count)) ≡ outcome (s .refusal) (script ts cs (s .count)) =
+pub one-press : (d : presses.Outcome) (r s : Pressed) (starts ts : List Float) (codes cs : List ℕ)
+    → outcome (r .refusal) (script starts codes (r .count)) ≡ d → outcome (s .refusal) (script ts cs (s .count)) ≡ d
+    → (r ≡ s) × (starts ≡ ts) × (codes ≡ cs)
+one-press d r s starts ts codes cs h k =
+    let e : outcome (r .refusal) (script starts codes (r .count)) ≡ outcome (s .refusal) (script ts cs (s .count)) =
     unique h k in (
       pressed-is (number-tells (r .refusal) (s .refusal) (ap (λ (o : presses.Outcome). o .refusal) e))
           (ap (λ (o : presses.Outcome). o .script .count) e),
-      ap (λ (o : presses.Outcome). o .script .times) e,
+      ap (λ (o : presses.Outcome). o .script .starts) e,
       ap (λ (o : presses.Outcome). o .script .codes) e,
     )
 
@@ -53,9 +53,9 @@ one-sync d a b m n h k =
     (ap (λ (l : Lines). l .applied) e, ap (λ (l : Lines). l .gpio) e)
 
 -- of a wipe there is one state
-pub one-clear : (d : Buttons) (k l : Keys) (times ts : List Float) (codes cs : List ℕ) → buttons times codes k ≡ d
+pub one-clear : (d : Buttons) (k l : Keys) (starts ts : List Float) (codes cs : List ℕ) → buttons starts codes k ≡ d
     → buttons ts cs l ≡ d
-    → (k ≡ l) × (times ≡ ts) × (codes ≡ cs)
-one-clear d k l times ts codes cs g h =
-    let e : buttons times codes k ≡ buttons ts cs l = unique g h in
-    (ap (λ (b : Buttons). b .keys) e, ap (λ (b : Buttons). b .times) e, ap (λ (b : Buttons). b .codes) e)
+    → (k ≡ l) × (starts ≡ ts) × (codes ≡ cs)
+one-clear d k l starts ts codes cs g h =
+    let e : buttons starts codes k ≡ buttons ts cs l = unique g h in
+    (ap (λ (b : Buttons). b .keys) e, ap (λ (b : Buttons). b .starts) e, ap (λ (b : Buttons). b .codes) e)

@@ -22,14 +22,14 @@ edgesOf k now t = afterOf now (afterOf now t k) (endOf k)
 
 -- of the first n presses
 unfoldable pub edgesFrom : List Float → Float → Float → ℕ → Float
-edgesFrom times now t zero = t
-edgesFrom times now t (suc n) = edgesOf (getD times n nan) now (edgesFrom times now t n)
+edgesFrom starts now t zero = t
+edgesFrom starts now t (suc n) = edgesOf (getD starts n nan) now (edgesFrom starts now t n)
 
 unfoldable pub pressEdges : List Float → ℕ → Float → Float → Float
-pressEdges times count now t = edgesFrom times now t (placesOf count)
+pressEdges starts count now t = edgesFrom starts now t (placesOf count)
 
 unfoldable pub holdEdges : Holds → Float → Float → Float
 holdEdges h now t = afterOf now (afterOf now (afterOf now t (h .a)) (h .b)) (h .c)
 
 unfoldable pub nextEdge : List Float → Keys → Float → Float → Float
-nextEdge times k now t = holdEdges (k .holds) now (pressEdges times (k .count) now t)
+nextEdge starts k now t = holdEdges (k .holds) now (pressEdges starts (k .count) now t)

@@ -12,12 +12,12 @@ use Rattle.keys.specs.declared.Refusal.the-variants.{Done, BadKey, BadTi
 
 -- the presses' times and codes, and the rest
 pub record Buttons : Type 0 where
-  pub times : List Float
+  pub starts : List Float
   pub codes : List ℕ
   pub keys : Keys
 
 abbrev pub buttons : List Float → List ℕ → Keys → Buttons
-buttons times codes keys = record { times = times; codes = codes; keys = keys }
+buttons starts codes keys = record { starts = starts; codes = codes; keys = keys }
 
 -- Refusal numbers: 0 done, 8 BadKey, 1 BadTime, 3 KeysFull
 abbrev pub numberOf : Refusal → ℕ

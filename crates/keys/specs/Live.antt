@@ -94,8 +94,8 @@ also h t code now = record {
 
 -- the first n presses more
 unfoldable pub heldFrom : List Float → List ℕ → Held → Float → ℕ → Held
-heldFrom times codes h now zero = h
-heldFrom times codes h now (suc n) = also (heldFrom times codes h now n) (getD times n nan) (getD codes n 0) now
+heldFrom starts codes h now zero = h
+heldFrom starts codes h now (suc n) = also (heldFrom starts codes h now n) (getD starts n nan) (getD codes n 0) now
 
 unfoldable pub heldOf : List Float → List ℕ → Keys → Float → Held
-heldOf times codes k now = heldFrom times codes (tapped (k .live) (k .holds) now) now (placesOf (k .count))
+heldOf starts codes k now = heldFrom starts codes (tapped (k .live) (k .holds) now) now (placesOf (k .count))

@@ -19,19 +19,19 @@ use Rattle.keys.specs.Within.{scriptOf, withCount}
 
 -- Vec<(f64, Key)>, the times and the keys apart
 pub record Pushed : Type 0 where
-  pub times : List Float
+  pub starts : List Float
   pub codes : List ℕ
 
 unfoldable pub push : Pushed → Float → ℕ → Pushed
-push v at key = record { times = v .times ++ (at ∷ []); codes = v .codes ++ (key ∷ []) }
+push v at key = record { starts = v .starts ++ (at ∷ []); codes = v .codes ++ (key ∷ []) }
 
 -- keys_held, with the loop over the whole list
 unfoldable pub rustHeld : Pushed → Keys → Float → Held
-rustHeld v k now = heldFrom (v .times) (v .codes) (tapped (k .live) (k .holds) now) now (length (v .times))
+rustHeld v k now = heldFrom (v .starts) (v .codes) (tapped (k .live) (k .holds) now) now (length (v .starts))
 
 -- next_event's loops over key_script and hold_until
 unfoldable pub rustEdge : Pushed → Keys → Float → Float → Float
-rustEdge v k now t = holdEdges (k .holds) now (edgesFrom (v .times) now t (length (v .times)))
+rustEdge v k now t = holdEdges (k .holds) now (edgesFrom (v .starts) now t (length (v .starts)))
 
 -- ---- a run: presses are asked for, and time goes on
 
@@ -49,7 +49,7 @@ abbrev pub sides : Script → Pushed → Float → Sides
 sides s v now = record { script = s; list = v; now = now }
 
 unfoldable pub freshSides : Sides
-freshSides = sides (scriptOf freshButtons) (record { times = []; codes = [] }) nought
+freshSides = sides (scriptOf freshButtons) (record { starts = []; codes = [] }) nought
 
 unfoldable pub sidesAfter : Sides → Act → Sides
 sidesAfter s (presses key at) =
@@ -70,14 +70,14 @@ Onward now (goes time ∷ acts) = T (goodTime time) × T (le now time) × Onward
 
 -- the same keys are down
 abbrev pub SameHeld : Sides → Keys → Type 0
-SameHeld s k = heldOf (s .script .times) (s .script .codes) (withCount k (s .script .count)) (s .now) ≡ rustHeld
+SameHeld s k = heldOf (s .script .starts) (s .script .codes) (withCount k (s .script .count)) (s .now) ≡ rustHeld
     (s .list) k (s .now)
 
 -- and the next edge is the same float, from an f64 that is finite with a clear sign
 abbrev pub SameEdge : Sides → Keys → Type 0
 SameEdge s k =
     (t : Float) → T (fits binary64 t) → Clear t
-    → nextEdge (s .script .times) (withCount k (s .script .count)) (s .now) t ≡ rustEdge (s .list) k (s .now) t
+    → nextEdge (s .script .starts) (withCount k (s .script .count)) (s .now) t ≡ rustEdge (s .list) k (s .now) t
 
 -- whatever comes, from the fresh state on
 abbrev pub AsRust : Type 0

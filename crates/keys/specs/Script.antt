@@ -24,16 +24,17 @@ placesOf count = cond (ltb count 64) count 64
 
 -- how many of the first n presses wait
 unfoldable pub waitingIn : List Float → Float → ℕ → ℕ
-waitingIn times now zero = 0
-waitingIn times now (suc n) = cond (waits (getD times n nan) now) (waitingIn times now n + 1) (waitingIn times now n)
+waitingIn starts now zero = 0
+waitingIn starts now (suc n) = cond (waits (getD starts n nan) now) (waitingIn starts now n + 1)
+    (waitingIn starts now n)
 
 -- of n places from the i-th on, the first whose press has expired; past them if there is none
 unfoldable pub freeFrom : ℕ → ℕ → List Float → Float → ℕ
-freeFrom zero i times now = i
-freeFrom (suc n) i times now = cond (waits (getD times i nan) now) (freeFrom n (i + 1) times now) i
+freeFrom zero i starts now = i
+freeFrom (suc n) i starts now = cond (waits (getD starts i nan) now) (freeFrom n (i + 1) starts now) i
 
 unfoldable pub freeOf : List Float → ℕ → Float → ℕ
-freeOf times count now = freeFrom (placesOf count) 0 times now
+freeOf starts count now = freeFrom (placesOf count) 0 starts now
 
 -- the count once a place holds a press
 unfoldable pub countedOf : ℕ → ℕ → ℕ
@@ -42,12 +43,12 @@ countedOf place count = cond (ltb place (placesOf count)) (placesOf count) (plac
 -- ---- a press
 
 pub record Script : Type 0 where
-  pub times : List Float
+  pub starts : List Float
   pub codes : List ℕ
   pub count : ℕ
 
 abbrev pub script : List Float → List ℕ → ℕ → Script
-script times codes count = record { times = times; codes = codes; count = count }
+script starts codes count = record { starts = starts; codes = codes; count = count }
 
 pub record Outcome : Type 0 where
   pub refusal : ℕ
@@ -58,13 +59,13 @@ outcome r s = record { refusal = numberOf r; script = s }
 
 -- a press at a place
 unfoldable pub placed : Script → ℕ → ℕ → Float → Script
-placed s place code at = script (set (s .times) place at) (set (s .codes) place code) (countedOf place (s .count))
+placed s place code at = script (set (s .starts) place at) (set (s .codes) place code) (countedOf place (s .count))
 
 -- at the first place that has expired, or after the last
 unfoldable pub putOf : Script → ℕ → Float → Float → Outcome
 putOf s code at now =
-    cond (ltb (freeOf (s .times) (s .count) now) 64)
-    (outcome Done (placed s (freeOf (s .times) (s .count) now) code at)) (outcome KeysFull s)
+    cond (ltb (freeOf (s .starts) (s .count) now) 64)
+    (outcome Done (placed s (freeOf (s .starts) (s .count) now) code at)) (outcome KeysFull s)
 
 -- key not 0, 1 or 2; then a time that is not good; then no place
 unfoldable pub pressOf : Script → ℕ → Float → Float → Outcome

@@ -20,10 +20,10 @@ pub record Press (t : Float) (code : ℕ) : Type 0 where
   pub key : code ≤ 2
 
 pub record Within (b : Buttons) : Type 0 where
-  pub times : length (b .times) ≡ 64
+  pub starts : length (b .starts) ≡ 64
   pub codes : length (b .codes) ≡ 64
   pub count : b .keys .count ≤ 64
-  pub presses : (i : ℕ) → i < placesOf (b .keys .count) → Press (getD (b .times) i nan) (getD (b .codes) i 0)
+  pub presses : (i : ℕ) → i < placesOf (b .keys .count) → Press (getD (b .starts) i nan) (getD (b .codes) i 0)
   pub hold-a : T (goodTime (b .keys .holds .a))
   pub hold-b : T (goodTime (b .keys .holds .b))
   pub hold-c : T (goodTime (b .keys .holds .c))
@@ -33,7 +33,7 @@ pub record Within (b : Buttons) : Type 0 where
 -- ---- the state after an operation on a part of it
 
 abbrev pub scriptOf : Buttons → Script
-scriptOf b = script (b .times) (b .codes) (b .keys .count)
+scriptOf b = script (b .starts) (b .codes) (b .keys .count)
 
 abbrev pub withCount : Keys → ℕ → Keys
 withCount k count = record { count = count; live = k .live; holds = k .holds; applied = k .applied }
@@ -42,10 +42,10 @@ abbrev pub withApplied : Keys → ℕ → Keys
 withApplied k applied = record { count = k .count; live = k .live; holds = k .holds; applied = applied }
 
 abbrev pub withScript : Buttons → Script → Buttons
-withScript b s = buttons (s .times) (s .codes) (withCount (b .keys) (s .count))
+withScript b s = buttons (s .starts) (s .codes) (withCount (b .keys) (s .count))
 
 abbrev pub withKeys : Buttons → Keys → Buttons
-withKeys b k = buttons (b .times) (b .codes) k
+withKeys b k = buttons (b .starts) (b .codes) k
 
 -- ---- a press
 
@@ -56,9 +56,9 @@ isDown h key = cond (eqb key 0) (h .a) (cond (eqb key 1) (h .b) (h .c))
 -- a press that waits stands where it stood
 pub record Stands (old new : Script) (i : ℕ) : Type 0 where
   pub place : i < placesOf (new .count)
-  pub time : getD (new .times) i nan ≡ getD (old .times) i nan
+  pub time : getD (new .starts) i nan ≡ getD (old .starts) i nan
   pub code : getD (new .codes) i 0 ≡ getD (old .codes) i 0
 
 abbrev pub NoneLost : Script → Script → Float → Type 0
-NoneLost old new now = (i : ℕ) → i < placesOf (old .count) → waits (getD (old .times) i nan) now ≡ true
+NoneLost old new now = (i : ℕ) → i < placesOf (old .count) → waits (getD (old .starts) i nan) now ≡ true
     → Stands old new i

@@ -24,14 +24,14 @@ fn edges(k: f64, time: f64, t: f64) -> f64
     after(time, after(time, t, k), k + 0.15)
 }
 
-fn press_edges(times: &[f64; 64], count: usize, time: f64, t: f64) -> f64
-    ensures { λ r. ⌜ r ≡ pressEdges (now (times .entry)) count time t ⌝ }
+fn press_edges(starts: &[f64; 64], count: usize, time: f64, t: f64) -> f64
+    ensures { λ r. ⌜ r ≡ pressEdges (now (starts .entry)) count time t ⌝ }
 {
     let n = places(count);
     let mut r = t;
     let mut i = 0usize;
     while i < n {
-        r = edges(times[i], time, r);
+        r = edges(starts[i], time, r);
         i += 1usize;
     }
     r
@@ -44,8 +44,8 @@ fn hold_edges(holds: Holds, time: f64, t: f64) -> f64
 }
 
 // The earliest of t and of the keys' edges after `time`.
-pub fn next_edge(times: &[f64; 64], keys: Keys, time: f64, t: f64) -> f64
-    ensures { λ r. ⌜ r ≡ nextEdge (now (times .entry)) keys time t ⌝ }
+pub fn next_edge(starts: &[f64; 64], keys: Keys, time: f64, t: f64) -> f64
+    ensures { λ r. ⌜ r ≡ nextEdge (now (starts .entry)) keys time t ⌝ }
 {
-    hold_edges(keys.holds, time, press_edges(times, keys.count, time, t))
+    hold_edges(keys.holds, time, press_edges(starts, keys.count, time, t))
 }

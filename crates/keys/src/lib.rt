@@ -72,10 +72,10 @@ pub fn fresh() -> Keys
 }
 
 // The wipe: no presses, whatever the arrays held.
-pub fn clear(times: &mut [f64; 64], codes: &mut [u8; 64]) -> Keys
-    ensures { λ r. ⌜ buttons (now (times .exit)) (now (codes .exit)) r ≡ freshButtons ⌝ }
+pub fn clear(starts: &mut [f64; 64], codes: &mut [u8; 64]) -> Keys
+    ensures { λ r. ⌜ buttons (now (starts .exit)) (now (codes .exit)) r ≡ freshButtons ⌝ }
 {
-    *times = [0.0; 64];
+    *starts = [0.0; 64];
     *codes = [0; 64];
     fresh()
 }

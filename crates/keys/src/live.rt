@@ -84,15 +84,15 @@ fn also(held: Held, t: f64, code: u8, time: f64) -> Held
 
 // Whether any of the 8 presses from a place on is down. It looks at all of them and never stops early, so that several
 // are compared at once.
-fn any_down(times: &[f64; 64], from: usize, time: f64) -> bool
+fn any_down(starts: &[f64; 64], from: usize, time: f64) -> bool
     requires { ⌜ from + 8 ≤ 64 ⌝ }
     ensures { λ r. ⌜ (r ≡ false → (j : ℕ) → j < 8
-        → downOf (getD (now (times .entry)) (from + j) nan) time ≡ false) ⌝ }
+        → downOf (getD (now (starts .entry)) (from + j) nan) time ≡ false) ⌝ }
 {
     let mut on = false;
     let mut i = 0usize;
     while i < 8 {
-        on = on | down(times[from + i], time);
+        on = on | down(starts[from + i], time);
         i += 1usize;
     }
     on
@@ -100,7 +100,7 @@ fn any_down(times: &[f64; 64], from: usize, time: f64) -> bool
 
 // The presses from a place up to another more, one by one.
 fn also_each(
-    times: &[f64; 64],
+    starts: &[f64; 64],
     codes: &[u8; 64],
     from: usize,
     to: usize,
@@ -108,41 +108,41 @@ fn also_each(
     start: Held,
 ) -> Held
     requires { ⌜ (from ≤ to) × (to ≤ 64) ⌝ }
-    ensures { λ r. ⌜ ((h : Held) → start ≡ heldFrom (now (times .entry)) (now (codes .entry)) h time from
-        → r ≡ heldFrom (now (times .entry)) (now (codes .entry)) h time to) ⌝ }
+    ensures { λ r. ⌜ ((h : Held) → start ≡ heldFrom (now (starts .entry)) (now (codes .entry)) h time from
+        → r ≡ heldFrom (now (starts .entry)) (now (codes .entry)) h time to) ⌝ }
 {
     let mut held = start;
     let mut i = from;
     while i < to {
-        held = also(held, times[i], codes[i], time);
+        held = also(held, starts[i], codes[i], time);
         i += 1usize;
     }
     held
 }
 
 // The presses of 8 places more. Mostly none of them is down, and then nothing changes.
-fn also_block(times: &[f64; 64], codes: &[u8; 64], from: usize, time: f64, held: Held) -> Held
+fn also_block(starts: &[f64; 64], codes: &[u8; 64], from: usize, time: f64, held: Held) -> Held
     requires { ⌜ from + 8 ≤ 64 ⌝ }
-    ensures { λ r. ⌜ ((h : Held) → held ≡ heldFrom (now (times .entry)) (now (codes .entry)) h time from
-        → r ≡ heldFrom (now (times .entry)) (now (codes .entry)) h time (from + 8)) ⌝ }
+    ensures { λ r. ⌜ ((h : Held) → held ≡ heldFrom (now (starts .entry)) (now (codes .entry)) h time from
+        → r ≡ heldFrom (now (starts .entry)) (now (codes .entry)) h time (from + 8)) ⌝ }
 {
-    if any_down(times, from, time) {
-        return also_each(times, codes, from, from + 8, time, held);
+    if any_down(starts, from, time) {
+        return also_each(starts, codes, from, from + 8, time, held);
     }
     held
 }
 
 // Which keys are down at `time` (scripted, live, or a tap still held). The presses are asked 8 at a time, as far as 8
 // are left.
-pub fn keys_held(times: &[f64; 64], codes: &[u8; 64], keys: Keys, time: f64) -> Held
-    ensures { λ r. ⌜ r ≡ heldOf (now (times .entry)) (now (codes .entry)) keys time ⌝ }
+pub fn keys_held(starts: &[f64; 64], codes: &[u8; 64], keys: Keys, time: f64) -> Held
+    ensures { λ r. ⌜ r ≡ heldOf (now (starts .entry)) (now (codes .entry)) keys time ⌝ }
 {
     let n = places(keys.count);
     let mut held = tapped(keys.live, keys.holds, time);
     let mut i = 0usize;
     while i + 8 <= n {
-        held = also_block(times, codes, i, time, held);
+        held = also_block(starts, codes, i, time, held);
         i += 8usize;
     }
-    also_each(times, codes, i, n, time, held)
+    also_each(starts, codes, i, n, time, held)
 }

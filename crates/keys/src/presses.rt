@@ -25,13 +25,13 @@ fn expired(t: f64, time: f64) -> bool
 }
 
 // The first place whose press has expired, or the place after the last.
-fn free(times: &[f64; 64], count: usize, time: f64) -> usize
-    ensures { λ r. ⌜ r ≡ freeOf (now (times .entry)) count time ⌝ }
+fn free(starts: &[f64; 64], count: usize, time: f64) -> usize
+    ensures { λ r. ⌜ r ≡ freeOf (now (starts .entry)) count time ⌝ }
 {
     let n = places(count);
     let mut i = 0usize;
     while i < n {
-        if expired(times[i], time) {
+        if expired(starts[i], time) {
             return i;
         }
         i += 1usize;
@@ -51,19 +51,19 @@ fn counted(place: usize, count: usize) -> usize
 }
 
 fn put(
-    times: &mut [f64; 64],
+    starts: &mut [f64; 64],
     codes: &mut [u8; 64],
     count: usize,
     code: u8,
     at: f64,
     time: f64,
 ) -> Pressed
-    ensures { λ r. ⌜ outcome (r .refusal) (script (now (times .exit)) (now (codes .exit)) (r .count))
-        ≡ putOf (script (now (times .entry)) (now (codes .entry)) count) code at time ⌝ }
+    ensures { λ r. ⌜ outcome (r .refusal) (script (now (starts .exit)) (now (codes .exit)) (r .count))
+        ≡ putOf (script (now (starts .entry)) (now (codes .entry)) count) code at time ⌝ }
 {
-    let place = free(&*times, count, time);
+    let place = free(&*starts, count, time);
     if place < 64 {
-        times[place] = at;
+        starts[place] = at;
         codes[place] = code;
         return Pressed {
             refusal: Refusal::Done,
@@ -78,15 +78,15 @@ fn put(
 
 // A press of `key` at a time, asked for at `time`.
 pub fn press(
-    times: &mut [f64; 64],
+    starts: &mut [f64; 64],
     codes: &mut [u8; 64],
     count: usize,
     key: u32,
     at: f64,
     time: f64,
 ) -> Pressed
-    ensures { λ r. ⌜ outcome (r .refusal) (script (now (times .exit)) (now (codes .exit)) (r .count))
-        ≡ pressOf (script (now (times .entry)) (now (codes .entry)) count) key at time ⌝ }
+    ensures { λ r. ⌜ outcome (r .refusal) (script (now (starts .exit)) (now (codes .exit)) (r .count))
+        ≡ pressOf (script (now (starts .entry)) (now (codes .entry)) count) key at time ⌝ }
 {
     if key > 2 {
         return Pressed {
@@ -95,7 +95,7 @@ pub fn press(
         };
     }
     if whole::limits::good_time(at) {
-        return put(times, codes, count, key as u8, at, time);
+        return put(starts, codes, count, key as u8, at, time);
     }
     Pressed {
         refusal: Refusal::BadTime,
@@ -105,19 +105,19 @@ pub fn press(
 
 // The same from the bits of a float, as scripts have them: no NaN's pattern becomes a float.
 pub fn press_bits(
-    times: &mut [f64; 64],
+    starts: &mut [f64; 64],
     codes: &mut [u8; 64],
     count: usize,
     key: u32,
     bits: u64,
     time: f64,
 ) -> Pressed
-    ensures { λ r. ⌜ outcome (r .refusal) (script (now (times .exit)) (now (codes .exit)) (r .count))
-        ≡ pressOf (script (now (times .entry)) (now (codes .entry)) count) key (ofBits binary64 bits) time ⌝ }
+    ensures { λ r. ⌜ outcome (r .refusal) (script (now (starts .exit)) (now (codes .exit)) (r .count))
+        ≡ pressOf (script (now (starts .entry)) (now (codes .entry)) count) key (ofBits binary64 bits) time ⌝ }
 {
     let at = whole::limits::time_of(bits);
     match at {
-        Checked::Good(x) => press(times, codes, count, key, x, time),
+        Checked::Good(x) => press(starts, codes, count, key, x, time),
         Checked::Bad => {
             if key > 2 {
                 Pressed {

@@ -104,6 +104,9 @@ RTC-IRQ-STATUS = RTC-IRQ-BASE + 0x54
 abbrev pub RTC-IRQ-ENABLE : ℕ
 RTC-IRQ-ENABLE = RTC-IRQ-BASE + 0x58
 
+abbrev pub RTC-TICK-BIT : ℕ
+RTC-TICK-BIT = 0x2
+
 -- ---- the second SPI, the RTC chip's bus, the ADC, the flash's controller
 
 abbrev pub SPI2-BASE : ℕ
@@ -117,6 +120,9 @@ SPI2-STATUS = SPI2-BASE + 0x0C
 
 abbrev pub SPI2-ANSWER : ℕ
 SPI2-ANSWER = SPI2-BASE + 0x10
+
+abbrev pub SPI2-IDLE : ℕ
+SPI2-IDLE = 0x00
 
 abbrev pub RTC-BUS : ℕ
 RTC-BUS = 0xC0090000
@@ -144,6 +150,9 @@ ADC-CONTROL = ADC-BASE + 0x04
 
 abbrev pub ADC-RESULT : ℕ
 ADC-RESULT = ADC-BASE + 0x08
+
+abbrev pub ADC-BATTERY : ℕ
+ADC-BATTERY = 0xC000
 
 abbrev pub SPIFC-BASE : ℕ
 SPIFC-BASE = 0xC0150000
@@ -200,6 +209,20 @@ LCD-STATUS = LCD-BASE + 0x18C
 
 abbrev pub LCD-DMA : ℕ
 LCD-DMA = LCD-BASE + 0x33C
+
+-- ---- the interrupt controller's lines, in the order in which they come
+
+abbrev pub RTC-IRQ : ℕ
+RTC-IRQ = 1
+
+abbrev pub TIMER-IRQ : ℕ
+TIMER-IRQ = 8
+
+abbrev pub LCD-IRQ : ℕ
+LCD-IRQ = 27
+
+abbrev pub ADC-IRQ : ℕ
+ADC-IRQ = 29
 
 -- ---- refusals
 

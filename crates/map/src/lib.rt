@@ -75,6 +75,8 @@ pub const RTC_IRQ_STATUS: u32 = RTC_IRQ_BASE + 0x54;
 
 pub const RTC_IRQ_ENABLE: u32 = RTC_IRQ_BASE + 0x58;
 
+pub const RTC_TICK_BIT: u32 = 0x2;
+
 // ---- the second SPI, the RTC chip's bus, the ADC, the flash's controller
 
 pub const SPI2_BASE: u32 = 0xC008_0000;
@@ -84,6 +86,8 @@ pub const SPI2_SEND: u32 = SPI2_BASE + 0x08;
 pub const SPI2_STATUS: u32 = SPI2_BASE + 0x0C;
 
 pub const SPI2_ANSWER: u32 = SPI2_BASE + 0x10;
+
+pub const SPI2_IDLE: u32 = 0x00;
 
 pub const RTC_BUS: u32 = 0xC009_0000;
 
@@ -102,6 +106,8 @@ pub const ADC_BASE: u32 = 0xC00C_0000;
 pub const ADC_CONTROL: u32 = ADC_BASE + 0x04;
 
 pub const ADC_RESULT: u32 = ADC_BASE + 0x08;
+
+pub const ADC_BATTERY: u32 = 0xC000;
 
 pub const SPIFC_BASE: u32 = 0xC015_0000;
 
@@ -140,6 +146,16 @@ pub const LCD_ENABLE: u32 = LCD_BASE + 0x188;
 pub const LCD_STATUS: u32 = LCD_BASE + 0x18C;
 
 pub const LCD_DMA: u32 = LCD_BASE + 0x33C;
+
+// ---- the interrupt controller's lines, in the order in which they come
+
+pub const RTC_IRQ: u32 = 1;
+
+pub const TIMER_IRQ: u32 = 8;
+
+pub const LCD_IRQ: u32 = 27;
+
+pub const ADC_IRQ: u32 = 29;
 
 // ---- refusals
 

@@ -13,11 +13,11 @@ laid : (s k old m w v : ℕ) → (0xFFFFFFFF - m) / 2 ^ s % 2 ^ k ≡ 0 → m / 
     → w / 2 ^ s % 2 ^ k ≡ v % 2 ^ k
     → bitOr (bitAnd old (0xFFFFFFFF - m)) (bitAnd w m) / 2 ^ s % 2 ^ k ≡ v % 2 ^ k
 laid s k old m w v p q e =
-    let kept : bitAnd old (0xFFFFFFFF - m) / 2 ^ s % 2 ^ k ≡ 0 = rw (and-shr, and-mod, p)
+    let outside : bitAnd old (0xFFFFFFFF - m) / 2 ^ s % 2 ^ k ≡ 0 = rw (and-shr, and-mod, p)
     (and-zero-r (old / 2 ^ s % 2 ^ k)) in
     let new : bitAnd w m / 2 ^ s % 2 ^ k ≡ v % 2 ^ k = rw (and-shr, and-mod, q, e)
     (and-mask (v % 2 ^ k) k ∙ mod-mod v (2 ^ k)) in
-    rw (or-shr, or-mod, kept, new) (or-zero-l (v % 2 ^ k))
+    rw (or-shr, or-mod, outside, new) (or-zero-l (v % 2 ^ k))
 
 -- the mask of an access at byte r of the word
 abbrev maskAt : ℕ → ℕ → ℕ

@@ -11,6 +11,8 @@ use lib.ListN.{length, getD, set, length-set}
 use lib.Seq.{sets}
 use lib.Dec.{leb}
 use borrow.Author.Tests.{le-leb, lt-leb, eq-eqb, ne-eqb}
+use Rattle.map.specs.Numbers.{FLASH-BASE, RAM-SIZE, SRAM-BASE, SRAM-SIZE, SRAM-END, GPIO-BASE, GPIO-SIZE, GPIO-END}
+use Rattle.map.specs.Numbers.{REGISTERS-END}
 use Rattle.whole.proofs.Bits.{lt-or-ge}
 use Rattle.whole.proofs.Words.{either}
 use Rattle.memory.specs.declared.Place.the-variants.{Ram, Sram, Gpio, Register, Stray}
@@ -45,41 +47,45 @@ module _ (first last a : ℕ) where
       (lt-or-ge a first)
 
 module _ (a : ℕ) where
-  no-ram : a / 0x1000000 ≢ 0x20 → within 0x20000000 0x20FFFFFF a ≡ false
-  no-ram = within-else 0x20000000 0x20FFFFFF a 0x20 (omega arith) (omega arith)
+  no-ram : a / 0x1000000 ≢ 0x20 → within FLASH-BASE (FLASH-BASE + RAM-SIZE - 1) a ≡ false
+  no-ram = within-else FLASH-BASE (FLASH-BASE + RAM-SIZE - 1) a 0x20 (omega arith) (omega arith)
 
-  no-sram : a / 0x1000000 ≢ 0xF8 → within 0xF8000000 0xF80FFFFF a ≡ false
-  no-sram = within-else 0xF8000000 0xF80FFFFF a 0xF8 (omega arith) (omega arith)
+  no-sram : a / 0x1000000 ≢ 0xF8 → within SRAM-BASE (SRAM-BASE + SRAM-SIZE - 1) a ≡ false
+  no-sram = within-else SRAM-BASE (SRAM-BASE + SRAM-SIZE - 1) a 0xF8 (omega arith) (omega arith)
 
-  no-gpio : a / 0x1000000 ≢ 0xC0 → within 0xC0000000 0xC0000FFF a ≡ false
-  no-gpio = within-else 0xC0000000 0xC0000FFF a 0xC0 (omega arith) (omega arith)
+  no-gpio : a / 0x1000000 ≢ 0xC0 → within GPIO-BASE (GPIO-BASE + GPIO-SIZE - 1) a ≡ false
+  no-gpio = within-else GPIO-BASE (GPIO-BASE + GPIO-SIZE - 1) a 0xC0 (omega arith) (omega arith)
 
-  no-low : a / 0x1000000 ≢ 0xC0 → within 0xC0001000 0xC0FFFFFF a ≡ false
-  no-low = within-else 0xC0001000 0xC0FFFFFF a 0xC0 (omega arith) (omega arith)
+  no-low : a / 0x1000000 ≢ 0xC0 → within GPIO-END 0xC0FFFFFF a ≡ false
+  no-low = within-else GPIO-END 0xC0FFFFFF a 0xC0 (omega arith) (omega arith)
 
   no-middle : a / 0x1000000 ≢ 0xD0 → within 0xD0000000 0xD0FFFFFF a ≡ false
   no-middle = within-else 0xD0000000 0xD0FFFFFF a 0xD0 (omega arith) (omega arith)
 
-  no-high : a / 0x1000000 ≢ 0xFF → within 0xFF000000 0xFFFFEFFF a ≡ false
-  no-high = within-else 0xFF000000 0xFFFFEFFF a 0xFF (omega arith) (omega arith)
+  no-high : a / 0x1000000 ≢ 0xFF → within 0xFF000000 (REGISTERS-END - 1) a ≡ false
+  no-high = within-else 0xFF000000 (REGISTERS-END - 1) a 0xFF (omega arith) (omega arith)
 
   -- 0x20
-  pub place-ram : a / 0x1000000 ≡ 0x20 → Ram (a - 0x20000000) ≡ placeOf a
+  pub place-ram : a / 0x1000000 ≡ 0x20 → Ram (a - FLASH-BASE) ≡ placeOf a
   unfolding placeOf
-  place-ram k = rw (within-yes 0x20000000 0x20FFFFFF a (omega arith) (omega arith))
+  place-ram k = rw (within-yes FLASH-BASE (FLASH-BASE + RAM-SIZE - 1) a (omega arith) (omega arith))
 
   -- 0xF8
   module _ (k : a / 0x1000000 ≡ 0xF8) where
-    pub place-sram : a < 0xF8100000 → Sram (a - 0xF8000000) ≡ placeOf a
+    pub place-sram : a < SRAM-END → Sram (a - SRAM-BASE) ≡ placeOf a
     unfolding placeOf
-    place-sram h = rw (no-ram (λ z. omega arith), within-yes 0xF8000000 0xF80FFFFF a (omega arith) (omega arith))
+    place-sram h = rw (
+      no-ram (λ z. omega arith),
+      within-yes SRAM-BASE (SRAM-BASE + SRAM-SIZE - 1) a (omega arith)
+          (omega arith),
+    )
 
-    pub past-sram : 0xF8100000 ≤ a → Stray ≡ placeOf a
+    pub past-sram : SRAM-END ≤ a → Stray ≡ placeOf a
     unfolding placeOf isRegister
     past-sram h =
         rw (
           no-ram (λ z. omega arith),
-          within-past 0xF8000000 0xF80FFFFF a (omega arith),
+          within-past SRAM-BASE (SRAM-BASE + SRAM-SIZE - 1) a (omega arith),
           no-gpio (λ z. omega arith),
           no-low (λ z. omega arith),
           no-middle (λ z. omega arith),
@@ -88,24 +94,24 @@ module _ (a : ℕ) where
 
   -- 0xC0
   module _ (k : a / 0x1000000 ≡ 0xC0) where
-    pub place-gpio : a < 0xC0001000 → Gpio (a - 0xC0000000) ≡ placeOf a
+    pub place-gpio : a < GPIO-END → Gpio (a - GPIO-BASE) ≡ placeOf a
     unfolding placeOf
     place-gpio h =
         rw (
           no-ram (λ z. omega arith),
           no-sram (λ z. omega arith),
-          within-yes 0xC0000000 0xC0000FFF a (omega arith)
+          within-yes GPIO-BASE (GPIO-BASE + GPIO-SIZE - 1) a (omega arith)
               (omega arith),
         )
 
-    pub place-low : 0xC0001000 ≤ a → Register ≡ placeOf a
+    pub place-low : GPIO-END ≤ a → Register ≡ placeOf a
     unfolding placeOf isRegister
     place-low h =
         rw (
           no-ram (λ z. omega arith),
           no-sram (λ z. omega arith),
-          within-past 0xC0000000 0xC0000FFF a (omega arith),
-          within-yes 0xC0001000 0xC0FFFFFF a (omega arith) (omega arith),
+          within-past GPIO-BASE (GPIO-BASE + GPIO-SIZE - 1) a (omega arith),
+          within-yes GPIO-END 0xC0FFFFFF a (omega arith) (omega arith),
         )
 
   -- 0xD0
@@ -122,7 +128,7 @@ module _ (a : ℕ) where
 
   -- 0xFF
   module _ (k : a / 0x1000000 ≡ 0xFF) where
-    pub place-high : a < 0xFFFFF000 → Register ≡ placeOf a
+    pub place-high : a < REGISTERS-END → Register ≡ placeOf a
     unfolding placeOf isRegister
     place-high h =
         rw (
@@ -131,10 +137,10 @@ module _ (a : ℕ) where
           no-gpio (λ z. omega arith),
           no-low (λ z. omega arith),
           no-middle (λ z. omega arith),
-          within-yes 0xFF000000 0xFFFFEFFF a (omega arith) (omega arith),
+          within-yes 0xFF000000 (REGISTERS-END - 1) a (omega arith) (omega arith),
         )
 
-    pub past-high : 0xFFFFF000 ≤ a → Stray ≡ placeOf a
+    pub past-high : REGISTERS-END ≤ a → Stray ≡ placeOf a
     unfolding placeOf isRegister
     past-high h =
         rw (
@@ -143,7 +149,7 @@ module _ (a : ℕ) where
           no-gpio (λ z. omega arith),
           no-low (λ z. omega arith),
           no-middle (λ z. omega arith),
-          within-past 0xFF000000 0xFFFFEFFF a (omega arith),
+          within-past 0xFF000000 (REGISTERS-END - 1) a (omega arith),
         )
 
   -- any other

@@ -6,7 +6,7 @@ use mathlib.Core.Logic.{_≢_}
 use lib.ListN.{length, set}
 use native.Mathlib.Omega.{arith}
 use borrow.Author.Tests.{lt-ltb, le-ltb, eq-eqb, ne-eqb}
-use Rattle.panel.specs.declared.Held.the-variants.{Nothing, Byte}
+use Rattle.panel.specs.declared.MaybeByte.the-variants.{Nothing, Byte}
 use Rattle.panel.specs.declared.Window.{Window}
 use Rattle.panel.specs.declared.Pen.{Pen}
 use Rattle.panel.specs.declared.Panel.{Panel}

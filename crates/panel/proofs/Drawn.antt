@@ -6,7 +6,8 @@ use lib.Bits.{and-mask}
 use lib.ListN.{length, getD, set}
 use native.Mathlib.Omega.{arith}
 use Rattle.panel.specs.declared.Colours.{Colours}
-use Rattle.panel.specs.Colour.{parted, fromLe, pushed, rgbOf, coloursAt, pixelAt, tripleAt, over, triple}
+use Rattle.panel.specs.Colour.{parted, fromLe, pushed, rgbOf, coloursAt, pixelAt, tripleAt, over}
+use Rattle.panel.specs.Inner.{triple}
 
 -- the masks as remainders
 pub parted-is : (v : ℕ)

@@ -6,8 +6,8 @@ use mathlib.Core.List.{List, [], _∷_}
 use lib.Dec.{ltb, eqb}
 use native.Mathlib.Omega.{arith}
 use native.Mathlib.Decide.{decLt}
-use Rattle.panel.specs.declared.Held.{Held}
-use Rattle.panel.specs.declared.Held.the-variants.{Nothing, Byte}
+use Rattle.panel.specs.declared.MaybeByte.{MaybeByte}
+use Rattle.panel.specs.declared.MaybeByte.the-variants.{Nothing, Byte}
 use Rattle.panel.specs.declared.Window.{Window}
 use Rattle.panel.specs.declared.Pen.{Pen}
 use Rattle.panel.specs.declared.Panel.{Panel}
@@ -74,13 +74,14 @@ pick-same : (t : Bool) (a b c d : Panel) → uncounted a ≡ uncounted c → unc
 pick-same true a b c d p q = p
 pick-same false a b c d p q = q
 
-penned-same : (w : Window) (x y : ℕ) (h : Held) (f g b : ℕ) → sight (penned w (penAt x y h f) b)
+penned-same : (w : Window) (x y : ℕ) (h : MaybeByte) (f g b : ℕ) → sight (penned w (penAt x y h f) b)
     ≡ sight (penned w (penAt x y h g) b)
 unfolding penned
 penned-same w x y Nothing f g b = refl
 penned-same w x y (Byte h) f g b = rw (next-is w x y (Byte h) f, next-is w x y (Byte h) g)
 
-inked-same : (fb : List ℕ) (x y : ℕ) (h : Held) (f g b : ℕ) → inked fb (penAt x y h f) b ≡ inked fb (penAt x y h g) b
+inked-same : (fb : List ℕ) (x y : ℕ) (h : MaybeByte) (f g b : ℕ)
+    → inked fb (penAt x y h f) b ≡ inked fb (penAt x y h g) b
 unfolding inked
 inked-same fb x y Nothing f g b = refl
 inked-same fb x y (Byte h) f g b = refl

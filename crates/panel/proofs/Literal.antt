@@ -10,7 +10,7 @@ use native.Mathlib.Omega.{arith}
 use native.Mathlib.Decide.{decLt}
 use borrow.Author.Tests.{lt-ltb, le-ltb, ne-eqb}
 use Rattle.whole.proofs.Words.{either as pick}
-use Rattle.panel.specs.declared.Held.the-variants.{Nothing, Byte}
+use Rattle.panel.specs.declared.MaybeByte.the-variants.{Nothing, Byte}
 use Rattle.panel.specs.declared.Panel.{Panel}
 use Rattle.panel.specs.Lcd.{penAt, withPen, begun, counts, commanded, counted, put, nextPen, pennedBy, inkedBy}
 use Rattle.panel.specs.Lcd.{penned, inked, codeOf, aimed}
@@ -22,7 +22,7 @@ use Rattle.panel.specs.Rust.{lcdStep, inc32}
 use Rattle.panel.specs.Rust.{inc64, withPosition, withHalf, withFb, withArgs, withColumns, withRows, lcdHalf}
 use Rattle.panel.specs.Rust.{lcdArgs, lcdData, lcdDma}
 use Rattle.panel.specs.Rust.{lcdAfterActs, pairOf}
-use Rattle.panel.specs.AsRust.{heldOf, compact, Bytes, AsRust}
+use Rattle.panel.specs.AsRust.{maybeOf, compact, Bytes, AsRust}
 
 -- ---- command
 as-command : (l : Lcd) (c : ℕ) → compact (lcdCommand l c) ≡ screenAfterCommand (compact l) c
@@ -104,8 +104,8 @@ as-step l hx hy = rw (inc-small (l .x) hx, inc-small (l .y) hy) (go (ltb (l .x1)
 as-half : (l : Lcd) (o : Option) (b : ℕ) → Fits l → b < 256
     → compact (lcdHalf l o b)
     ≡ screen
-    (withPen (compact l .panel) (pennedBy (heldOf o) (compact l .panel .window) (compact l .panel .pen) b))
-    (inkedBy (heldOf o) (l .fb) (compact l .panel .pen) b)
+    (withPen (compact l .panel) (pennedBy (maybeOf o) (compact l .panel .window) (compact l .panel .pen) b))
+    (inkedBy (maybeOf o) (l .fb) (compact l .panel .pen) b)
 unfolding lcdPixel
 as-half l none b f s = refl
 as-half l (some h) b f s =
@@ -114,7 +114,7 @@ as-half l (some h) b f s =
 -- ---- data after another command
 
 -- no command is no byte
-code-is : (o : Option) (c : ℕ) → c < 256 → isSome o c ≡ eqb (codeOf (heldOf o)) c
+code-is : (o : Option) (c : ℕ) → c < 256 → isSome o c ≡ eqb (codeOf (maybeOf o)) c
 code-is none c h = sym (ne-eqb 256 c (λ e. omega arith))
 code-is (some b) c h = refl
 
@@ -133,7 +133,7 @@ as-fourth l a b c d hb hd =
       code-is (l .cmd) 0x2B
           (omega arith),
     )
-    (go (eqb (codeOf (heldOf (l .cmd))) 0x2A) (eqb (codeOf (heldOf (l .cmd))) 0x2B))
+    (go (eqb (codeOf (maybeOf (l .cmd))) 0x2A) (eqb (codeOf (maybeOf (l .cmd))) 0x2B))
   where
     go : (t u : Bool)
         → compact
@@ -144,7 +144,7 @@ as-fourth l a b c d hb hd =
         (withArgs l (a ∷ b ∷ c ∷ d ∷ [])))
         ≡ screen
         (record {
-          cmd = heldOf (l .cmd);
+          cmd = maybeOf (l .cmd);
           args = a ∷ b ∷ c ∷ d ∷ [];
           count = 4;
           window =
@@ -183,15 +183,15 @@ as-args l (p ∷ q ∷ r ∷ t ∷ rest) b f s = as-more l p q r t rest b
 -- ---- data
 as-data : (l : Lcd) (b : ℕ) → Fits l → b < 256 → compact (lcdData l b) ≡ screenAfterInput (compact l) (byte b)
 unfolding lcdData fed painted penned inked
-as-data l b f s = rw (code-is (l .cmd) 0x2C (omega arith)) (go (eqb (codeOf (heldOf (l .cmd))) 0x2C))
+as-data l b f s = rw (code-is (l .cmd) 0x2C (omega arith)) (go (eqb (codeOf (maybeOf (l .cmd))) 0x2C))
   where
     go : (t : Bool)
         → compact (cond t (lcdHalf l (l .half) b) (lcdArgs l (l .args ++ (b ∷ []))))
         ≡ screen
         (cond t (withPen (compact l .panel)
-        (pennedBy (heldOf (l .half)) (compact l .panel .window) (compact l .panel .pen) b))
+        (pennedBy (maybeOf (l .half)) (compact l .panel .window) (compact l .panel .pen) b))
         (argued (compact l .panel) b))
-        (cond t (inkedBy (heldOf (l .half)) (l .fb) (compact l .panel .pen) b) (l .fb))
+        (cond t (inkedBy (maybeOf (l .half)) (l .fb) (compact l .panel .pen) b) (l .fb))
     go true = as-half l (l .half) b f s
     go false = as-args l (l .args) b (f .args) s
 

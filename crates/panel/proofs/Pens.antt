@@ -4,8 +4,8 @@ use mathlib.Core.Path.{_≡_, refl}
 use mathlib.Core.Bool.{Bool, true, false, cond}
 use mathlib.Core.List.{List, [], _∷_}
 use lib.Dec.{ltb}
-use Rattle.panel.specs.declared.Held.{Held}
-use Rattle.panel.specs.declared.Held.the-variants.{Nothing, Byte}
+use Rattle.panel.specs.declared.MaybeByte.{MaybeByte}
+use Rattle.panel.specs.declared.MaybeByte.the-variants.{Nothing, Byte}
 use Rattle.panel.specs.declared.Window.{Window}
 use Rattle.panel.specs.declared.Pen.{Pen}
 use Rattle.panel.specs.Lcd.{penAt, withPen, counts, counted, put, nextPen, penned, inked, codeOf}
@@ -50,7 +50,7 @@ module _ (w : Window) (x y : ℕ) where
   abbrev pub nextFrames : ℕ → ℕ
   nextFrames f = cond ends (cond last (counts f) f) f
 
-  pub next-is : (h : Held) (f : ℕ) → nextPen w (penAt x y h f) ≡ penAt nextX nextY Nothing (nextFrames f)
+  pub next-is : (h : MaybeByte) (f : ℕ) → nextPen w (penAt x y h f) ≡ penAt nextX nextY Nothing (nextFrames f)
   unfolding nextPen
   next-is h f = go ends last
     where
@@ -63,7 +63,7 @@ module _ (w : Window) (x y : ℕ) where
       go false b = refl
 
   -- it holds no half pixel
-  pub next-empty : (h : Held) (f : ℕ)
+  pub next-empty : (h : MaybeByte) (f : ℕ)
       → nextPen w (penAt x y h f)
       ≡ penAt (nextPen w (penAt x y h f) .x) (nextPen w (penAt x y h f) .y) Nothing (nextPen w (penAt x y h f) .frames)
   next-empty h f = rw (next-is h f)
@@ -77,7 +77,7 @@ pub record Healed (w : Window) (p q : Pen) (fb gb : List ℕ) (is : List Input) 
   pub pixels : ink w p fb is ≡ ink w q gb is
   pub pen : sight (moved w p is) ≡ sight (moved w q is)
 
-pub frameless : (w : Window) (x y : ℕ) (h : Held) (f g : ℕ) (fb : List ℕ) (is : List Input)
+pub frameless : (w : Window) (x y : ℕ) (h : MaybeByte) (f g : ℕ) (fb : List ℕ) (is : List Input)
     → Healed w (penAt x y h f) (penAt x y h g) fb fb is
 unfolding ink moved penned inked
 frameless w x y h f g fb [] = record { pixels = refl; pen = refl }

@@ -4,8 +4,8 @@ use mathlib.Core.Path.{_≡_, refl, sym, _∙_}
 use mathlib.Core.List.{List, [], _∷_}
 use lib.ListN.{length, getD}
 use native.Mathlib.Omega.{arith}
-use Rattle.panel.specs.declared.Held.{Held}
-use Rattle.panel.specs.declared.Held.the-variants.{Nothing, Byte}
+use Rattle.panel.specs.declared.MaybeByte.{MaybeByte}
+use Rattle.panel.specs.declared.MaybeByte.the-variants.{Nothing, Byte}
 use Rattle.panel.specs.declared.Window.{Window}
 use Rattle.panel.specs.Lcd.{penAt, put, penned, inked}
 use Rattle.panel.specs.Runs.{Input, byte, copy, copies}
@@ -66,7 +66,8 @@ strayed w x y h b fb gb i a =
     }
 
 -- two runs with the same copies leave the pixels outside of the window alike
-pub stray : (w : Window) (is js : List Input) → Alike is js → (x y : ℕ) (h : Held) (f : ℕ) (x′ y′ : ℕ) (h′ : Held)
+pub stray : (w : Window) (is js : List Input) → Alike is js → (x y : ℕ) (h : MaybeByte) (f : ℕ)
+    (x′ y′ : ℕ) (h′ : MaybeByte)
     (f′ : ℕ) (fb gb : List ℕ)
     → Within w x y → Within w x′ y′ → Astray w fb gb
     → Astray w (ink w (penAt x y h f) fb is) (ink w (penAt x′ y′ h′ f′) gb js)

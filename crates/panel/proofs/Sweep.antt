@@ -7,8 +7,8 @@ use lib.Seq.{ext-getD}
 use native.Mathlib.Omega.{arith}
 use native.Mathlib.Nat.{suc-mul}
 use native.Mathlib.Decide.{decLt}
-use Rattle.panel.specs.declared.Held.{Held}
-use Rattle.panel.specs.declared.Held.the-variants.{Nothing, Byte}
+use Rattle.panel.specs.declared.MaybeByte.{MaybeByte}
+use Rattle.panel.specs.declared.MaybeByte.the-variants.{Nothing, Byte}
 use Rattle.panel.specs.declared.Window.{Window}
 use Rattle.panel.specs.Lcd.{penAt, put, nextPen, penned, inked}
 use Rattle.panel.specs.Runs.{Input, byte, copy, bytesIn, windowBytes}
@@ -36,7 +36,7 @@ pub record Cell (w : Window) (k : ℕ) : Type 0 where
   pub glass : row k < 128
 
 -- the next position is in the window again
-pub within-next : (w : Window) (x y : ℕ) (h : Held) (f : ℕ) → Within w x y
+pub within-next : (w : Window) (x y : ℕ) (h : MaybeByte) (f : ℕ) → Within w x y
     → Within w (nextPen w (penAt x y h f) .x) (nextPen w (penAt x y h f) .y)
 within-next w x y h f i = go (decLt x (w .x1)) (decLt y (w .y1))
   where
@@ -83,7 +83,7 @@ none-left w x y fb gb k i e l (under c u) = absurd (omega (arith, c .inside .low
 none-left w x y fb gb k i e l (here c r u) = absurd (omega (arith, c .inside .right, i .left))
 none-left w x y fb gb k i e l (same q) = q
 
-settled : (w : Window) (x y : ℕ) (h : Held) (f g : ℕ) (fb gb : List ℕ) (is : List Input) → length fb ≡ length gb
+settled : (w : Window) (x y : ℕ) (h : MaybeByte) (f g : ℕ) (fb gb : List ℕ) (is : List Input) → length fb ≡ length gb
     → ((k : ℕ) → getD fb k 0 ≡ getD gb k 0)
     → Healed w (penAt x y h f) (penAt x y h g) fb gb is
 settled w x y h f g fb gb is e s = rw (ext-getD 0 fb gb e (λ i l. s i)) (frameless w x y h f g gb is)
@@ -114,14 +114,14 @@ rest-whole w = ap (λ n. (lastY w - w .y0) * across w + n) f ∙ sym (ap (λ n. 
     f = omega arith
 
 -- a held byte counts
-abbrev pub halfBytes : Held → ℕ
+abbrev pub halfBytes : MaybeByte → ℕ
 halfBytes Nothing = 0
 halfBytes (Byte b) = 1
 
 -- from any place of the window a run that takes the sweep to the window's end heals what was left
 abbrev Swept : Window → List Input → Type 0
 Swept w is =
-    (x y : ℕ) (h : Held) (f g : ℕ) (fb gb : List ℕ) → Within w x y → length fb ≡ length gb
+    (x y : ℕ) (h : MaybeByte) (f g : ℕ) (fb gb : List ℕ) → Within w x y → length fb ≡ length gb
     → ((k : ℕ) → Still w x y fb gb k)
     → rest w x y * 2 ≤ bytesIn is + halfBytes h
     → Healed w (penAt x y h f) (penAt x y h g) fb gb is

@@ -9,8 +9,8 @@ use lib.Seq.{getD-set-same, getD-set-other}
 use native.Mathlib.Omega.{arith}
 use native.Mathlib.Nat.{zero-mul}
 use native.Mathlib.Decide.{decLt}
-use Rattle.panel.specs.declared.Held.{Held}
-use Rattle.panel.specs.declared.Held.the-variants.{Nothing, Byte}
+use Rattle.panel.specs.declared.MaybeByte.{MaybeByte}
+use Rattle.panel.specs.declared.MaybeByte.the-variants.{Nothing, Byte}
 use Rattle.panel.specs.declared.Window.{Window}
 use Rattle.panel.specs.Lcd.{penAt, spot, put, nextPen, penned, inked}
 use Rattle.panel.specs.Entries.{Screen}
@@ -32,7 +32,7 @@ no-row w y h = ap (λ n. n * across w) e ∙ zero-mul (across w)
     e = omega arith
 
 -- from any other pixel it is one less from the next
-nearer : (w : Window) (x y : ℕ) (h : Held) (f : ℕ) → Within w x y → 1 < rest w x y
+nearer : (w : Window) (x y : ℕ) (h : MaybeByte) (f : ℕ) → Within w x y → 1 < rest w x y
     → rest w (nextPen w (penAt x y h f) .x) (nextPen w (penAt x y h f) .y) + 1 ≡ rest w x y
 nearer w x y h f i l = go (decLt x (w .x1)) (decLt y (w .y1))
   where
@@ -70,7 +70,7 @@ module _ (w : Window) (hx : lastX w < 128) (hy : lastY w < 128) where
   missed x y fb h b l (miss f g) = f fb h b
 
   -- a run that does not come to it leaves it
-  spared : (is : List Input) (x y : ℕ) (h : Held) (f : ℕ) (fb : List ℕ) → Within w x y → copies is ≡ []
+  spared : (is : List Input) (x y : ℕ) (h : MaybeByte) (f : ℕ) (fb : List ℕ) → Within w x y → copies is ≡ []
       → bytesIn is + halfBytes h < rest w x y * 2
       → getD (ink w (penAt x y h f) fb is) (last w) 0 ≡ getD fb (last w) 0
   unfolding ink penned inked bytesIn copies
@@ -96,7 +96,7 @@ module _ (w : Window) (hx : lastX w < 128) (hy : lastY w < 128) where
       ∙ getD-set-same fb (last w) c 0 s)
 
   -- a run of one byte c that ends with it, from any place; a pixel's first byte may have come
-  abbrev half : Bool → ℕ → Held
+  abbrev half : Bool → ℕ → MaybeByte
   half true c = Byte c
   half false c = Nothing
 

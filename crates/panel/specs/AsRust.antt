@@ -3,16 +3,16 @@ use Prim.Native.Nat.{ℕ, _<_, min}
 use mathlib.Core.Path.{_≡_}
 use mathlib.Core.List.{List, [], _∷_}
 use lib.ListN.{length, getD}
-use Rattle.panel.specs.declared.Held.{Held}
-use Rattle.panel.specs.declared.Held.the-variants.{Nothing, Byte}
+use Rattle.panel.specs.declared.MaybeByte.{MaybeByte}
+use Rattle.panel.specs.declared.MaybeByte.the-variants.{Nothing, Byte}
 use Rattle.panel.specs.Lcd.{freshPanel, penAt}
 use Rattle.panel.specs.Entries.{Screen, screen}
 use Rattle.panel.specs.Runs.{byte, copy, Act, order, input, later}
 use Rattle.panel.specs.Rust.{Lcd, Option, none, some, default, lcdAfterActs}
 
-abbrev pub heldOf : Option → Held
-heldOf none = Nothing
-heldOf (some b) = Byte b
+abbrev pub maybeOf : Option → MaybeByte
+maybeOf none = Nothing
+maybeOf (some b) = Byte b
 
 -- of the list of arguments the first four, those that did not come 0
 abbrev pub firstFour : List ℕ → List ℕ
@@ -23,11 +23,11 @@ abbrev pub compact : Lcd → Screen
 compact l =
     screen
     (record {
-      cmd = heldOf (l .cmd);
+      cmd = maybeOf (l .cmd);
       args = firstFour (l .args);
       count = min (length (l .args)) 4;
       window = record { x0 = l .x0; x1 = l .x1; y0 = l .y0; y1 = l .y1 };
-      pen = penAt (l .x) (l .y) (heldOf (l .half)) (l .frames);
+      pen = penAt (l .x) (l .y) (maybeOf (l .half)) (l .frames);
     })
     (l .fb)
 

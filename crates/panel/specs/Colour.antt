@@ -2,7 +2,7 @@
 use Prim.Native.Nat.{ℕ, _+_, _*_, _/_, _%_, _^_}
 use mathlib.Core.List.{List, [], _∷_}
 use lib.Bits.{bitAnd}
-use lib.ListN.{getD, set}
+use lib.ListN.{getD}
 use Rattle.map.specs.Numbers.{PIXELS}
 use Rattle.panel.specs.declared.Colours.{Colours}
 
@@ -45,7 +45,3 @@ unfoldable pub over : List ℕ → List ℕ → List ℕ
 over [] out = out
 over (x ∷ xs) [] = []
 over (x ∷ xs) (o ∷ out) = x ∷ over xs out
-
--- a pixel's three bytes from place i on
-abbrev pub triple : List ℕ → ℕ → Colours → List ℕ
-triple out i c = set (set (set out i (c .r)) (i + 1) (c .g)) (i + 2) (c .b)

@@ -6,15 +6,15 @@ use mathlib.Core.List.{List, [], _∷_}
 use lib.ListN.{getD, set}
 use lib.Dec.{ltb, eqb}
 use Rattle.map.specs.Numbers.{LCD-W, LCD-H}
-use Rattle.panel.specs.declared.Held.{Held}
-use Rattle.panel.specs.declared.Held.the-variants.{Nothing, Byte}
+use Rattle.panel.specs.declared.MaybeByte.{MaybeByte}
+use Rattle.panel.specs.declared.MaybeByte.the-variants.{Nothing, Byte}
 use Rattle.panel.specs.declared.Window.{Window}
 use Rattle.panel.specs.declared.Pen.{Pen}
 use Rattle.panel.specs.declared.Panel.{Panel}
 
 -- ---- state, and its parts
 
-abbrev pub penAt : ℕ → ℕ → Held → ℕ → Pen
+abbrev pub penAt : ℕ → ℕ → MaybeByte → ℕ → Pen
 penAt x y h f = record { x = x; y = y; half = h; frames = f }
 
 abbrev pub withPen : Panel → Pen → Panel
@@ -27,7 +27,7 @@ abbrev pub zeros : List ℕ
 zeros = 0 ∷ 0 ∷ 0 ∷ 0 ∷ []
 
 -- a panel that has just been told a command, or none
-abbrev pub begun : Held → Window → Pen → Panel
+abbrev pub begun : MaybeByte → Window → Pen → Panel
 begun c w q = record { cmd = c; args = zeros; count = 0; window = w; pen = q }
 
 abbrev pub freshPanel : Panel
@@ -65,14 +65,14 @@ nextPen w p =
 
 -- ---- data after 0x2C: the first byte of a pixel is held, the second writes it
 
-abbrev pub pennedBy : Held → Window → Pen → ℕ → Pen
+abbrev pub pennedBy : MaybeByte → Window → Pen → ℕ → Pen
 pennedBy Nothing w p b = penAt (p .x) (p .y) (Byte b) (p .frames)
 pennedBy (Byte h) w p b = nextPen w p
 
 unfoldable pub penned : Window → Pen → ℕ → Pen
 penned w p b = pennedBy (p .half) w p b
 
-abbrev pub inkedBy : Held → List ℕ → Pen → ℕ → List ℕ
+abbrev pub inkedBy : MaybeByte → List ℕ → Pen → ℕ → List ℕ
 inkedBy Nothing fb p b = fb
 inkedBy (Byte h) fb p b = put fb (p .x) (p .y) h b
 
@@ -82,7 +82,7 @@ inked fb p b = inkedBy (p .half) fb p b
 -- ---- data after another command, or none: the first four bytes are kept, and the fourth acts
 
 -- no command is no byte
-abbrev pub codeOf : Held → ℕ
+abbrev pub codeOf : MaybeByte → ℕ
 codeOf Nothing = 256
 codeOf (Byte b) = b
 

@@ -5,3 +5,4 @@ pub mod Lcd
 pub mod Runs
 pub mod Rust
 pub mod Table
+pub mod Inner

@@ -2,17 +2,17 @@
 ghost use mathlib.Core.Path.{_≡_};
 ghost use Prim.Native.Nat.{_+_, _*_};
 ghost use Rattle.panel.specs.Lcd.{codeOf, aimed, argued};
-use crate::Held;
+use crate::MaybeByte;
 use crate::Panel;
 use crate::Window;
 
-// A held byte as a number: 256 where there is none.
-pub fn code(h: Held) -> u16
+// Such a byte as a number: 256 where there is none.
+pub fn code(h: MaybeByte) -> u16
     ensures { λ r. ⌜ r ≡ codeOf h ⌝ }
 {
     match h {
-        Held::Nothing => 256,
-        Held::Byte(b) => b as u16,
+        MaybeByte::Nothing => 256,
+        MaybeByte::Byte(b) => b as u16,
     }
 }
 

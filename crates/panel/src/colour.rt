@@ -1,7 +1,8 @@
 // The pixels' colours, 8 bits each.
 ghost use mathlib.Core.Path.{_≡_};
 ghost use Prim.Native.Nat.{_+_, _*_, _<_, _^_};
-ghost use Rattle.panel.specs.Colour.{parted, coloursAt, pixelAt, triple, over, rgbOf};
+ghost use Rattle.panel.specs.Colour.{parted, coloursAt, pixelAt, over, rgbOf};
+ghost use Rattle.panel.specs.Inner.{triple};
 use crate::Colours;
 use crate::args::wide;
 use crate::glass::load;
@@ -31,7 +32,7 @@ fn pixel(fb: &[u8], n: usize) -> Colours
 pub fn at(fb: &[u8], k: u32) -> Colours
     ensures { λ r. ⌜ r ≡ pixelAt (now (fb .entry)) k ⌝ }
 {
-    pixel(fb, (k % 16384) as usize)
+    pixel(fb, k as usize % map::PIXELS)
 }
 
 // The three bytes of a pixel.

@@ -1,9 +1,9 @@
 // Pixel data: the bytes after 0x2C. The Rust's `pixel` is `place`, which stores it, and `next`, which moves on.
 ghost use mathlib.Core.Path.{_≡_};
 ghost use Rattle.panel.specs.Lcd.{penAt, put, nextPen, penned, inked};
-ghost use Rattle.panel.specs.declared.Held.the-variants.{Nothing};
+ghost use Rattle.panel.specs.declared.MaybeByte.the-variants.{Nothing};
 ghost use Rattle.panel.specs.Entries.{drawing};
-use crate::Held;
+use crate::MaybeByte;
 use crate::Pen;
 use crate::Window;
 use crate::glass::store;
@@ -33,7 +33,7 @@ fn pen_at(x: u16, y: u16, frames: u64) -> Pen
     Pen {
         x,
         y,
-        half: Held::Nothing,
+        half: MaybeByte::Nothing,
         frames,
     }
 }
@@ -58,13 +58,13 @@ pub fn paint(w: Window, p: Pen, fb: &mut [u8], b: u8) -> Pen
 {
     let half = p.half;
     match half {
-        Held::Nothing => Pen {
+        MaybeByte::Nothing => Pen {
             x: p.x,
             y: p.y,
-            half: Held::Byte(b),
+            half: MaybeByte::Byte(b),
             frames: p.frames,
         },
-        Held::Byte(h) => {
+        MaybeByte::Byte(h) => {
             let x = p.x;
             let y = p.y;
             place(fb, x, y, h, b);

@@ -2,7 +2,7 @@
 ghost use mathlib.Core.Path.{_≡_};
 ghost use Rattle.panel.specs.Lcd.{commanded, fed, painted, counted};
 ghost use Rattle.panel.specs.Entries.{screen};
-use crate::Held;
+use crate::MaybeByte;
 use crate::Panel;
 use crate::Pen;
 use crate::args::argument;
@@ -15,8 +15,8 @@ pub fn command(p: Panel, c: u8) -> Panel
 {
     let window = p.window;
     let old = p.pen;
-    let cmd = Held::Byte(c);
-    let half = Held::Nothing;
+    let cmd = MaybeByte::Byte(c);
+    let half = MaybeByte::Nothing;
     let mut pen = Pen {
         x: old.x,
         y: old.y,

@@ -13,7 +13,7 @@ ghost use Rattle.panel.specs.Lcd.{freshPanel};
 ghost use Rattle.panel.specs.Entries.{outcome, dataOf, pixel, pixelOf, picture, pictureOf};
 
 // A byte, or none: the Rust's Option<u8>.
-pub enum Held {
+pub enum MaybeByte {
     Nothing,
     Byte(u8),
 }
@@ -30,13 +30,13 @@ pub struct Window {
 pub struct Pen {
     pub x: u16,
     pub y: u16,
-    pub half: Held,
+    pub half: MaybeByte,
     pub frames: u64,
 }
 
 // The arguments are the first four data bytes of a command; the count of them stops at four.
 pub struct Panel {
-    pub cmd: Held,
+    pub cmd: MaybeByte,
     pub args: [u8; 4],
     pub count: u8,
     pub window: Window,
@@ -73,7 +73,7 @@ pub fn fresh() -> Panel
     ensures { λ r. ⌜ r ≡ freshPanel ⌝ }
 {
     Panel {
-        cmd: Held::Nothing,
+        cmd: MaybeByte::Nothing,
         args: [0, 0, 0, 0],
         count: 0,
         window: Window {
@@ -85,7 +85,7 @@ pub fn fresh() -> Panel
         pen: Pen {
             x: 0,
             y: 0,
-            half: Held::Nothing,
+            half: MaybeByte::Nothing,
             frames: 0,
         },
     }

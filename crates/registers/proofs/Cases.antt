@@ -7,12 +7,13 @@ use mathlib.Core.Logic.{_≢_}
 use native.Mathlib.Omega.{arith}
 use lib.ListN.{length, getD, set}
 use borrow.Author.Tests.{eq-eqb, ne-eqb, lt-ltb, le-ltb}
+use Rattle.map.specs.Numbers.{TIMER-BASE, TIMER-END}
 use Rattle.registers.specs.declared.Refusal.the-variants.{Done, RegistersFull}
-use Rattle.registers.specs.declared.Spot.the-variants.{Own, Never, Held, Absent}
+use Rattle.registers.specs.declared.Spot.the-variants.{Own, Never, Present, Absent}
 use Rattle.registers.specs.Words.{unstored}
 use Rattle.registers.specs.Ports.{wordsFrom, namedWords, ownWords, index, slotOf}
 use Rattle.registers.specs.Words.{place, otherSpot, spotOf}
-use Rattle.registers.specs.Words.{removedTo, insertedTo, Others, others, endOf, putHeld}
+use Rattle.registers.specs.Words.{removedTo, insertedTo, Others, others, endOf, putPresent}
 use Rattle.registers.specs.Words.{otherOutcome, putAbsent}
 
 -- ---- the slot of a word
@@ -67,28 +68,28 @@ index-timer (suc i) (suc n) from l less =
     (ap suc (ap (index (wordsFrom n (from + 4) ++ l)) next ∙ index-timer i n (from + 4) l (omega arith)))
 
 module _ (a : ℕ) where
-  slot-named : ((i : ℕ) → i < 48 → 0xC0020000 + 4 * i ≢ a) → 48 + index namedWords a ≡ slotOf a
+  slot-named : ((i : ℕ) → i < 48 → TIMER-BASE + 4 * i ≢ a) → 48 + index namedWords a ≡ slotOf a
   unfolding slotOf ownWords
-  slot-named none = sym (index-after a 48 0xC0020000 namedWords none)
+  slot-named none = sym (index-after a 48 TIMER-BASE namedWords none)
 
-  pub slot-below : a < 0xC0020000 → 48 + index namedWords a ≡ slotOf a
+  pub slot-below : a < TIMER-BASE → 48 + index namedWords a ≡ slotOf a
   slot-below below = slot-named (λ i less e. omega arith)
 
-  pub slot-above : 0xC00200C0 ≤ a → 48 + index namedWords a ≡ slotOf a
+  pub slot-above : TIMER-END ≤ a → 48 + index namedWords a ≡ slotOf a
   slot-above above = slot-named (λ i less e. omega arith)
 
   pub slot-askew : a % 4 ≢ 0 → 48 + index namedWords a ≡ slotOf a
   slot-askew askew = slot-named (λ i less e. askew (omega arith))
 
-pub timer-slot : (i : ℕ) → i < 48 → slotOf (0xC0020000 + 4 * i) ≡ i
+pub timer-slot : (i : ℕ) → i < 48 → slotOf (TIMER-BASE + 4 * i) ≡ i
 unfolding slotOf ownWords
-timer-slot i less = index-timer i 48 0xC0020000 namedWords less
+timer-slot i less = index-timer i 48 TIMER-BASE namedWords less
 
-pub slot-timer : (a : ℕ) → 0xC0020000 ≤ a → a < 0xC00200C0 → a % 4 ≡ 0 → (a - 0xC0020000) / 4 ≡ slotOf a
+pub slot-timer : (a : ℕ) → TIMER-BASE ≤ a → a < TIMER-END → a % 4 ≡ 0 → (a - TIMER-BASE) / 4 ≡ slotOf a
 slot-timer a from to even =
-    let less : (a - 0xC0020000) / 4 < 48 = omega arith in
-    let here : 0xC0020000 + 4 * ((a - 0xC0020000) / 4) ≡ a = omega arith in
-    sym (timer-slot ((a - 0xC0020000) / 4) less) ∙ ap slotOf here
+    let less : (a - TIMER-BASE) / 4 < 48 = omega arith in
+    let here : TIMER-BASE + 4 * ((a - TIMER-BASE) / 4) ≡ a = omega arith in
+    sym (timer-slot ((a - TIMER-BASE) / 4) less) ∙ ap slotOf here
 
 -- ---- where a word is; s and i are the slot and the place that were computed
 module _ (l : List ℕ) (a s : ℕ) (e : s ≡ slotOf a) where
@@ -106,9 +107,9 @@ module _ (l : List ℕ) (a : ℕ) where
   other-never u = rw u
 
   module _ (i : ℕ) (f : i ≡ place l a) (u : unstored a ≡ false) where
-    pub other-held : getD l i 0 ≡ a → Held i ≡ otherSpot l a
+    pub other-present : getD l i 0 ≡ a → Present i ≡ otherSpot l a
     unfolding otherSpot
-    other-held here = rw (u, ← f, eq-eqb _ _ here)
+    other-present here = rw (u, ← f, eq-eqb _ _ here)
 
     pub other-absent : getD l i 0 ≢ a → Absent i ≡ otherSpot l a
     unfolding otherSpot
@@ -116,14 +117,14 @@ module _ (l : List ℕ) (a : ℕ) where
 
 -- ---- what is put there; p and q are the addresses and values that were stored
 module _ (o : Others) (i v : ℕ) where
-  pub held-zero : (n : ℕ) (p q : List ℕ) → v ≡ 0 → n ≡ endOf o i
-      → p ≡ removedTo n (o .addresses) i → q ≡ removedTo n (o .values) i → others p q ≡ putHeld o i v
-  unfolding putHeld
-  held-zero n p q z e f g = rw (eq-eqb _ _ z, f, g, e)
+  pub present-zero : (n : ℕ) (p q : List ℕ) → v ≡ 0 → n ≡ endOf o i
+      → p ≡ removedTo n (o .addresses) i → q ≡ removedTo n (o .values) i → others p q ≡ putPresent o i v
+  unfolding putPresent
+  present-zero n p q z e f g = rw (eq-eqb _ _ z, f, g, e)
 
-  pub held-some : (q : List ℕ) → v ≢ 0 → q ≡ set (o .values) i v → others (o .addresses) q ≡ putHeld o i v
-  unfolding putHeld
-  held-some q n g = rw (ne-eqb _ _ n, g)
+  pub present-some : (q : List ℕ) → v ≢ 0 → q ≡ set (o .values) i v → others (o .addresses) q ≡ putPresent o i v
+  unfolding putPresent
+  present-some q n g = rw (ne-eqb _ _ n, g)
 
   module _ (a : ℕ) where
     pub absent-zero : v ≡ 0 → otherOutcome Done o ≡ putAbsent o i a v

@@ -11,8 +11,8 @@ use Rattle.registers.specs.declared.Registers.{Registers}
 use Rattle.registers.specs.Words.{removed, inserted, othersOf, wordAt, Outcome, putWord}
 use Rattle.registers.specs.Within.{Other, Tidy, counted, nonZero, Full}
 use Rattle.whole.proofs.Choice.{by-same}
-use Rattle.registers.proofs.Spots.{placeIn, read-held, read-absent, put-cases}
-use Rattle.registers.proofs.Order.{free-behind, held-within, gap, some-held}
+use Rattle.registers.proofs.Spots.{placeIn, read-present, read-absent, put-cases}
+use Rattle.registers.proofs.Order.{free-behind, present-within, gap, some-present}
 use Rattle.registers.proofs.Moving.{tidy-cases}
 
 -- ---- counting
@@ -89,11 +89,11 @@ full-exactly r a v tidy =
     (λ slot never. (λ four. absurd (omega arith), λ full. absurd (true≢false (sym never ∙ full .other .stored))))
     (λ other here z. (λ four. absurd (omega arith), λ full. absurd (full .value z)))
     (λ other here some.
-    (λ four. absurd (omega arith), λ full. absurd (some-held r (tidy .others) a other here (full .word))))
+    (λ four. absurd (omega arith), λ full. absurd (some-present r (tidy .others) a other here (full .word))))
     (λ other gone z. (λ four. absurd (omega arith), λ full. absurd (full .value z)))
     (λ other gone some free. (λ four. absurd (omega arith), λ full. absurd (not-all free (full .most))))
     (λ other gone some last. (
-      λ four. record { value = some; word = read-absent r a other gone; other = other; most = all-held last },
+      λ four. record { value = some; word = read-absent r a other gone; other = other; most = all-present last },
       λ full. refl,
     ))
   where
@@ -102,8 +102,8 @@ full-exactly r a v tidy =
         let within : 255 < length (r .values) = omega (arith, tidy .others .values) in
         omega (arith, tidy .others .values, count-less (r .values) 255 within free)
 
-    all-held : getD (r .values) 255 0 ≢ 0 → nonZero (r .values) ≡ 256
-    all-held last =
+    all-present : getD (r .values) 255 0 ≢ 0 → nonZero (r .values) ≡ 256
+    all-present last =
         count-all (r .values)
         (λ i less z. last (free-behind (othersOf r) (tidy .others) i 255 (omega (arith, tidy .others .values)) z))
         ∙ tidy .others .values
@@ -116,11 +116,11 @@ room-counts r a v tidy other =
     (λ less. absurd (omega (arith, other .slot)))
     (λ slot never. absurd (true≢false (sym never ∙ other .stored)))
     (λ o here z done.
-    omega (arith, counted-none v z, ap counted (read-held r a o here), count-removed (r .values) (placeIn r a)))
+    omega (arith, counted-none v z, ap counted (read-present r a o here), count-removed (r .values) (placeIn r a)))
     (λ o here some done.
-    let less : placeIn r a < 256 = held-within (othersOf r) (tidy .others) a o (placeIn r a) here in
+    let less : placeIn r a < 256 = present-within (othersOf r) (tidy .others) a o (placeIn r a) here in
     let within : placeIn r a < length (r .values) = omega (arith, tidy .others .values) in
-    omega (arith, ap counted (read-held r a o here), count-set (r .values) (placeIn r a) v within))
+    omega (arith, ap counted (read-present r a o here), count-set (r .values) (placeIn r a) v within))
     (λ o gone z done. omega (arith, counted-none v z, counted-none (wordAt r a) (read-absent r a o gone)))
     (λ o gone some free done.
     let upto : placeIn r a ≤ 255 = omega (arith, gap (othersOf r) (tidy .others) a gone free .within) in

@@ -131,10 +131,10 @@ module _ (o : Others) (tidy : TidyOthers o) where
 
 -- all places behind place i move up, or from it on down
 abbrev pub givenBack : Registers → ℕ → Registers
-givenBack r i = registersOf (r .own) (removed (r .addresses) i) (removed (r .values) i)
+givenBack r i = registersOf (r .slots) (removed (r .addresses) i) (removed (r .values) i)
 
 abbrev pub takenBy : Registers → ℕ → ℕ → ℕ → Registers
-takenBy r i a v = registersOf (r .own) (inserted (r .addresses) i a) (inserted (r .values) i v)
+takenBy r i a v = registersOf (r .slots) (inserted (r .addresses) i a) (inserted (r .values) i v)
 
 module _ (r : Registers) (a v : ℕ) (tidy : TidyOthers (othersOf r)) where
   most : placeIn r a ≤ 255

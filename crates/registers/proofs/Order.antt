@@ -10,7 +10,7 @@ use Rattle.registers.specs.Words.{unstored, place, Others, othersOf, wor
 use Rattle.registers.specs.Within.{Other, TidyOthers}
 use Rattle.whole.proofs.Choice.{by-same, by-less}
 use Rattle.registers.proofs.Search.{place-within, place-more, place-stops}
-use Rattle.registers.proofs.Spots.{Here, Gone, read-held, read-absent, placeIn}
+use Rattle.registers.proofs.Spots.{Here, Gone, read-present, read-absent, placeIn}
 
 pub not-zero : (a : ℕ) → Other a → a ≢ 0
 unfolding unstored
@@ -45,11 +45,11 @@ module _ (o : Others) (tidy : TidyOthers o) where
 
   module _ (a : ℕ) (other : Other a) where
     -- a place that has a word's address holds a word, and is one of the places
-    pub held : (i : ℕ) → getD (o .addresses) i 0 ≡ a → getD (o .values) i 0 ≢ 0
-    held i e z = not-zero a other (sym e ∙ tidy .free i z)
+    pub present : (i : ℕ) → getD (o .addresses) i 0 ≡ a → getD (o .values) i 0 ≢ 0
+    present i e z = not-zero a other (sym e ∙ tidy .free i z)
 
-    pub held-within : (i : ℕ) → getD (o .addresses) i 0 ≡ a → i < 256
-    held-within i e =
+    pub present-within : (i : ℕ) → getD (o .addresses) i 0 ≡ a → i < 256
+    present-within i e =
         by-less i 256 (λ less. less)
         (λ past.
         let out : length (o .addresses) ≤ i = omega (arith, tidy .addresses) in
@@ -64,8 +64,8 @@ module _ (o : Others) (tidy : TidyOthers o) where
         (λ most. by-same p i (λ q. q)
         (λ n.
         let less : p < i = omega arith in
-        let short : p < 255 = omega (arith, held-within i e) in
-        absurd (omega (arith, place-stops (o .addresses) a falling short, tidy .falls p i less (held i e)))))
+        let short : p < 255 = omega (arith, present-within i e) in
+        absurd (omega (arith, place-stops (o .addresses) a falling short, tidy .falls p i less (present i e)))))
 
   -- place i is where word a would stand
   pub record Gap (a i : ℕ) : Type 0 where
@@ -94,12 +94,12 @@ module _ (r : Registers) (tidy : TidyOthers (othersOf r)) (a : ℕ) (other : Oth
   pub word-is : (i : ℕ) → getD (r .addresses) i 0 ≡ a → wordAt r a ≡ getD (r .values) i 0
   word-is i e =
       let here : placeIn r a ≡ i = place-is (othersOf r) tidy a other i e in
-      read-held r a other (ap (λ (j : ℕ). getD (r .addresses) j 0) here ∙ e)
+      read-present r a other (ap (λ (j : ℕ). getD (r .addresses) j 0) here ∙ e)
       ∙ ap (λ (j : ℕ). getD (r .values) j 0) here
 
   -- a word that stands in a place is not zero, and any other is
-  pub some-held : Here (r .addresses) a → wordAt r a ≢ 0
-  some-held here z = held (othersOf r) tidy a other (placeIn r a) here (sym (read-held r a other here) ∙ z)
+  pub some-present : Here (r .addresses) a → wordAt r a ≢ 0
+  some-present here z = present (othersOf r) tidy a other (placeIn r a) here (sym (read-present r a other here) ∙ z)
 
   pub word-absent : ((j : ℕ) → getD (r .addresses) j 0 ≢ a) → wordAt r a ≡ 0
   word-absent absent = read-absent r a other (absent (placeIn r a))
@@ -107,8 +107,8 @@ module _ (r : Registers) (tidy : TidyOthers (othersOf r)) (a : ℕ) (other : Oth
   -- so it is nowhere, or in one place
   pub by-place : {A : Type 0}
       → ((i : ℕ) → getD (r .addresses) i 0 ≡ a → A) → (((j : ℕ) → getD (r .addresses) j 0 ≢ a) → A) → A
-  by-place held-at absent =
+  by-place present-at absent =
       by-same (getD (r .addresses) (placeIn r a) 0) a
-      (held-at (placeIn r a))
+      (present-at (placeIn r a))
       (λ gone. absent (λ j e.
       gone (ap (λ (k : ℕ). getD (r .addresses) k 0) (place-is (othersOf r) tidy a other j e) ∙ e)))

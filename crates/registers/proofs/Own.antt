@@ -1,5 +1,5 @@
 -- The words with storage of their own.
-use Prim.Native.Nat.{ℕ, _%_, _<_, _≤_}
+use Prim.Native.Nat.{ℕ, _<_, _≤_}
 use mathlib.Core.Path.{_≡_, refl, sym, ap, _∙_}
 use mathlib.Core.List.{List}
 use mathlib.Core.Logic.{_≢_}
@@ -11,7 +11,7 @@ use Rattle.registers.specs.declared.Refusal.the-variants.{Done}
 use Rattle.registers.specs.Words.{ownAt, ownWith}
 use Rattle.registers.specs.Ports.{wordsFrom, namedWords, namedRows, ownWords, slotOf}
 use Rattle.registers.specs.Words.{registersOf, wordAt, outcome, putWord}
-use Rattle.registers.proofs.Cases.{slot-timer, spot-own}
+use Rattle.registers.proofs.Cases.{spot-own}
 use Rattle.whole.proofs.Choice.{by-less}
 use Rattle.registers.proofs.Search.{index-most, index-hit}
 
@@ -33,9 +33,6 @@ pub slot-hit : (a : ℕ) → slotOf a < 76 → getD ownWords (slotOf a) 0 ≡ a
 unfolding slotOf
 slot-hit a less = index-hit ownWords a (omega (arith, own-count))
 
-pub timer-own : (a : ℕ) → 0xC0020000 ≤ a → a < 0xC00200C0 → a % 4 ≡ 0 → slotOf a < 76
-timer-own a from to even = omega (arith, slot-timer a from to even)
-
 -- no two words share a slot
 pub slot-apart : (a b : ℕ) → slotOf a < 76 → b ≢ a → slotOf b ≢ slotOf a
 slot-apart a b less other same =
@@ -44,26 +41,26 @@ slot-apart a b less other same =
 
 -- ---- what is stored is read back, and the other slots stay
 
-pub own-length : (own : List ℕ) (a v : ℕ) → length (ownWith own a v) ≡ length own
+pub own-length : (slots : List ℕ) (a v : ℕ) → length (ownWith slots a v) ≡ length slots
 unfolding ownWith
-own-length own a v = length-set own (slotOf a) v
+own-length slots a v = length-set slots (slotOf a) v
 
-pub own-own : (own : List ℕ) (a v : ℕ) → length own ≡ 76 → slotOf a < 76 → ownAt (ownWith own a v) a ≡ v
+pub own-own : (slots : List ℕ) (a v : ℕ) → length slots ≡ 76 → slotOf a < 76 → ownAt (ownWith slots a v) a ≡ v
 unfolding ownAt ownWith
-own-own own a v size less = getD-set-same own (slotOf a) v 0 (omega arith)
+own-own slots a v size less = getD-set-same slots (slotOf a) v 0 (omega arith)
 
-pub own-stays : (own : List ℕ) (a b v : ℕ) → slotOf b ≢ slotOf a → ownAt (ownWith own a v) b ≡ ownAt own b
+pub own-stays : (slots : List ℕ) (a b v : ℕ) → slotOf b ≢ slotOf a → ownAt (ownWith slots a v) b ≡ ownAt slots b
 unfolding ownAt ownWith
-own-stays own a b v apart = getD-set-other own (slotOf a) (slotOf b) v 0 apart
+own-stays slots a b v apart = getD-set-other slots (slotOf a) (slotOf b) v 0 apart
 
 -- ---- among all words
 
 module _ (r : Registers) (a : ℕ) where
-  pub own-word : slotOf a < 76 → wordAt r a ≡ ownAt (r .own) a
+  pub own-word : slotOf a < 76 → wordAt r a ≡ ownAt (r .slots) a
   unfolding wordAt ownAt
   own-word less = rw (← spot-own (r .addresses) a (slotOf a) refl less)
 
   pub own-put : (v : ℕ) → slotOf a < 76
-      → putWord r a v ≡ outcome Done (registersOf (ownWith (r .own) a v) (r .addresses) (r .values))
+      → putWord r a v ≡ outcome Done (registersOf (ownWith (r .slots) a v) (r .addresses) (r .values))
   unfolding putWord ownWith
   own-put v less = rw (← spot-own (r .addresses) a (slotOf a) refl less)

@@ -16,7 +16,7 @@ use Rattle.registers.specs.Within.{Other, TidyOthers, Tidy}
 use Rattle.registers.proofs.Own.{by-slot, slot-apart, own-own, own-stays, own-word}
 use Rattle.registers.proofs.Spots.{Here, Gone, by-kind, by-spot, read-never, read-absent}
 use Rattle.registers.proofs.Spots.{placeIn, setIn}
-use Rattle.registers.proofs.Order.{once, held, word-is, word-absent, by-place}
+use Rattle.registers.proofs.Order.{once, present, word-is, word-absent, by-place}
 use Rattle.registers.proofs.Moving.{givenBack, takenBy, tidy-cases}
 use Rattle.registers.proofs.Tidy.{set-here, tidy-back, tidy-here, taken-at, tidy-taken}
 use Rattle.registers.proofs.Wider.{past, past-other, wider-removed, wider-inserted, wider-reads}
@@ -29,7 +29,7 @@ back-absent : (r : Registers) (a : ℕ) → TidyOthers (othersOf r) → Other a 
 back-absent r a tidy other here j e =
     let p = placeIn r a in
     let stands : getD (r .addresses) (past p j) 0 ≡ a = sym (wider-removed (othersOf r) p .address j) ∙ e in
-    let some = held (othersOf r) tidy a other in
+    let some = present (othersOf r) tidy a other in
     past-other p j (once (othersOf r) tidy (past p j) p (some (past p j) stands) (some p here) (stands ∙ sym here))
 
 -- what was put and not refused is read back
@@ -37,7 +37,7 @@ pub get-same : (r : Registers) (a v : ℕ) → Tidy r → unstored a ≡ false �
     → wordAt (putWord r a v .registers) a ≡ v
 get-same r a v tidy stored =
     tidy-cases r a v (tidy .others) (λ (p : Outcome). p .refusal ≡ 0 → wordAt (p .registers) a ≡ v)
-    (λ less done. own-word _ a less ∙ own-own (r .own) a v (tidy .own) less)
+    (λ less done. own-word _ a less ∙ own-own (r .slots) a v (tidy .slots) less)
     (λ slot never done. absurd (true≢false (sym never ∙ stored)))
     (λ other here z done.
     word-absent (givenBack r (placeIn r a)) (tidy-back r (placeIn r a) (tidy .others)) a other
@@ -45,7 +45,7 @@ get-same r a v tidy stored =
     ∙ sym z)
     (λ other here some done.
     word-is (setIn r (placeIn r a) v) (tidy-here r a v (tidy .others) other some here) a other (placeIn r a) here
-    ∙ set-here (r .values) (placeIn r a) v (held (othersOf r) (tidy .others) a other (placeIn r a) here) some)
+    ∙ set-here (r .values) (placeIn r a) v (present (othersOf r) (tidy .others) a other (placeIn r a) here) some)
     (λ other gone z done. read-absent r a other gone ∙ sym z)
     (λ other gone some free done.
     let at = taken-at r a v (tidy .others) other some gone free in
@@ -57,11 +57,11 @@ get-same r a v tidy stored =
 -- ---- every other word
 
 -- a word with no storage of its own is not read there
-other-own : (own own′ addresses values : List ℕ) (b : ℕ) → slotOf b ≡ 76
-    → wordAt (registersOf own addresses values) b ≡ wordAt (registersOf own′ addresses values) b
+other-own : (slots slots′ addresses values : List ℕ) (b : ℕ) → slotOf b ≡ 76
+    → wordAt (registersOf slots addresses values) b ≡ wordAt (registersOf slots′ addresses values) b
 unfolding wordAt
-other-own own own′ addresses values b none =
-    by-spot addresses b (λ (s : Spot). wordIn own values s ≡ wordIn own′ values s)
+other-own slots slots′ addresses values b none =
+    by-spot addresses b (λ (s : Spot). wordIn slots values s ≡ wordIn slots′ values s)
     (λ less. absurd (omega arith))
     (λ slot never. refl)
     (λ other here. refl)
@@ -69,14 +69,14 @@ other-own own own′ addresses values b none =
 
 -- of two tables beside the same own words only the others can tell
 others-tell : (r : Registers) (addresses values : List ℕ) (b : ℕ)
-    → (Other b → wordAt (registersOf (r .own) addresses values) b ≡ wordAt r b)
-    → wordAt (registersOf (r .own) addresses values) b ≡ wordAt r b
+    → (Other b → wordAt (registersOf (r .slots) addresses values) b ≡ wordAt r b)
+    → wordAt (registersOf (r .slots) addresses values) b ≡ wordAt r b
 others-tell r addresses values b =
     by-kind b
-    (λ less told. own-word (registersOf (r .own) addresses values) b less ∙ sym (own-word r b less))
-    (λ none never told.
-    read-never (registersOf (r .own) addresses values) b none never ∙ sym (read-never r b none never))
-    (λ other told. told other)
+    (λ less rest. own-word (registersOf (r .slots) addresses values) b less ∙ sym (own-word r b less))
+    (λ none never rest.
+    read-never (registersOf (r .slots) addresses values) b none never ∙ sym (read-never r b none never))
+    (λ other rest. rest other)
 
 module _ (r : Registers) (a b v : ℕ) (tidy : TidyOthers (othersOf r)) (other : Other a) (new : b ≢ a)
     (other-b : Other b) where
@@ -113,8 +113,8 @@ pub get-other : (r : Registers) (a b v : ℕ) → Tidy r → b ≢ a → wordAt 
 get-other r a b v tidy new =
     tidy-cases r a v (tidy .others) (λ (p : Outcome). wordAt (p .registers) b ≡ wordAt r b)
     (λ less. by-slot b
-    (λ own. own-word _ b own ∙ own-stays (r .own) a b v (slot-apart a b less new) ∙ sym (own-word r b own))
-    (λ none. other-own _ (r .own) (r .addresses) (r .values) b none))
+    (λ here. own-word _ b here ∙ own-stays (r .slots) a b v (slot-apart a b less new) ∙ sym (own-word r b here))
+    (λ none. other-own _ (r .slots) (r .addresses) (r .values) b none))
     (λ slot never. refl)
     (λ other here z. others-tell r _ _ b (λ o. back-stays r a b v (tidy .others) other new o here))
     (λ other here some. others-tell r _ _ b (λ o. set-stays r a b v (tidy .others) other new o here some))

@@ -69,27 +69,27 @@ module _ (r s : Registers) (tidy : TidyOthers (othersOf r)) (tidy-s : TidyOthers
 
 -- ---- the own words
 
-own-same : (r s : Registers) → length (r .own) ≡ 76 → length (s .own) ≡ 76
-    → ((a : ℕ) → wordAt r a ≡ wordAt s a) → r .own ≡ s .own
+own-same : (r s : Registers) → length (r .slots) ≡ 76 → length (s .slots) ≡ 76
+    → ((a : ℕ) → wordAt r a ≡ wordAt s a) → r .slots ≡ s .slots
 unfolding ownAt
 own-same r s size size-s reads =
-    ext-getD 0 (r .own) (s .own) (size ∙ sym size-s)
+    ext-getD 0 (r .slots) (s .slots) (size ∙ sym size-s)
     (λ i less.
     let a = slotWord i in
     let here : slotOf a ≡ i = slot-back i (omega arith) in
-    let own : slotOf a < 76 = omega arith in
-    ap (λ (k : ℕ). getD (r .own) k 0) (sym here)
-    ∙ sym (own-word r a own)
+    let slots : slotOf a < 76 = omega arith in
+    ap (λ (k : ℕ). getD (r .slots) k 0) (sym here)
+    ∙ sym (own-word r a slots)
     ∙ reads a
-    ∙ own-word s a own
-    ∙ ap (λ (k : ℕ). getD (s .own) k 0) here)
+    ∙ own-word s a slots
+    ∙ ap (λ (k : ℕ). getD (s .slots) k 0) here)
 
 -- ---- all
 
 pub same-words : (r s : Registers) → Tidy r → Tidy s → ((a : ℕ) → wordAt r a ≡ wordAt s a) → r ≡ s
 same-words r s tidy tidy-s reads =
     whole
-    (own-same r s (tidy .own) (tidy-s .own) reads)
+    (own-same r s (tidy .slots) (tidy-s .slots) reads)
     (ext-getD 0 (r .addresses) (s .addresses) (tidy .others .addresses ∙ sym (tidy-s .others .addresses))
     (λ i less. addresses i))
     (ext-getD 0 (r .values) (s .values) (tidy .others .values ∙ sym (tidy-s .others .values))

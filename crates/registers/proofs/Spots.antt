@@ -9,14 +9,14 @@ use lib.ListN.{getD, set}
 use Rattle.registers.specs.declared.Registers.{Registers}
 use Rattle.registers.specs.declared.Refusal.the-variants.{Done, RegistersFull}
 use Rattle.registers.specs.declared.Spot.{Spot}
-use Rattle.registers.specs.declared.Spot.the-variants.{Own, Never, Held, Absent}
+use Rattle.registers.specs.declared.Spot.the-variants.{Own, Never, Present, Absent}
 use Rattle.registers.specs.Words.{ownWith, unstored, place, spotOf, removedTo, insertedTo, endOf}
 use Rattle.registers.specs.Ports.{slotOf}
 use Rattle.registers.specs.Words.{Others, OtherOutcome, otherOutcome, registersOf, othersOf}
 use Rattle.registers.specs.Words.{wordAt, Outcome, outcome, beside, putIn, putWord}
 use Rattle.registers.specs.Within.{Other}
-use Rattle.registers.proofs.Cases.{spot-own, spot-other, other-never, other-held, other-absent}
-use Rattle.registers.proofs.Cases.{held-zero, held-some, absent-zero, absent-full, absent-room}
+use Rattle.registers.proofs.Cases.{spot-own, spot-other, other-never, other-present, other-absent}
+use Rattle.registers.proofs.Cases.{present-zero, present-some, absent-zero, absent-full, absent-room}
 use Rattle.whole.proofs.Choice.{by-test, by-same}
 use Rattle.registers.proofs.Own.{by-slot}
 
@@ -34,9 +34,9 @@ module _ (l : List ℕ) (a : ℕ) where
   never-spot : slotOf a ≡ 76 → unstored a ≡ true → Never ≡ spotOf l a
   never-spot none u = other-never l a u ∙ spot-other l a (slotOf a) refl (none-own none)
 
-  pub held-spot : Other a → Here l a → Held (place l a) ≡ spotOf l a
-  held-spot other here =
-      other-held l a (place l a) refl (other .stored) here ∙ spot-other l a (slotOf a) refl (none-own (other .slot))
+  pub present-spot : Other a → Here l a → Present (place l a) ≡ spotOf l a
+  present-spot other here =
+      other-present l a (place l a) refl (other .stored) here ∙ spot-other l a (slotOf a) refl (none-own (other .slot))
 
   pub absent-spot : Other a → Gone l a → Absent (place l a) ≡ spotOf l a
   absent-spot other gone =
@@ -50,15 +50,15 @@ by-kind a own never other =
 
 pub by-spot : (l : List ℕ) (a : ℕ) (P : Spot → Type 0) → (slotOf a < 76 → P (Own (slotOf a)))
     → (slotOf a ≡ 76 → unstored a ≡ true → P Never)
-    → (Other a → Here l a → P (Held (place l a)))
+    → (Other a → Here l a → P (Present (place l a)))
     → (Other a → Gone l a → P (Absent (place l a)))
     → P (spotOf l a)
-by-spot l a P own never held absent =
+by-spot l a P own never present absent =
     by-kind a
     (λ less. subst P (spot-own l a (slotOf a) refl less) (own less))
     (λ none u. subst P (never-spot l a none u) (never none u))
     (λ other. by-same (getD l (place l a) 0) a
-    (λ here. subst P (held-spot l a other here) (held other here))
+    (λ here. subst P (present-spot l a other here) (present other here))
     (λ gone. subst P (absent-spot l a other gone) (absent other gone)))
 
 -- ---- what is read
@@ -68,9 +68,9 @@ module _ (r : Registers) (a : ℕ) where
   unfolding wordAt
   read-never none u = rw (← never-spot (r .addresses) a none u)
 
-  pub read-held : Other a → Here (r .addresses) a → wordAt r a ≡ getD (r .values) (place (r .addresses) a) 0
+  pub read-present : Other a → Here (r .addresses) a → wordAt r a ≡ getD (r .values) (place (r .addresses) a) 0
   unfolding wordAt
-  read-held other here = rw (← held-spot (r .addresses) a other here)
+  read-present other here = rw (← present-spot (r .addresses) a other here)
 
   pub read-absent : Other a → Gone (r .addresses) a → wordAt r a ≡ 0
   unfolding wordAt
@@ -85,16 +85,16 @@ placeIn r a = place (r .addresses) a
 -- place i is given back, set, or taken
 abbrev pub movedUp : Registers → ℕ → Registers
 movedUp r i =
-    registersOf (r .own)
+    registersOf (r .slots)
     (removedTo (endOf (othersOf r) i) (r .addresses) i)
     (removedTo (endOf (othersOf r) i) (r .values) i)
 
 abbrev pub setIn : Registers → ℕ → ℕ → Registers
-setIn r i v = registersOf (r .own) (r .addresses) (set (r .values) i v)
+setIn r i v = registersOf (r .slots) (r .addresses) (set (r .values) i v)
 
 abbrev pub movedDown : Registers → ℕ → ℕ → ℕ → Registers
 movedDown r i a v =
-    registersOf (r .own)
+    registersOf (r .slots)
     (insertedTo (endOf (othersOf r) i) (r .addresses) i a)
     (insertedTo (endOf (othersOf r) i) (r .values) i v)
 
@@ -105,7 +105,7 @@ put-never r a v none u = rw (← never-spot (r .addresses) a none u)
 -- an own word is stored, nothing is, a place is given back, set, not needed or taken, or there is no room
 abbrev pub PutCases : Registers → ℕ → ℕ → Registers → Registers → (Outcome → Type 0) → Type 0
 PutCases r a v back taken P =
-    (slotOf a < 76 → P (outcome Done (registersOf (ownWith (r .own) a v) (r .addresses) (r .values))))
+    (slotOf a < 76 → P (outcome Done (registersOf (ownWith (r .slots) a v) (r .addresses) (r .values))))
     → (slotOf a ≡ 76 → unstored a ≡ true → P (outcome Done r))
     → (Other a → Here (r .addresses) a → v ≡ 0 → P (outcome Done back))
     → (Other a → Here (r .addresses) a → v ≢ 0 → P (outcome Done (setIn r (placeIn r a) v)))
@@ -122,8 +122,8 @@ module _ (r : Registers) (a v : ℕ) (P : Outcome → Type 0) where
       own
       never
       (λ other here. by-same v 0
-      (λ z. subst InHeld (held-zero (othersOf r) (placeIn r a) v _ _ _ z refl refl refl) (back other here z))
-      (λ n. subst InHeld (held-some (othersOf r) (placeIn r a) v _ n refl) (set other here n)))
+      (λ z. subst InPresent (present-zero (othersOf r) (placeIn r a) v _ _ _ z refl refl refl) (back other here z))
+      (λ n. subst InPresent (present-some (othersOf r) (placeIn r a) v _ n refl) (set other here n)))
       (λ other gone. by-same v 0
       (λ z. subst InAbsent (absent-zero (othersOf r) (placeIn r a) v a z) (none other gone z))
       (λ n. by-same (getD (r .values) 255 0) 0
@@ -132,8 +132,8 @@ module _ (r : Registers) (a v : ℕ) (P : Outcome → Type 0) where
       subst InAbsent room (taken other gone n free))
       (λ last. subst InAbsent (absent-full (othersOf r) (placeIn r a) v a n last) (full other gone n last))))
     where
-      InHeld : Others → Type 0
-      InHeld x = P (beside (r .own) (otherOutcome Done x))
+      InPresent : Others → Type 0
+      InPresent x = P (beside (r .slots) (otherOutcome Done x))
 
       InAbsent : OtherOutcome → Type 0
-      InAbsent x = P (beside (r .own) x)
+      InAbsent x = P (beside (r .slots) x)

@@ -4,6 +4,7 @@ use mathlib.Core.Path.{_≡_, refl, sym, ap, _∙_}
 use mathlib.Core.Bool.{true, true≢false}
 use native.Mathlib.Omega.{arith}
 use borrow.Author.Tests.{ne-eqb}
+use Rattle.map.specs.Numbers.{RTC-SECONDS, RTC-MINUTES, RTC-HOURS}
 use Rattle.registers.specs.declared.Registers.{Registers}
 use Rattle.registers.specs.declared.Refusal.the-variants.{Done}
 use Rattle.registers.specs.Words.{unstored}
@@ -31,9 +32,9 @@ unstored-slot : (a : ℕ) → unstored a ≡ true → slotOf a ≡ 76
 unfolding slotOf ownWords wordsFrom namedWords namedRows index unstored dayWord
 unstored-slot a u =
     by-same a 0 (λ e. ap slotOf e)
-    (λ n0. by-same a 0xC0040000 (λ e. ap slotOf e)
-    (λ n1. by-same a 0xC0040004 (λ e. ap slotOf e)
-    (λ n2. by-same a 0xC0040008 (λ e. ap slotOf e)
+    (λ n0. by-same a RTC-SECONDS (λ e. ap slotOf e)
+    (λ n1. by-same a RTC-MINUTES (λ e. ap slotOf e)
+    (λ n2. by-same a RTC-HOURS (λ e. ap slotOf e)
     (λ n3. absurd (true≢false (sym u ∙ simp (ne-eqb _ _ n0, ne-eqb _ _ n1, ne-eqb _ _ n2, ne-eqb _ _ n3)))))))
 
 module _ (r : Registers) (a : ℕ) (never : unstored a ≡ true) where

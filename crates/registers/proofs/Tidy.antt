@@ -13,7 +13,7 @@ use Rattle.registers.specs.Within.{Other, TidyOthers, Tidy}
 use Rattle.whole.proofs.Choice.{by-same, by-less}
 use Rattle.registers.proofs.Own.{own-length}
 use Rattle.registers.proofs.Spots.{Here, Gone, placeIn, setIn}
-use Rattle.registers.proofs.Order.{held, Gap, gap}
+use Rattle.registers.proofs.Order.{present, Gap, gap}
 use Rattle.registers.proofs.Moving.{givenBack, takenBy, tidy-cases}
 use Rattle.registers.proofs.Shifts.{length-removed, length-inserted, inserted-here}
 use Rattle.registers.proofs.Wider.{past, past-less, past-back, past-from, past-upto, by-past}
@@ -29,7 +29,7 @@ zeros (suc n) (suc i) = zeros n i
 pub tidy-fresh : Tidy freshRegisters
 unfolding freshRegisters
 tidy-fresh = record {
-  own = length-replicate {A = ℕ} 76 0;
+  slots = length-replicate {A = ℕ} 76 0;
   others = record {
     addresses = length-replicate {A = ℕ} 256 0;
     values = length-replicate {A = ℕ} 256 0;
@@ -158,7 +158,7 @@ tidy-back r i tidy =
 module _ (r : Registers) (a v : ℕ) (tidy : TidyOthers (othersOf r)) (other : Other a) (some : v ≢ 0) where
   pub tidy-here : Here (r .addresses) a → TidyOthers (othersOf (setIn r (placeIn r a) v))
   tidy-here here =
-      tidy-set (othersOf r) (placeIn r a) v tidy (held (othersOf r) tidy a other (placeIn r a) here) some
+      tidy-set (othersOf r) (placeIn r a) v tidy (present (othersOf r) tidy a other (placeIn r a) here) some
 
   module _ (gone : Gone (r .addresses) a) (free : getD (r .values) 255 0 ≡ 0) where
     pub taken-at : (l : List ℕ) (y : ℕ) → length l ≡ 256 → getD (inserted l (placeIn r a) y) (placeIn r a) 0 ≡ y
@@ -176,7 +176,7 @@ module _ (r : Registers) (a v : ℕ) (tidy : TidyOthers (othersOf r)) (other : O
 pub tidy-put : (r : Registers) (a v : ℕ) → Tidy r → Tidy (putWord r a v .registers)
 tidy-put r a v tidy =
     tidy-cases r a v (tidy .others) (λ (p : Outcome). Tidy (p .registers))
-    (λ less. record { own = own-length (r .own) a v ∙ tidy .own; others = tidy .others })
+    (λ less. record { slots = own-length (r .slots) a v ∙ tidy .slots; others = tidy .others })
     (λ slot never. tidy)
     (λ other here z. beside-own (tidy-back r (placeIn r a) (tidy .others)))
     (λ other here some. beside-own (tidy-here r a v (tidy .others) other some here))
@@ -184,5 +184,5 @@ tidy-put r a v tidy =
     (λ other gone some free. beside-own (tidy-taken r a v (tidy .others) other some gone free))
     (λ other gone some full. tidy)
   where
-    beside-own : {o : Others} → TidyOthers o → Tidy (registersOf (r .own) (o .addresses) (o .values))
-    beside-own others = record { own = tidy .own; others = others }
+    beside-own : {o : Others} → TidyOthers o → Tidy (registersOf (r .slots) (o .addresses) (o .values))
+    beside-own others = record { slots = tidy .slots; others = others }

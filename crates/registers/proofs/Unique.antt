@@ -21,8 +21,8 @@ number-tells = same-by-number numberOf refusalOf back
     back RegistersFull = refl
 
 -- of a put to a word that stands there are one later pair of lists
-pub one-held : (d : Others) (p q : Others) → p ≡ d → q ≡ d → (p .addresses ≡ q .addresses) × (p .values ≡ q .values)
-one-held d p q h k =
+pub one-present : (d : Others) (p q : Others) → p ≡ d → q ≡ d → (p .addresses ≡ q .addresses) × (p .values ≡ q .values)
+one-present d p q h k =
     let e : p ≡ q = unique h k in
     (ap (λ (o : Others). o .addresses) e, ap (λ (o : Others). o .values) e)
 

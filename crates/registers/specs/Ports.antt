@@ -1,5 +1,5 @@
--- The register map: the words that are more than stored, and the port behind each. What a write does, what a read
--- gives, what is carried to flash and panel, and what is refused goes by the port.
+-- The register map: the words that are more than stored, and the port behind each. What a write does or is refused,
+-- what a read gives, and what is carried to flash and panel goes by the port.
 use Prim.Native.Nat.{ℕ, zero, suc, _+_, _-_, _*_, _/_, _%_}
 use mathlib.Core.Bool.{Bool, cond, _||_}
 use mathlib.Core.List.{List, [], _∷_, _++_}

@@ -26,7 +26,7 @@ pub record TidyOthers (o : Others) : Type 0 where
   pub falls : (i j : ℕ) → i < j → getD (o .values) j 0 ≢ 0 → getD (o .addresses) j 0 < getD (o .addresses) i 0
 
 pub record Tidy (r : Registers) : Type 0 where
-  pub own : length (r .own) ≡ 76
+  pub slots : length (r .slots) ≡ 76
   pub others : TidyOthers (othersOf r)
 
 -- 1 for a word that is not zero

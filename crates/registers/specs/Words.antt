@@ -9,7 +9,7 @@ use Rattle.registers.specs.declared.Registers.{Registers}
 use Rattle.registers.specs.declared.Refusal.{Refusal}
 use Rattle.registers.specs.declared.Refusal.the-variants.{Done, RegistersFull}
 use Rattle.registers.specs.declared.Spot.{Spot}
-use Rattle.registers.specs.declared.Spot.the-variants.{Own, Never, Held, Absent}
+use Rattle.registers.specs.declared.Spot.the-variants.{Own, Never, Present, Absent}
 use Rattle.registers.specs.Ports.{slotOf, dayWord}
 
 -- Refusal numbers: 0 done, 4 RegistersFull
@@ -21,10 +21,10 @@ numberOf RegistersFull = REGISTERS-FULL
 
 -- a word in its own storage, which has 76 words; where it has none it reads as 0, and nothing is stored
 unfoldable pub ownAt : List ℕ → ℕ → ℕ
-ownAt own a = getD own (slotOf a) 0
+ownAt slots a = getD slots (slotOf a) 0
 
 unfoldable pub ownWith : List ℕ → ℕ → ℕ → List ℕ
-ownWith own a v = set own (slotOf a) v
+ownWith slots a v = set slots (slotOf a) v
 
 -- ---- the others
 
@@ -89,8 +89,8 @@ unfoldable pub endOf : Others → ℕ → ℕ
 endOf o i = endFrom strides (o .addresses) i
 
 -- a word that stands in place i becomes v; with zero it gives the place back
-unfoldable pub putHeld : Others → ℕ → ℕ → Others
-putHeld o i v =
+unfoldable pub putPresent : Others → ℕ → ℕ → Others
+putPresent o i v =
     cond (eqb v 0)
     (others (removedTo (endOf o i) (o .addresses) i) (removedTo (endOf o i) (o .values) i))
     (others (o .addresses) (set (o .values) i v))
@@ -113,7 +113,7 @@ putAbsent o i a v =
 -- ---- all words
 
 abbrev pub registersOf : List ℕ → List ℕ → List ℕ → Registers
-registersOf own addresses values = record { own = own; addresses = addresses; values = values }
+registersOf slots addresses values = record { slots = slots; addresses = addresses; values = values }
 
 abbrev pub othersOf : Registers → Others
 othersOf r = others (r .addresses) (r .values)
@@ -125,20 +125,20 @@ freshRegisters = registersOf (replicate 76 0) (replicate 256 0) (replicate 256 0
 unfoldable pub otherSpot : List ℕ → ℕ → Spot
 otherSpot addresses a =
     cond (unstored a) Never
-    (cond (eqb (getD addresses (place addresses a) 0) a) (Held (place addresses a)) (Absent (place addresses a)))
+    (cond (eqb (getD addresses (place addresses a) 0) a) (Present (place addresses a)) (Absent (place addresses a)))
 
 -- where a word is
 unfoldable pub spotOf : List ℕ → ℕ → Spot
 spotOf addresses a = cond (ltb (slotOf a) 76) (Own (slotOf a)) (otherSpot addresses a)
 
 abbrev pub wordIn : List ℕ → List ℕ → Spot → ℕ
-wordIn own values (Own s) = getD own s 0
-wordIn own values Never = 0
-wordIn own values (Held i) = getD values i 0
-wordIn own values (Absent i) = 0
+wordIn slots values (Own s) = getD slots s 0
+wordIn slots values Never = 0
+wordIn slots values (Present i) = getD values i 0
+wordIn slots values (Absent i) = 0
 
 unfoldable pub wordAt : Registers → ℕ → ℕ
-wordAt r a = wordIn (r .own) (r .values) (spotOf (r .addresses) a)
+wordAt r a = wordIn (r .slots) (r .values) (spotOf (r .addresses) a)
 
 pub record Outcome : Type 0 where
   pub refusal : ℕ
@@ -149,13 +149,16 @@ outcome r s = record { refusal = numberOf r; registers = s }
 
 -- what a put of another word leaves, beside the own words
 abbrev pub beside : List ℕ → OtherOutcome → Outcome
-beside own o = record { refusal = o .refusal; registers = registersOf own (o .others .addresses) (o .others .values) }
+beside slots o = record {
+  refusal = o .refusal;
+  registers = registersOf slots (o .others .addresses) (o .others .values);
+}
 
 abbrev pub putIn : Registers → Spot → ℕ → ℕ → Outcome
-putIn r (Own s) a v = outcome Done (registersOf (set (r .own) s v) (r .addresses) (r .values))
+putIn r (Own s) a v = outcome Done (registersOf (set (r .slots) s v) (r .addresses) (r .values))
 putIn r Never a v = outcome Done r
-putIn r (Held i) a v = beside (r .own) (otherOutcome Done (putHeld (othersOf r) i v))
-putIn r (Absent i) a v = beside (r .own) (putAbsent (othersOf r) i a v)
+putIn r (Present i) a v = beside (r .slots) (otherOutcome Done (putPresent (othersOf r) i v))
+putIn r (Absent i) a v = beside (r .slots) (putAbsent (othersOf r) i a v)
 
 unfoldable pub putWord : Registers → ℕ → ℕ → Outcome
 putWord r a v = putIn r (spotOf (r .addresses) a) a v

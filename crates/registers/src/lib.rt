@@ -8,12 +8,12 @@ ghost use Prim.Native.Nat.{ℕ, _+_, _-_, _≤_};
 ghost use lib.ListN.{length, getD, set};
 ghost use Rattle.registers.specs.Words.{ownAt, ownWith, unstored, halved, place};
 ghost use Rattle.registers.specs.Ports.{slotOf, index, namedWords, timerPort, portAt, dayWord};
-ghost use Rattle.registers.specs.Words.{removedTo, insertedTo, strides, endFrom, others, putHeld, otherOutcome};
-ghost use Rattle.registers.specs.Words.{putAbsent, otherSpot, spotOf, wordIn};
+ghost use Rattle.registers.specs.Words.{removedTo, insertedTo, strides, endFrom, others, putPresent};
+ghost use Rattle.registers.specs.Words.{otherOutcome, putAbsent, otherSpot, spotOf, wordIn};
 ghost use Rattle.registers.specs.Words.{registersOf, freshRegisters, wordAt};
 
 pub struct Registers {
-    pub own: [u32; 76],
+    pub slots: [u32; 76],
     pub addresses: [u32; 256],
     pub values: [u32; 256],
 }
@@ -67,14 +67,14 @@ pub enum Port {
 pub enum Spot {
     Own(usize),
     Never,
-    Held(usize),
+    Present(usize),
     Absent(usize),
 }
 
 // ---- words with storage of their own
 
 // The slot of a word that is no timer's, or 76. A pattern takes no constant, so the addresses of `map` are spelled here
-// once more, and nowhere else.
+// once more; of what ships nothing else spells them.
 fn named(addr: u32) -> usize
     ensures { λ r. ⌜ r ≡ 48 + index namedWords addr ⌝ }
 {
@@ -200,42 +200,42 @@ pub fn day_word(addr: u32) -> bool
 
 // An array is as long as its type says: a proof is told so of one by value, and not of one that is lent. A call is
 // compiled to nothing.
-fn own_sized(own: [u32; 76])
-    ensures { λ r. ⌜ length own ≡ 76 ⌝ }
+fn own_sized(slots: [u32; 76])
+    ensures { λ r. ⌜ length slots ≡ 76 ⌝ }
 {}
 
-pub fn slot_get(own: &[u32; 76], s: usize) -> u32
-    ensures { λ r. ⌜ r ≡ getD (now (own .entry)) s 0 ⌝ }
+pub fn slot_get(slots: &[u32; 76], s: usize) -> u32
+    ensures { λ r. ⌜ r ≡ getD (now (slots .entry)) s 0 ⌝ }
 {
     if s < 76 {
-        return own[s];
+        return slots[s];
     }
-    own_sized(*own);
+    own_sized(*slots);
     0
 }
 
-pub fn slot_set(own: &mut [u32; 76], s: usize, value: u32)
-    ensures { λ r. ⌜ now (own .exit) ≡ set (now (own .entry)) s value ⌝ }
+pub fn slot_set(slots: &mut [u32; 76], s: usize, value: u32)
+    ensures { λ r. ⌜ now (slots .exit) ≡ set (now (slots .entry)) s value ⌝ }
 {
     if s < 76 {
-        own[s] = value;
+        slots[s] = value;
         return;
     }
-    own_sized(*own);
+    own_sized(*slots);
 }
 
 // 0 where the word has no storage of its own.
-pub fn own_reg(own: &[u32; 76], addr: u32) -> u32
-    ensures { λ r. ⌜ r ≡ ownAt (now (own .entry)) addr ⌝ }
+pub fn own_reg(slots: &[u32; 76], addr: u32) -> u32
+    ensures { λ r. ⌜ r ≡ ownAt (now (slots .entry)) addr ⌝ }
 {
-    slot_get(own, slot(addr))
+    slot_get(slots, slot(addr))
 }
 
 // Nothing where the word has no storage of its own.
-pub fn own_insert(own: &mut [u32; 76], addr: u32, value: u32)
-    ensures { λ r. ⌜ now (own .exit) ≡ ownWith (now (own .entry)) addr value ⌝ }
+pub fn own_insert(slots: &mut [u32; 76], addr: u32, value: u32)
+    ensures { λ r. ⌜ now (slots .exit) ≡ ownWith (now (slots .entry)) addr value ⌝ }
 {
-    slot_set(own, slot(addr), value);
+    slot_set(slots, slot(addr), value);
 }
 
 // ---- the others
@@ -393,9 +393,9 @@ pub fn place_get(values: &[u32; 256], i: usize) -> u32
 }
 
 // A word that becomes zero gives its place back.
-pub fn put_held(addresses: &mut [u32; 256], values: &mut [u32; 256], i: usize, value: u32)
+pub fn put_present(addresses: &mut [u32; 256], values: &mut [u32; 256], i: usize, value: u32)
     ensures { λ r. ⌜ others (now (addresses .exit)) (now (values .exit))
-        ≡ putHeld (others (now (addresses .entry)) (now (values .entry))) i value ⌝ }
+        ≡ putPresent (others (now (addresses .entry)) (now (values .entry))) i value ⌝ }
 {
     if value == 0 {
         let end = end_from(addresses, i);
@@ -442,7 +442,7 @@ pub fn find_other(addresses: &[u32; 256], addr: u32) -> Spot
     }
     let i = place(addresses, addr);
     if addresses[i] == addr {
-        return Spot::Held(i);
+        return Spot::Present(i);
     }
     Spot::Absent(i)
 }
@@ -457,13 +457,13 @@ fn find(addresses: &[u32; 256], addr: u32) -> Spot
     find_other(addresses, addr)
 }
 
-pub fn word_in(own: &[u32; 76], values: &[u32; 256], spot: Spot) -> u32
-    ensures { λ r. ⌜ r ≡ wordIn (now (own .entry)) (now (values .entry)) spot ⌝ }
+pub fn word_in(slots: &[u32; 76], values: &[u32; 256], spot: Spot) -> u32
+    ensures { λ r. ⌜ r ≡ wordIn (now (slots .entry)) (now (values .entry)) spot ⌝ }
 {
     match spot {
-        Spot::Own(s) => slot_get(own, s),
+        Spot::Own(s) => slot_get(slots, s),
         Spot::Never => 0,
-        Spot::Held(i) => place_get(values, i),
+        Spot::Present(i) => place_get(values, i),
         Spot::Absent(_) => 0,
     }
 }
@@ -471,17 +471,17 @@ pub fn word_in(own: &[u32; 76], values: &[u32; 256], spot: Spot) -> u32
 // ---- all words, over lent arrays
 
 // All words are zero, whatever the arrays held.
-pub fn clear(own: &mut [u32; 76], addresses: &mut [u32; 256], values: &mut [u32; 256])
-    ensures { λ r. ⌜ registersOf (now (own .exit)) (now (addresses .exit)) (now (values .exit)) ≡ freshRegisters ⌝ }
+pub fn clear(slots: &mut [u32; 76], addresses: &mut [u32; 256], values: &mut [u32; 256])
+    ensures { λ r. ⌜ registersOf (now (slots .exit)) (now (addresses .exit)) (now (values .exit)) ≡ freshRegisters ⌝ }
 {
-    *own = [0; 76];
+    *slots = [0; 76];
     *addresses = [0; 256];
     *values = [0; 256];
 }
 
-pub fn reg(own: &[u32; 76], addresses: &[u32; 256], values: &[u32; 256], addr: u32) -> u32
+pub fn reg(slots: &[u32; 76], addresses: &[u32; 256], values: &[u32; 256], addr: u32) -> u32
     ensures { λ r. ⌜ r
-        ≡ wordAt (registersOf (now (own .entry)) (now (addresses .entry)) (now (values .entry))) addr ⌝ }
+        ≡ wordAt (registersOf (now (slots .entry)) (now (addresses .entry)) (now (values .entry))) addr ⌝ }
 {
-    word_in(own, values, find(addresses, addr))
+    word_in(slots, values, find(addresses, addr))
 }

@@ -71,7 +71,7 @@ pub(crate) fn poke(
         (value / 0x1_0000 % 0x100) as u8,
         (value / 0x100_0000 % 0x100) as u8,
     ];
-    bus::block::poke(ram, sram, gpio, addr, &bytes);
+    block::poke(ram, sram, gpio, addr, &bytes);
 }
 
 pub(crate) fn digest_of(

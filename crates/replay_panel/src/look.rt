@@ -1,6 +1,6 @@
 // Looks at what no answer shows.
 ghost use Prim.Native.Nat.{_≤_};
-use crate::memory::checksum;
+use crate::framebuffer::checksum;
 use lines::Answer;
 use lines::answered;
 use panel::Panel;

@@ -1,6 +1,6 @@
 // Answers a list of steps for the panel: see README.md beside src/.
+mod framebuffer;
 mod look;
-mod memory;
 mod put;
 mod send;
 mod step;

@@ -1,5 +1,5 @@
 // Puts state as no run leaves it, to see that any state is worked as the Rust works it.
-use panel::Held;
+use panel::MaybeByte;
 use panel::Panel;
 use panel::Pen;
 use panel::Window;
@@ -13,12 +13,12 @@ fn count(here: bool, value: u64, old: u64) -> u64 {
 }
 
 // A byte, or none from 256 on.
-fn half_or(here: bool, value: u64, old: Held) -> Held {
+fn half_or(here: bool, value: u64, old: MaybeByte) -> MaybeByte {
     if here {
         if value % 512 < 256 {
-            return Held::Byte((value % 256) as u8);
+            return MaybeByte::Byte((value % 256) as u8);
         }
-        return Held::Nothing;
+        return MaybeByte::Nothing;
     }
     old
 }

@@ -1,7 +1,7 @@
 // A step of the list.
+use crate::framebuffer::draw;
+use crate::framebuffer::show;
 use crate::look::look;
-use crate::memory::draw;
-use crate::memory::show;
 use crate::put::put;
 use crate::send::send;
 use crate::send::send_all;

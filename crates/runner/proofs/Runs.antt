@@ -20,7 +20,9 @@ use Rattle.system.specs.System.{machine, freshSystem}
 use Rattle.entries.specs.declared.Entry.{Entry}
 use Rattle.entries.specs.Answers.{answerBytes}
 use Rattle.entries.specs.Turn.{kindIn, lastKind, RunState, runState, afterEntry}
-use Rattle.runner.specs.Format.{pressBytes, stepBytes, mostOf, pressesIn, stepsIn, entriesIn, Kinds, kindsFrom}
+use Rattle.runner.specs.Format.{pressBytes, stepBytes, mostPresses, mostSteps, pressesIn, stepsIn, entriesIn}
+use Rattle.runner.specs.Format.{kindsFrom}
+use Rattle.runner.specs.Inner.{Kinds}
 use Rattle.runner.specs.Format.{behindPresses, badWith, badScript, pressFrom, stepFrom, entryAt, entriesFrom}
 use Rattle.runner.specs.Script.{afterEntries, Ended, ended, endOf, badMemory, outTooShort, runOf, scriptOf}
 
@@ -145,34 +147,34 @@ module _ (s : List ℕ) (p : ℕ) (e : p ≡ pressesIn s) where
   unfolding badScript
   bad-with n h = rw (h, e)
 
-  pub bad-presses : mostOf < p → true ≡ badScript s
+  pub bad-presses : mostPresses < p → true ≡ badScript s
   bad-presses h = rw (lt-ltb _ _ h) refl ∙ bad-with (stepsIn s p) refl
 
-  module _ (l : p ≤ mostOf) (n : ℕ) (h : n ≡ stepsIn s p) where
-    pub bad-steps : mostOf < n → true ≡ badScript s
+  module _ (l : p ≤ mostPresses) (n : ℕ) (h : n ≡ stepsIn s p) where
+    pub bad-steps : mostSteps < n → true ≡ badScript s
     bad-steps g = rw (le-ltb _ _ l, lt-ltb _ _ g) refl ∙ bad-with n h
 
-    pub bad-length : n ≤ mostOf → (length s ≡ behindPresses p + stepBytes * n → ⊥) → true ≡ badScript s
+    pub bad-length : n ≤ mostSteps → (length s ≡ behindPresses p + stepBytes * n → ⊥) → true ≡ badScript s
     bad-length g d = rw (le-ltb _ _ l, le-ltb _ _ g, ne-eqb _ _ d) refl ∙ bad-with n h
 
-    pub bad-kinds : n ≤ mostOf → length s ≡ behindPresses p + stepBytes * n → (k : Bool)
+    pub bad-kinds : n ≤ mostSteps → length s ≡ behindPresses p + stepBytes * n → (k : Bool)
         → k ≡ kindsFrom s (behindPresses p) n → not k ≡ badScript s
     bad-kinds g d k i = rw (le-ltb _ _ l, le-ltb _ _ g, eq-eqb _ _ d, ← i) refl ∙ bad-with n h
 
 -- of a script that is none of these the counts are not above the greatest
 module _ (s : List ℕ) (b : badScript s ≡ false) where
-  presses-few : pressesIn s ≤ mostOf
-  presses-few = by (ltb mostOf (pressesIn s)) refl
+  presses-few : pressesIn s ≤ mostPresses
+  presses-few = by (ltb mostPresses (pressesIn s)) refl
     where
-      by : (t : Bool) → ltb mostOf (pressesIn s) ≡ t → pressesIn s ≤ mostOf
+      by : (t : Bool) → ltb mostPresses (pressesIn s) ≡ t → pressesIn s ≤ mostPresses
       by true t = let z : true ≡ false = bad-presses s (pressesIn s) refl (ltb-true _ _ t) ∙ b in let y : _≡_ {A = ℕ}
           0 1 = cc in omega arith
       by false t = ltb-false _ _ t
 
-  steps-few : stepsIn s (pressesIn s) ≤ mostOf
-  steps-few = by (ltb mostOf (stepsIn s (pressesIn s))) refl
+  steps-few : stepsIn s (pressesIn s) ≤ mostSteps
+  steps-few = by (ltb mostSteps (stepsIn s (pressesIn s))) refl
     where
-      by : (t : Bool) → ltb mostOf (stepsIn s (pressesIn s)) ≡ t → stepsIn s (pressesIn s) ≤ mostOf
+      by : (t : Bool) → ltb mostSteps (stepsIn s (pressesIn s)) ≡ t → stepsIn s (pressesIn s) ≤ mostSteps
       by true t = let z : true ≡ false = bad-steps s (pressesIn s) refl presses-few _ refl (ltb-true _ _ t) ∙ b in
           let y : _≡_ {A = ℕ} 0 1 = cc in omega arith
       by false t = ltb-false _ _ t
@@ -191,10 +193,10 @@ module _ (s : List ℕ) (b : badScript s ≡ false) where
   kinds-good = not-false _ (bad-kinds s (pressesIn s) refl presses-few _ refl steps-few steps-fit _ refl ∙ b)
 
 module _ (s : List ℕ) {b : Bool} (e : b ≡ badScript s) (h : b ≡ false) {p : ℕ} (i : p ≡ pressesIn s) where
-  pub few-presses : p ≤ mostOf
+  pub few-presses : p ≤ mostPresses
   few-presses = rw i (presses-few s (sym e ∙ h))
 
-  pub few : {k : ℕ} → k ≡ stepsIn s p → (p ≤ mostOf) × (k ≤ mostOf)
+  pub few : {k : ℕ} → k ≡ stepsIn s p → (p ≤ mostPresses) × (k ≤ mostSteps)
   few j = (few-presses, rw (j, i) (steps-few s (sym e ∙ h)))
 
   pub long : {k : ℕ} → k ≡ stepsIn s p → length s ≡ behindPresses p + stepBytes * k
@@ -206,8 +208,8 @@ module _ (s : List ℕ) {b : Bool} (e : b ≡ badScript s) (h : b ≡ false) {p 
 -- so the count fits four bytes
 pub few-entries : (s : List ℕ) → badScript s ≡ false → entriesIn s % 2 ^ 32 ≡ entriesIn s
 few-entries s b =
-    let p : pressesIn s ≤ mostOf = presses-few s b in
-    let n : stepsIn s (pressesIn s) ≤ mostOf = steps-few s b in
+    let p : pressesIn s ≤ mostPresses = presses-few s b in
+    let n : stepsIn s (pressesIn s) ≤ mostSteps = steps-few s b in
     omega arith
 
 -- ---- the loops over entries

@@ -1,12 +1,11 @@
 -- 01, Scripts: little-endian, a u32 count of presses, each key u8 and f64 time; a u32 count of steps, each kind u8,
 -- size u8, two unused bytes, address u32, value u64.
-use Prim.Native.Nat.{ℕ, zero, suc, _+_, _-_, _*_, _^_, _<_}
-use mathlib.Core.Path.{_≡_}
-use mathlib.Core.Bool.{Bool, true, false, not, cond, _&&_, _||_}
+use Prim.Native.Nat.{ℕ, zero, suc, _+_, _-_, _*_, _^_}
+use mathlib.Core.Bool.{Bool, true, not, cond, _&&_, _||_}
 use mathlib.Core.List.{List, [], _∷_}
-use lib.ListN.{length, getD}
+use lib.ListN.{length}
 use lib.Dec.{eqb, ltb}
-use Rattle.map.specs.Numbers.{MOST-STEPS, PRESS-BYTES, STEP-BYTES}
+use Rattle.map.specs.Numbers.{MOST-PRESSES, MOST-STEPS, PRESS-BYTES, STEP-BYTES}
 use Rattle.memory.specs.Bytes.{loaded}
 use Rattle.entries.specs.declared.Entry.{Entry}
 use Rattle.entries.specs.Turn.{kindIn}
@@ -19,9 +18,12 @@ pressBytes = PRESS-BYTES
 abbrev pub stepBytes : ℕ
 stepBytes = STEP-BYTES
 
--- the greatest count, of presses and of steps
-abbrev pub mostOf : ℕ
-mostOf = MOST-STEPS
+-- the greatest counts
+abbrev pub mostPresses : ℕ
+mostPresses = MOST-PRESSES
+
+abbrev pub mostSteps : ℕ
+mostSteps = MOST-STEPS
 
 -- ---- the counts
 
@@ -38,10 +40,6 @@ entriesIn s = pressesIn s + stepsIn s (pressesIn s)
 
 -- ---- 10 BadScript: a count above 4,096, a length other than 8 + 9p + 16s, or a kind outside 1 to 12
 
--- a table that says so of each byte
-abbrev pub Kinds : List Bool → Type 0
-Kinds t = (k : ℕ) → k < 256 → getD t k false ≡ kindIn k
-
 -- the kinds of n steps, the first at a place
 unfoldable pub kindsFrom : List ℕ → ℕ → ℕ → Bool
 kindsFrom s at zero = true
@@ -53,8 +51,8 @@ behindPresses p = 8 + pressBytes * p
 
 abbrev pub badWith : List ℕ → ℕ → ℕ → Bool
 badWith s p n =
-    ltb mostOf p
-    || (ltb mostOf n || not (eqb (length s) (behindPresses p + stepBytes * n) && kindsFrom s (behindPresses p) n))
+    ltb mostPresses p
+    || (ltb mostSteps n || not (eqb (length s) (behindPresses p + stepBytes * n) && kindsFrom s (behindPresses p) n))
 
 unfoldable pub badScript : List ℕ → Bool
 badScript s = badWith s (pressesIn s) (stepsIn s (pressesIn s))

@@ -5,7 +5,8 @@ ghost use Prim.Native.Nat.{ℕ, _+_, _-_, _*_, _≤_, _<_};
 ghost use lib.ListN.{length};
 ghost use Rattle.memory.specs.Bytes.{loaded};
 ghost use Rattle.entries.specs.Turn.{kindIn};
-ghost use Rattle.runner.specs.Format.{pressBytes, stepBytes, mostOf, wide, pressesIn, stepsIn, Kinds};
+ghost use Rattle.runner.specs.Format.{pressBytes, stepBytes, mostPresses, wide, pressesIn, stepsIn};
+ghost use Rattle.runner.specs.Inner.{Kinds};
 ghost use Rattle.runner.specs.Format.{kindsFrom, badScript, pressFrom, stepFrom};
 use entries::Entry;
 
@@ -14,7 +15,9 @@ pub(crate) const PRESS_BYTES: usize = map::PRESS_BYTES;
 
 pub(crate) const STEP_BYTES: usize = map::STEP_BYTES;
 
-const MOST_OF: usize = map::MOST_STEPS;
+const MOST_PRESSES: usize = map::MOST_PRESSES;
+
+const MOST_STEPS: usize = map::MOST_STEPS;
 
 const LAST_KIND: usize = map::WIPE as usize;
 
@@ -35,7 +38,7 @@ pub(crate) fn presses(script: &[u8]) -> usize
 }
 
 pub(crate) fn steps(script: &[u8], p: usize) -> usize
-    requires { ⌜ p ≤ mostOf ⌝ }
+    requires { ⌜ p ≤ mostPresses ⌝ }
     ensures { λ r. ⌜ r ≡ stepsIn (now (script .entry)) p ⌝ }
 {
     memory::load(script, 4 + PRESS_BYTES * p, 4) as usize
@@ -113,11 +116,11 @@ pub(crate) fn bad_script(script: &[u8]) -> bool
     ensures { λ r. ⌜ r ≡ badScript (now (script .entry)) ⌝ }
 {
     let p = presses(script);
-    if p > MOST_OF {
+    if p > MOST_PRESSES {
         return true;
     }
     let n = steps(script, p);
-    if n > MOST_OF {
+    if n > MOST_STEPS {
         return true;
     }
     let from = 8 + PRESS_BYTES * p;

@@ -9,7 +9,7 @@ ghost use lib.ListN.{length};
 ghost use Rattle.system.specs.System.{machine, freshSystem};
 ghost use Rattle.state.specs.Bank.{partsIn};
 ghost use Rattle.system.specs.Bank.{machineOf};
-ghost use Rattle.runner.specs.Format.{stepBytes, mostOf, kindsFrom, behindPresses, entriesFrom};
+ghost use Rattle.runner.specs.Format.{stepBytes, mostPresses, mostSteps, kindsFrom, behindPresses, entriesFrom};
 ghost use Rattle.entries.specs.Answers.{answerBytes};
 ghost use Rattle.entries.specs.Turn.{runState};
 ghost use Rattle.runner.specs.Script.{afterEntries, ended, endOf, runOf};
@@ -32,7 +32,7 @@ use system::wipe::reset;
 
 // The p presses of a script, of n entries in all; whatever the machine holds that no press reaches.
 fn run_presses(
-    times: &mut [f64; 64],
+    starts: &mut [f64; 64],
     codes: &mut [u8; 64],
     cells: &mut Cells,
     floats: &Floats,
@@ -40,18 +40,19 @@ fn run_presses(
     p: usize,
     out: &mut [u8],
 )
-    requires { ⌜ (p ≤ mostOf) × (behindPresses p ≤ length (now script)) × (4 + answerBytes * p ≤ length (now out)) ⌝ }
-    ensures { λ _. ⌜ ((own addresses values rtc page : List ℕ) (at frequencies duties : List Float)
+    requires { ⌜ (p ≤ mostPresses) × (behindPresses p ≤ length (now script))
+        × (4 + answerBytes * p ≤ length (now out)) ⌝ }
+    ensures { λ _. ⌜ ((slots addresses values rtc page : List ℕ) (onsets frequencies duties : List Float)
         (ram sram gpio fb : List ℕ) (n : ℕ) → p ≤ n
         → afterEntries
         (runState
-        (machineOf own addresses values rtc page at frequencies duties (now (times .exit)) (now (codes .exit))
+        (machineOf slots addresses values rtc page onsets frequencies duties (now (starts .exit)) (now (codes .exit))
         (partsIn (now (cells .exit)) (now (floats .entry))) ram sram gpio fb) (now (out .exit)))
         (4 + answerBytes * p)
         (entriesFrom (now (script .entry)) p (n - p) p)
         ≡ afterEntries
         (runState
-        (machineOf own addresses values rtc page at frequencies duties (now (times .entry)) (now (codes .entry))
+        (machineOf slots addresses values rtc page onsets frequencies duties (now (starts .entry)) (now (codes .entry))
         (partsIn (now (cells .entry)) (now (floats .entry))) ram sram gpio fb) (now (out .entry)))
         4
         (entriesFrom (now (script .entry)) p n 0)) ⌝ }
@@ -61,7 +62,7 @@ fn run_presses(
     let mut left = p;
     while left > 0 {
         let e = press_at(script, from);
-        let n = time::buttons::press_bits(times, codes, cells, floats, e.address, e.value);
+        let n = time::buttons::press_bits(starts, codes, cells, floats, e.address, e.value);
         let end = to + ANSWER_BYTES;
         lay(&mut out[..end], to, refused(n));
         from += PRESS_BYTES;
@@ -72,15 +73,15 @@ fn run_presses(
 
 // A script's p presses, and the k steps behind them.
 fn run_entries(
-    own: &mut [u32; 76],
+    slots: &mut [u32; 76],
     addresses: &mut [u32; 256],
     values: &mut [u32; 256],
     rtc: &mut [u8; 256],
     page: &mut [u8; 256],
-    at: &mut [f64; 256],
+    onsets: &mut [f64; 256],
     frequencies: &mut [f64; 256],
     duties: &mut [f64; 256],
-    times: &mut [f64; 64],
+    starts: &mut [f64; 64],
     codes: &mut [u8; 64],
     cells: &mut Cells,
     floats: &mut Floats,
@@ -93,24 +94,24 @@ fn run_entries(
     k: usize,
     out: &mut [u8],
 )
-    requires { ⌜ (p ≤ mostOf) × (k ≤ mostOf) × (behindPresses p + stepBytes * k ≤ length (now script))
+    requires { ⌜ (p ≤ mostPresses) × (k ≤ mostSteps) × (behindPresses p + stepBytes * k ≤ length (now script))
         × (4 + answerBytes * (p + k) ≤ length (now out)) × (kindsFrom (now script) (behindPresses p) k ≡ true) ⌝ }
     ensures { λ _. ⌜ runState
-        (machineOf (now (own .exit)) (now (addresses .exit)) (now (values .exit)) (now (rtc .exit)) (now (page .exit))
-        (now (at .exit)) (now (frequencies .exit)) (now (duties .exit)) (now (times .exit)) (now (codes .exit))
+        (machineOf (now (slots .exit)) (now (addresses .exit)) (now (values .exit)) (now (rtc .exit)) (now (page .exit))
+        (now (onsets .exit)) (now (frequencies .exit)) (now (duties .exit)) (now (starts .exit)) (now (codes .exit))
         (partsIn (now (cells .exit)) (now (floats .exit)))
         (now (ram .exit)) (now (sram .exit)) (now (gpio .exit)) (now (fb .exit))) (now (out .exit))
         ≡ afterEntries
         (runState
-        (machineOf (now (own .entry)) (now (addresses .entry)) (now (values .entry)) (now (rtc .entry))
-        (now (page .entry)) (now (at .entry)) (now (frequencies .entry)) (now (duties .entry)) (now (times .entry))
+        (machineOf (now (slots .entry)) (now (addresses .entry)) (now (values .entry)) (now (rtc .entry))
+        (now (page .entry)) (now (onsets .entry)) (now (frequencies .entry)) (now (duties .entry)) (now (starts .entry))
         (now (codes .entry))
         (partsIn (now (cells .entry)) (now (floats .entry)))
         (now (ram .entry)) (now (sram .entry)) (now (gpio .entry)) (now (fb .entry))) (now (out .entry)))
         4
         (entriesFrom (now (script .entry)) p (p + k) 0) ⌝ }
 {
-    run_presses(times, codes, cells, floats, script, p, out);
+    run_presses(starts, codes, cells, floats, script, p, out);
     let mut from = 8 + PRESS_BYTES * p;
     let mut to = 4 + ANSWER_BYTES * p;
     let mut left = k;
@@ -118,15 +119,15 @@ fn run_entries(
         let e = step_at(script, from);
         let end = to + ANSWER_BYTES;
         act(
-            own,
+            slots,
             addresses,
             values,
             rtc,
             page,
-            at,
+            onsets,
             frequencies,
             duties,
-            times,
+            starts,
             codes,
             cells,
             floats,
@@ -146,15 +147,15 @@ fn run_entries(
 
 // From the fresh state on, a script's p presses and k steps.
 fn run_all(
-    own: &mut [u32; 76],
+    slots: &mut [u32; 76],
     addresses: &mut [u32; 256],
     values: &mut [u32; 256],
     rtc: &mut [u8; 256],
     page: &mut [u8; 256],
-    at: &mut [f64; 256],
+    onsets: &mut [f64; 256],
     frequencies: &mut [f64; 256],
     duties: &mut [f64; 256],
-    times: &mut [f64; 64],
+    starts: &mut [f64; 64],
     codes: &mut [u8; 64],
     cells: &mut Cells,
     floats: &mut Floats,
@@ -167,11 +168,11 @@ fn run_all(
     k: usize,
     out: &mut [u8],
 )
-    requires { ⌜ (p ≤ mostOf) × (k ≤ mostOf) × (behindPresses p + stepBytes * k ≤ length (now script))
+    requires { ⌜ (p ≤ mostPresses) × (k ≤ mostSteps) × (behindPresses p + stepBytes * k ≤ length (now script))
         × (4 + answerBytes * (p + k) ≤ length (now out)) × (kindsFrom (now script) (behindPresses p) k ≡ true) ⌝ }
     ensures { λ _. ⌜ runState
-        (machineOf (now (own .exit)) (now (addresses .exit)) (now (values .exit)) (now (rtc .exit)) (now (page .exit))
-        (now (at .exit)) (now (frequencies .exit)) (now (duties .exit)) (now (times .exit)) (now (codes .exit))
+        (machineOf (now (slots .exit)) (now (addresses .exit)) (now (values .exit)) (now (rtc .exit)) (now (page .exit))
+        (now (onsets .exit)) (now (frequencies .exit)) (now (duties .exit)) (now (starts .exit)) (now (codes .exit))
         (partsIn (now (cells .exit)) (now (floats .exit)))
         (now (ram .exit)) (now (sram .exit)) (now (gpio .exit)) (now (fb .exit))) (now (out .exit))
         ≡ afterEntries
@@ -182,29 +183,29 @@ fn run_all(
         (entriesFrom (now (script .entry)) p (p + k) 0) ⌝ }
 {
     reset(
-        own,
+        slots,
         addresses,
         values,
         rtc,
         page,
-        at,
+        onsets,
         frequencies,
         duties,
-        times,
+        starts,
         codes,
         cells,
         floats,
     );
     run_entries(
-        own,
+        slots,
         addresses,
         values,
         rtc,
         page,
-        at,
+        onsets,
         frequencies,
         duties,
-        times,
+        starts,
         codes,
         cells,
         floats,
@@ -230,7 +231,7 @@ fn run_fresh(
     k: usize,
     out: &mut [u8],
 )
-    requires { ⌜ (p ≤ mostOf) × (k ≤ mostOf) × (behindPresses p + stepBytes * k ≤ length (now script))
+    requires { ⌜ (p ≤ mostPresses) × (k ≤ mostSteps) × (behindPresses p + stepBytes * k ≤ length (now script))
         × (4 + answerBytes * (p + k) ≤ length (now out)) × (kindsFrom (now script) (behindPresses p) k ≡ true) ⌝ }
     ensures { λ _. ⌜ ended 0 (now (ram .exit)) (now (sram .exit)) (now (gpio .exit)) (now (fb .exit))
         (now (out .exit))
@@ -242,28 +243,28 @@ fn run_fresh(
         4
         (entriesFrom (now (script .entry)) p (p + k) 0)) ⌝ }
 {
-    let mut own = [0u32; 76];
+    let mut slots = [0u32; 76];
     let mut addresses = [0u32; 256];
     let mut values = [0u32; 256];
     let mut rtc = [0u8; 256];
     let mut page = [0u8; 256];
-    let mut at = [0.0; 256];
+    let mut onsets = [0.0; 256];
     let mut frequencies = [0.0; 256];
     let mut duties = [0.0; 256];
-    let mut times = [0.0; 64];
+    let mut starts = [0.0; 64];
     let mut codes = [0u8; 64];
     let mut cells = [0u64; CELLS];
     let mut floats = [0.0; FLOATS];
     run_all(
-        &mut own,
+        &mut slots,
         &mut addresses,
         &mut values,
         &mut rtc,
         &mut page,
-        &mut at,
+        &mut onsets,
         &mut frequencies,
         &mut duties,
-        &mut times,
+        &mut starts,
         &mut codes,
         &mut cells,
         &mut floats,

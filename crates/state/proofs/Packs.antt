@@ -8,9 +8,9 @@ use lib.Ieee.{Float, binary64, ofBits}
 use Rattle.state.specs.declared.Parts.{Parts}
 use Rattle.state.specs.Parts.{none, flashPut, panelPut, timesPut, timerPut, irqPut, vsyncPut, convertingPut}
 use Rattle.state.specs.Parts.{latchPut, tonePut, offPut, ringPut, keysPut}
-use Rattle.state.specs.Bank.{cellCount, floatCount, modeIn, heldIn, chipIn, panelIn, timesIn, timerIn, irqIn}
+use Rattle.state.specs.Bank.{cellCount, floatCount, modeIn, maybeIn, chipIn, panelIn, timesIn, timerIn, irqIn}
 use Rattle.state.specs.Bank.{latchIn, toneIn, ringIn, keysIn, partsIn}
-use Rattle.state.specs.Packed.{modeNumber, heldNumber, chipCells, panelCells, clockCells, keyCells, timesFloats}
+use Rattle.state.specs.Packed.{modeNumber, maybeNumber, chipCells, panelCells, clockCells, keyCells, timesFloats}
 use Rattle.state.specs.Packed.{cellsOf, floatsOf, Packed, StaysPacked, Answered}
 use Rattle.state.proofs.Spread.{spread, spread-is}
 
@@ -46,7 +46,8 @@ module _ {n : ℕ} {l : List ℕ} {f : List Float} where
   none-put = record { packed = λ k. k; still = λ h. (refl, refl) }
 
 pub zeros-packed : Packed (replicate cellCount 0) (replicate floatCount (ofBits binary64 0))
-unfolding modeIn heldIn modeNumber heldNumber chipIn panelIn timesIn timerIn irqIn latchIn toneIn ringIn keysIn chipCells panelCells clockCells keyCells timesFloats cellsOf floatsOf
+unfolding modeIn maybeIn modeNumber maybeNumber chipIn panelIn timesIn timerIn irqIn latchIn toneIn ringIn keysIn
+    chipCells panelCells clockCells keyCells timesFloats cellsOf floatsOf
 zeros-packed = record { cells = refl; floats = refl }
 
 -- all parts put, one behind the other

@@ -26,9 +26,9 @@ use Rattle.state.specs.declared.Parts.{Parts}
 use Rattle.state.specs.Parts.{none, flashPut, sentPut, panelPut, penPut, timesPut, turboPut, timerPut, irqPut}
 use Rattle.state.specs.Parts.{vsyncPut, convertingPut, latchPut, tonePut, offPut, ringPut, keysPut, countPut}
 use Rattle.state.specs.Parts.{livePut, holdPut, appliedPut}
-use Rattle.state.specs.Bank.{cellCount, floatCount, heldIn, chipIn, panelIn, timesIn, timerIn, timersIn, irqIn}
+use Rattle.state.specs.Bank.{cellCount, floatCount, maybeIn, chipIn, panelIn, timesIn, timerIn, timersIn, irqIn}
 use Rattle.state.specs.Bank.{latchIn, toneIn, ringIn, keysIn, partsIn}
-use Rattle.state.specs.Packed.{modeNumber, heldNumber, chipCells, sentCells, panelCells, penCells, clockCells}
+use Rattle.state.specs.Packed.{modeNumber, maybeNumber, chipCells, sentCells, panelCells, penCells, clockCells}
 use Rattle.state.specs.Packed.{keyCells, cellsOf, timesFloats, floatsOf, laidAt, Put, timerCells, timerFloats}
 use Rattle.state.specs.Packed.{liveCells, holdFloats}
 use Rattle.state.proofs.Spread.{spread, spread-is}
@@ -71,7 +71,8 @@ module _ (l : List ℕ) (long : length l ≡ cellCount) (f : List Float) where
       → Put l f (set (set (set (set (set (set (set l 4 rx) 5 (x .cmd)) 6 (x .a1)) 7 (x .a2)) 8 (x .a3)) 9 (x .pos)) 10
       a) f
       (laidAt l 4 (sentCells rx x)) f (sentPut (partsIn l f) rx x)
-  unfolding chipIn panelIn timesIn timerIn irqIn latchIn toneIn ringIn keysIn spread laidAt chipCells panelCells clockCells keyCells cellsOf floatsOf timesFloats
+  unfolding chipIn panelIn timesIn timerIn irqIn latchIn toneIn ringIn keysIn spread laidAt chipCells panelCells
+      clockCells keyCells cellsOf floatsOf timesFloats
   sent-put rx x a h m n o p q =
       put-of (λ y. sentPut y rx x) (λ z. laidAt z 4 (sentCells rx x)) (λ v. v) l f
       (rw (spread-is 0 l cellCount long, h))
@@ -93,7 +94,8 @@ module _ (l : List ℕ) (long : length l ≡ cellCount) (f : List Float) where
       (laidAt (set (set (set (set l 0 a) 1 b) 2 c) 3 (x .writes)) 4 (sentCells (x .rx) (x .tx))) f
       (sentPut (partsIn (set (set (set (set l 0 a) 1 b) 2 c) 3 (x .writes)) f) (x .rx) (x .tx))
       → Put l f l′ f (laidAt l 0 (chipCells x)) f (flashPut (partsIn l f) x)
-  unfolding chipIn panelIn timesIn timerIn irqIn latchIn toneIn ringIn keysIn spread laidAt chipCells panelCells clockCells keyCells cellsOf floatsOf timesFloats
+  unfolding chipIn panelIn timesIn timerIn irqIn latchIn toneIn ringIn keysIn spread laidAt chipCells panelCells
+      clockCells keyCells cellsOf floatsOf timesFloats
   chip-put x a b c h i j p =
       put-behind (λ y. flashPut y x) (λ z. laidAt z 0 (chipCells x)) l f p
       (rw (spread-is 0 l cellCount long, h, i, j))
@@ -101,10 +103,11 @@ module _ (l : List ℕ) (long : length l ≡ cellCount) (f : List Float) where
       refl
       refl
 
-  pub pen-put : (x : Pen) (a : ℕ) → (a ≡ heldNumber (x .half)) × (heldIn a ≡ x .half) → x .x < 65536 → x .y < 65536
+  pub pen-put : (x : Pen) (a : ℕ) → (a ≡ maybeNumber (x .half)) × (maybeIn a ≡ x .half) → x .x < 65536 → x .y < 65536
       → Put l f (set (set (set (set l 21 (x .x)) 22 (x .y)) 23 a) 24 (x .frames)) f (laidAt l 21 (penCells x)) f
       (penPut (partsIn l f) x)
-  unfolding chipIn panelIn timesIn timerIn irqIn latchIn toneIn ringIn keysIn spread laidAt chipCells panelCells clockCells keyCells cellsOf floatsOf timesFloats
+  unfolding chipIn panelIn timesIn timerIn irqIn latchIn toneIn ringIn keysIn spread laidAt chipCells panelCells
+      clockCells keyCells cellsOf floatsOf timesFloats
   pen-put x a h m n =
       put-of (λ y. penPut y x) (λ z. laidAt z 21 (penCells x)) (λ v. v) l f
       (rw (spread-is 0 l cellCount long, h .0))
@@ -120,13 +123,14 @@ module _ (l : List ℕ) (long : length l ≡ cellCount) (f : List Float) where
         set (set (set (set (set (set (set (set (set (set l 11 a) 12 b) 13 c) 14 d) 15 e) 16 (x .count)) 17
         (x .window .x0)) 18 (x .window .x1)) 19 (x .window .y0)) 20 (x .window .y1)
 
-    pub panel-put : {l′ : List ℕ} → (a ≡ heldNumber (x .cmd)) × (heldIn a ≡ x .cmd) → length (x .args) ≡ 4
+    pub panel-put : {l′ : List ℕ} → (a ≡ maybeNumber (x .cmd)) × (maybeIn a ≡ x .cmd) → length (x .args) ≡ 4
         → (b ≡ getD (x .args) 0 0) × (b < 256) → (c ≡ getD (x .args) 1 0) × (c < 256)
         → (d ≡ getD (x .args) 2 0) × (d < 256) → (e ≡ getD (x .args) 3 0) × (e < 256)
         → x .count < 256 → x .window .x0 < 65536 → x .window .x1 < 65536 → x .window .y0 < 65536 → x .window .y1 < 65536
         → Put begun f l′ f (laidAt begun 21 (penCells (x .pen))) f (penPut (partsIn begun f) (x .pen))
         → Put l f l′ f (laidAt l 11 (panelCells x)) f (panelPut (partsIn l f) x)
-    unfolding chipIn panelIn timesIn timerIn irqIn latchIn toneIn ringIn keysIn spread laidAt chipCells panelCells clockCells keyCells cellsOf floatsOf timesFloats
+    unfolding chipIn panelIn timesIn timerIn irqIn latchIn toneIn ringIn keysIn spread laidAt chipCells panelCells
+        clockCells keyCells cellsOf floatsOf timesFloats
     panel-put h four i j k m n o q r s p =
         put-behind (λ y. panelPut y x) (λ z. laidAt z 11 (panelCells x)) l f p
         (rw (spread-is 0 l cellCount long, h .0, i .0, j .0, k .0, m .0))
@@ -152,27 +156,31 @@ module _ (l : List ℕ) (long : length l ≡ cellCount) (f : List Float) where
         refl
 
   pub vsync-put : (n : ℕ) → Put l f (set l 39 n) f (set l 39 n) f (vsyncPut (partsIn l f) n)
-  unfolding chipIn panelIn timesIn timerIn irqIn latchIn toneIn ringIn keysIn spread laidAt chipCells panelCells clockCells keyCells cellsOf floatsOf timesFloats
+  unfolding chipIn panelIn timesIn timerIn irqIn latchIn toneIn ringIn keysIn spread laidAt chipCells panelCells
+      clockCells keyCells cellsOf floatsOf timesFloats
   vsync-put n = put-of (λ y. vsyncPut y n) (λ m. set m 39 n) (λ v. v) l f refl refl
       (rw (spread-is 0 l cellCount long)) refl refl
 
   pub converting-put : (on : Bool) (n : ℕ) → n ≡ bit on → Put l f (set l 40 n) f (set l 40 (bit on)) f
       (convertingPut (partsIn l f) on)
-  unfolding chipIn panelIn timesIn timerIn irqIn latchIn toneIn ringIn keysIn spread laidAt chipCells panelCells clockCells keyCells cellsOf floatsOf timesFloats
+  unfolding chipIn panelIn timesIn timerIn irqIn latchIn toneIn ringIn keysIn spread laidAt chipCells panelCells
+      clockCells keyCells cellsOf floatsOf timesFloats
   converting-put on n e =
       put-of (λ y. convertingPut y on) (λ m. set m 40 (bit on)) (λ v. v) l f (rw e) refl
       (rw (spread-is 0 l cellCount long, flag-bit)) refl refl
 
   pub off-put : (on : Bool) (n : ℕ) → n ≡ bit on → Put l f (set l 43 n) f (set l 43 (bit on)) f
       (offPut (partsIn l f) on)
-  unfolding chipIn panelIn timesIn timerIn irqIn latchIn toneIn ringIn keysIn spread laidAt chipCells panelCells clockCells keyCells cellsOf floatsOf timesFloats
+  unfolding chipIn panelIn timesIn timerIn irqIn latchIn toneIn ringIn keysIn spread laidAt chipCells panelCells
+      clockCells keyCells cellsOf floatsOf timesFloats
   off-put on n e = put-of (λ y. offPut y on) (λ m. set m 43 (bit on)) (λ v. v) l f (rw e) refl
       (rw (spread-is 0 l cellCount long, flag-bit)) refl refl
 
   pub ring-put : (x : Ring) → x .head < 256
       → Put l f (set (set l 44 (x .head)) 45 (x .count)) f (laidAt l 44 (x .head ∷ x .count ∷ [])) f
       (ringPut (partsIn l f) x)
-  unfolding chipIn panelIn timesIn timerIn irqIn latchIn toneIn ringIn keysIn spread laidAt chipCells panelCells clockCells keyCells cellsOf floatsOf timesFloats
+  unfolding chipIn panelIn timesIn timerIn irqIn latchIn toneIn ringIn keysIn spread laidAt chipCells panelCells
+      clockCells keyCells cellsOf floatsOf timesFloats
   ring-put x e =
       put-of (λ y. ringPut y x) (λ m. laidAt m 44 (x .head ∷ x .count ∷ [])) (λ v. v) l f
       (rw (spread-is 0 l cellCount long))
@@ -182,32 +190,37 @@ module _ (l : List ℕ) (long : length l ≡ cellCount) (f : List Float) where
       refl
 
   pub count-put : (n : ℕ) → Put l f (set l 46 n) f (set l 46 n) f (countPut (partsIn l f) n)
-  unfolding chipIn panelIn timesIn timerIn irqIn latchIn toneIn ringIn keysIn spread laidAt chipCells panelCells clockCells keyCells cellsOf floatsOf timesFloats
+  unfolding chipIn panelIn timesIn timerIn irqIn latchIn toneIn ringIn keysIn spread laidAt chipCells panelCells
+      clockCells keyCells cellsOf floatsOf timesFloats
   count-put n = put-of (λ y. countPut y n) (λ m. set m 46 n) (λ v. v) l f refl refl
       (rw (spread-is 0 l cellCount long)) refl refl
 
   pub applied-put : (n : ℕ) → n < 2 ^ 32 → Put l f (set l 50 n) f (set l 50 n) f (appliedPut (partsIn l f) n)
-  unfolding chipIn panelIn timesIn timerIn irqIn latchIn toneIn ringIn keysIn spread laidAt chipCells panelCells clockCells keyCells cellsOf floatsOf timesFloats
+  unfolding chipIn panelIn timesIn timerIn irqIn latchIn toneIn ringIn keysIn spread laidAt chipCells panelCells
+      clockCells keyCells cellsOf floatsOf timesFloats
   applied-put n e = put-of (λ y. appliedPut y n) (λ m. set m 50 n) (λ v. v) l f refl refl
       (rw (spread-is 0 l cellCount long, mod-eq-of-lt e)) refl refl
 
 module _ (f : List Float) (wide : length f ≡ floatCount) (l : List ℕ) where
   pub times-put : (x : Times) → Put l f l (set (set (set f 0 (x .now)) 1 (x .game)) 2 (x .turbo)) l
       (laidAt f 0 (timesFloats x)) (timesPut (partsIn l f) x)
-  unfolding chipIn panelIn timesIn timerIn irqIn latchIn toneIn ringIn keysIn spread laidAt chipCells panelCells clockCells keyCells cellsOf floatsOf timesFloats
+  unfolding chipIn panelIn timesIn timerIn irqIn latchIn toneIn ringIn keysIn spread laidAt chipCells panelCells
+      clockCells keyCells cellsOf floatsOf timesFloats
   times-put x =
       put-of (λ y. timesPut y x) (λ m. m) (λ v. laidAt v 0 (timesFloats x)) l f refl
       (rw (spread-is nan f floatCount wide)) (rw (spread-is nan f floatCount wide)) refl refl
 
   pub turbo-put : (x : Float) → Put l f l (set f 2 x) l (set f 2 x) (turboPut (partsIn l f) x)
-  unfolding chipIn panelIn timesIn timerIn irqIn latchIn toneIn ringIn keysIn spread laidAt chipCells panelCells clockCells keyCells cellsOf floatsOf timesFloats
+  unfolding chipIn panelIn timesIn timerIn irqIn latchIn toneIn ringIn keysIn spread laidAt chipCells panelCells
+      clockCells keyCells cellsOf floatsOf timesFloats
   turbo-put x = put-of (λ y. turboPut y x) (λ m. m) (λ v. set v 2 x) l f refl refl
       (rw (spread-is nan f floatCount wide)) refl refl
 
   pub tone-put : (x : Tone)
       → Put l f l (set (set f 11 (x .frequency)) 12 (x .duty)) l (laidAt f 11 (x .frequency ∷ x .duty ∷ []))
       (tonePut (partsIn l f) x)
-  unfolding chipIn panelIn timesIn timerIn irqIn latchIn toneIn ringIn keysIn spread laidAt chipCells panelCells clockCells keyCells cellsOf floatsOf timesFloats
+  unfolding chipIn panelIn timesIn timerIn irqIn latchIn toneIn ringIn keysIn spread laidAt chipCells panelCells
+      clockCells keyCells cellsOf floatsOf timesFloats
   tone-put x =
       put-of (λ y. tonePut y x) (λ m. m) (λ v. laidAt v 11 (x .frequency ∷ x .duty ∷ [])) l f
       refl
@@ -220,7 +233,8 @@ module _ (l : List ℕ) (f : List Float) (long : length l ≡ cellCount) (wide :
   pub irq-put : (x : RtcIrq) → x .base < 2 ^ 32
       → Put l f (set (set l 37 (x .fired)) 38 (x .base)) (set f 9 (x .set)) (laidAt l 37 (x .fired ∷ x .base ∷ []))
       (set f 9 (x .set)) (irqPut (partsIn l f) x)
-  unfolding chipIn panelIn timesIn timerIn irqIn latchIn toneIn ringIn keysIn spread laidAt chipCells panelCells clockCells keyCells cellsOf floatsOf timesFloats
+  unfolding chipIn panelIn timesIn timerIn irqIn latchIn toneIn ringIn keysIn spread laidAt chipCells panelCells
+      clockCells keyCells cellsOf floatsOf timesFloats
   irq-put x e =
       put-of (λ y. irqPut y x) (λ m. laidAt m 37 (x .fired ∷ x .base ∷ [])) (λ v. set v 9 (x .set)) l f
       (rw (spread-is 0 l cellCount long))
@@ -232,7 +246,8 @@ module _ (l : List ℕ) (f : List Float) (long : length l ≡ cellCount) (wide :
   pub latch-put : (x : Latch) → x .out < 2 ^ 32
       → Put l f (set (set l 41 (x .base)) 42 (x .out)) (set f 10 (x .since)) (laidAt l 41 (x .base ∷ x .out ∷ []))
       (set f 10 (x .since)) (latchPut (partsIn l f) x)
-  unfolding chipIn panelIn timesIn timerIn irqIn latchIn toneIn ringIn keysIn spread laidAt chipCells panelCells clockCells keyCells cellsOf floatsOf timesFloats
+  unfolding chipIn panelIn timesIn timerIn irqIn latchIn toneIn ringIn keysIn spread laidAt chipCells panelCells
+      clockCells keyCells cellsOf floatsOf timesFloats
   latch-put x e =
       put-of (λ y. latchPut y x) (λ m. laidAt m 41 (x .base ∷ x .out ∷ [])) (λ v. set v 10 (x .since)) l f
       (rw (spread-is 0 l cellCount long))
@@ -246,7 +261,8 @@ module _ (l : List ℕ) (f : List Float) (long : length l ≡ cellCount) (wide :
       → Put l f (set (set (set (set (set l 46 (x .count)) 47 a) 48 b) 49 c) 50 (x .applied))
       (set (set (set f 13 (x .holds .a)) 14 (x .holds .b)) 15 (x .holds .c))
       (laidAt l 46 (keyCells x)) (laidAt f 13 (x .holds .a ∷ x .holds .b ∷ x .holds .c ∷ [])) (keysPut (partsIn l f) x)
-  unfolding chipIn panelIn timesIn timerIn irqIn latchIn toneIn ringIn keysIn spread laidAt chipCells panelCells clockCells keyCells cellsOf floatsOf timesFloats
+  unfolding chipIn panelIn timesIn timerIn irqIn latchIn toneIn ringIn keysIn spread laidAt chipCells panelCells
+      clockCells keyCells cellsOf floatsOf timesFloats
   keys-put x a b c h i j e =
       put-of (λ y. keysPut y x) (λ m. laidAt m 46 (keyCells x))
       (λ v. laidAt v 13 (x .holds .a ∷ x .holds .b ∷ x .holds .c ∷ [])) l f

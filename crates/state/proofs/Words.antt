@@ -6,10 +6,10 @@ use borrow.Author.Tests.{lt-ltb}
 use Rattle.whole.specs.Forms.{bit}
 use Rattle.flash.specs.declared.Mode.{Mode}
 use Rattle.flash.specs.declared.Mode.the-variants.{Rust, Strict}
-use Rattle.panel.specs.declared.Held.{Held}
-use Rattle.panel.specs.declared.Held.the-variants.{Nothing, Byte}
-use Rattle.state.specs.Bank.{flagIn, modeIn, heldIn}
-use Rattle.state.specs.Packed.{modeNumber, heldNumber}
+use Rattle.panel.specs.declared.MaybeByte.{MaybeByte}
+use Rattle.panel.specs.declared.MaybeByte.the-variants.{Nothing, Byte}
+use Rattle.state.specs.Bank.{flagIn, modeIn, maybeIn}
+use Rattle.state.specs.Packed.{modeNumber, maybeNumber}
 
 pub flag-bit : (b : Bool) → flagIn (bit b) ≡ b
 flag-bit true = refl
@@ -20,10 +20,10 @@ unfolding modeIn modeNumber
 mode-number Rust = refl
 mode-number Strict = refl
 
-pub held-nothing : (h : Held) → h ≡ Nothing → (256 ≡ heldNumber h) × (heldIn 256 ≡ h)
-unfolding heldIn heldNumber
-held-nothing h e = (rw e, rw e)
+pub maybe-nothing : (h : MaybeByte) → h ≡ Nothing → (256 ≡ maybeNumber h) × (maybeIn 256 ≡ h)
+unfolding maybeIn maybeNumber
+maybe-nothing h e = (rw e, rw e)
 
-pub held-byte : (h : Held) (n : ℕ) → h ≡ Byte n → n < 256 → (n ≡ heldNumber h) × (heldIn n ≡ h)
-unfolding heldIn heldNumber
-held-byte h n e k = (rw e, rw (e, lt-ltb n 256 k))
+pub maybe-byte : (h : MaybeByte) (n : ℕ) → h ≡ Byte n → n < 256 → (n ≡ maybeNumber h) × (maybeIn n ≡ h)
+unfolding maybeIn maybeNumber
+maybe-byte h n e k = (rw e, rw (e, lt-ltb n 256 k))

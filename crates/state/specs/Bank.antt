@@ -11,8 +11,8 @@ use Rattle.state.specs.Each.{listOf}
 use Rattle.flash.specs.declared.Mode.{Mode}
 use Rattle.flash.specs.declared.Mode.the-variants.{Rust, Strict}
 use Rattle.flash.specs.declared.Chip.{Chip}
-use Rattle.panel.specs.declared.Held.{Held}
-use Rattle.panel.specs.declared.Held.the-variants.{Nothing, Byte}
+use Rattle.panel.specs.declared.MaybeByte.{MaybeByte}
+use Rattle.panel.specs.declared.MaybeByte.the-variants.{Nothing, Byte}
 use Rattle.panel.specs.declared.Panel.{Panel}
 use Rattle.clock.specs.declared.Times.{Times}
 use Rattle.clock.specs.declared.Latch.{Latch}
@@ -43,8 +43,8 @@ unfoldable pub modeIn : ℕ → Mode
 modeIn n = cond (eqb n 0) Rust Strict
 
 -- a byte below 256; else none
-unfoldable pub heldIn : ℕ → Held
-heldIn n = cond (ltb n 256) (Byte n) Nothing
+unfoldable pub maybeIn : ℕ → MaybeByte
+maybeIn n = cond (ltb n 256) (Byte n) Nothing
 
 -- ---- the devices
 
@@ -70,7 +70,7 @@ chipIn l =
 unfoldable pub panelIn : List ℕ → Panel
 panelIn l =
     record {
-      cmd = heldIn (getD l 11 0);
+      cmd = maybeIn (getD l 11 0);
       args = getD l 12 0 % 256 ∷ getD l 13 0 % 256 ∷ getD l 14 0 % 256 ∷ getD l 15 0 % 256 ∷ [];
       count = getD l 16 0 % 256;
       window = record {
@@ -83,7 +83,7 @@ panelIn l =
       pen = record {
         x = getD l 21 0 % 65536;
         y = getD l 22 0 % 65536;
-        half = heldIn (getD l 23 0);
+        half = maybeIn (getD l 23 0);
         frames = getD l 24
             0;
       };

@@ -1,6 +1,6 @@
 -- The words of parts: the cells and the floats that say them and nothing else. A bank that holds just the words of
--- its parts is packed: a flag is 0 or 1, a number lies within its width, no held byte is 256. Every call leaves a
--- packed bank packed, so that the later parts say every later word.
+-- its parts is packed: a flag is 0 or 1, a number lies within its width, a byte that may be absent is at most 256.
+-- Every call leaves a packed bank packed, so that the later parts say every later word.
 use Prim.Native.Nat.{ℕ, _+_}
 use mathlib.Core.Path.{_≡_}
 use mathlib.Core.Logic.{_≢_}
@@ -9,13 +9,14 @@ use lib.ListN.{length, getD, set, take, drop}
 use lib.Dec.{ltb}
 use mathlib.Core.Bool.{Bool, cond}
 use lib.Ieee.{Float}
+use Rattle.map.specs.Numbers.{TIMER-COUNT}
 use Rattle.whole.specs.Forms.{bit}
 use Rattle.flash.specs.declared.Mode.{Mode}
 use Rattle.flash.specs.declared.Mode.the-variants.{Rust, Strict}
 use Rattle.flash.specs.declared.Chip.{Chip}
 use Rattle.flash.specs.declared.Trans.{Trans}
-use Rattle.panel.specs.declared.Held.{Held}
-use Rattle.panel.specs.declared.Held.the-variants.{Nothing, Byte}
+use Rattle.panel.specs.declared.MaybeByte.{MaybeByte}
+use Rattle.panel.specs.declared.MaybeByte.the-variants.{Nothing, Byte}
 use Rattle.panel.specs.declared.Panel.{Panel}
 use Rattle.panel.specs.declared.Pen.{Pen}
 use Rattle.clock.specs.declared.Times.{Times}
@@ -32,9 +33,9 @@ unfoldable pub modeNumber : Mode → ℕ
 modeNumber Rust = 0
 modeNumber Strict = 1
 
-unfoldable pub heldNumber : Held → ℕ
-heldNumber Nothing = 256
-heldNumber (Byte b) = b
+unfoldable pub maybeNumber : MaybeByte → ℕ
+maybeNumber Nothing = 256
+maybeNumber (Byte b) = b
 
 -- ---- the words of each part, in the order of their places
 
@@ -47,11 +48,11 @@ chipCells c = modeNumber (c .mode) ∷ bit (c .cs) ∷ bit (c .wel) ∷ c .write
 
 -- of the panel what a pixel changes
 abbrev pub penCells : Pen → List ℕ
-penCells p = p .x ∷ p .y ∷ heldNumber (p .half) ∷ p .frames ∷ []
+penCells p = p .x ∷ p .y ∷ maybeNumber (p .half) ∷ p .frames ∷ []
 
 unfoldable pub panelCells : Panel → List ℕ
 panelCells p =
-    heldNumber (p .cmd)
+    maybeNumber (p .cmd)
     ∷ getD (p .args) 0 0
     ∷ getD (p .args) 1 0
     ∷ getD (p .args) 2 0
@@ -144,10 +145,10 @@ FloatsPut f f′ v g = (l : List ℕ) → Put l f l f′ l v (g (partsIn l f))
 
 -- timer n of the six; there is no other
 unfoldable pub timerCells : List ℕ → ℕ → Timer → List ℕ
-timerCells l n t = cond (ltb n 6) (set (set l (25 + n) (t .seen)) (31 + n) (bit (t .pending))) l
+timerCells l n t = cond (ltb n TIMER-COUNT) (set (set l (25 + n) (t .seen)) (31 + n) (bit (t .pending))) l
 
 unfoldable pub timerFloats : List Float → ℕ → Timer → List Float
-timerFloats f n t = cond (ltb n 6) (set f (3 + n) (t .start)) f
+timerFloats f n t = cond (ltb n TIMER-COUNT) (set f (3 + n) (t .start)) f
 
 -- key 0, 1 or 2; there is no other
 unfoldable pub liveCells : List ℕ → ℕ → Bool → List ℕ

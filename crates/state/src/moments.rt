@@ -59,7 +59,7 @@ pub fn put_turbo(floats: &mut Floats, turbo: f64)
 pub fn timer_of(cells: &Cells, floats: &Floats, n: usize) -> Timer
     ensures { λ r. ⌜ r ≡ getD (timersIn (now (cells .entry)) (now (floats .entry))) n none ⌝ }
 {
-    if n < 6 {
+    if n < map::TIMER_COUNT {
         return Timer {
             start: floats[START + n],
             seen: cells[SEEN + n],
@@ -76,7 +76,7 @@ pub fn timer_of(cells: &Cells, floats: &Floats, n: usize) -> Timer
 pub fn pending_of(cells: &Cells, n: usize) -> bool
     ensures { λ r. ⌜ ((f : List Float) → r ≡ getD (timersIn (now (cells .entry)) f) n none .pending) ⌝ }
 {
-    if n < 6 {
+    if n < map::TIMER_COUNT {
         return cells[PENDING + n] != 0;
     }
     false
@@ -91,7 +91,7 @@ pub fn put_timer(cells: &mut Cells, floats: &mut Floats, n: usize, timer: Timer)
     crate::sized::cells_long(cells);
     crate::sized::floats_long(floats);
     let on = flag(timer.pending);
-    if n < 6 {
+    if n < map::TIMER_COUNT {
         floats[START + n] = timer.start;
         cells[SEEN + n] = timer.seen;
         cells[PENDING + n] = on;

@@ -2,8 +2,8 @@
 ghost use mathlib.Core.Path.{_≡_};
 ghost use Prim.Native.Nat.{_<_};
 ghost use Rattle.state.specs.Parts.{panelPut, penPut};
-ghost use Rattle.state.specs.Bank.{heldIn, panelIn};
-ghost use Rattle.state.specs.Packed.{heldNumber, panelCells, penCells, laidAt, CellsPut};
+ghost use Rattle.state.specs.Bank.{maybeIn, panelIn};
+ghost use Rattle.state.specs.Packed.{maybeNumber, panelCells, penCells, laidAt, CellsPut};
 use crate::Cells;
 use crate::numbers::byte;
 use crate::numbers::half;
@@ -21,26 +21,26 @@ use crate::places::X1;
 use crate::places::Y;
 use crate::places::Y0;
 use crate::places::Y1;
-use panel::Held;
+use panel::MaybeByte;
 use panel::Panel;
 use panel::Pen;
 use panel::Window;
 
-fn held_of(n: u64) -> Held
-    ensures { λ r. ⌜ r ≡ heldIn n ⌝ }
+fn maybe_of(n: u64) -> MaybeByte
+    ensures { λ r. ⌜ r ≡ maybeIn n ⌝ }
 {
     if n < 256 {
-        return Held::Byte(n as u8);
+        return MaybeByte::Byte(n as u8);
     }
-    Held::Nothing
+    MaybeByte::Nothing
 }
 
-fn held_number(held: Held) -> u64
-    ensures { λ r. ⌜ (r ≡ heldNumber held) × (heldIn r ≡ held) ⌝ }
+fn maybe_number(maybe: MaybeByte) -> u64
+    ensures { λ r. ⌜ (r ≡ maybeNumber maybe) × (maybeIn r ≡ maybe) ⌝ }
 {
-    match held {
-        Held::Nothing => 256,
-        Held::Byte(b) => b as u64,
+    match maybe {
+        MaybeByte::Nothing => 256,
+        MaybeByte::Byte(b) => b as u64,
     }
 }
 
@@ -50,10 +50,10 @@ fn wide(b: u8) -> u64
     b as u64
 }
 
-pub fn order_of(cells: &Cells) -> Held
+pub fn order_of(cells: &Cells) -> MaybeByte
     ensures { λ r. ⌜ r ≡ panelIn (now (cells .entry)) .cmd ⌝ }
 {
-    held_of(cells[ORDER])
+    maybe_of(cells[ORDER])
 }
 
 pub fn window_of(cells: &Cells) -> Window
@@ -70,7 +70,7 @@ pub fn window_of(cells: &Cells) -> Window
 pub fn pen_of(cells: &Cells) -> Pen
     ensures { λ r. ⌜ r ≡ panelIn (now (cells .entry)) .pen ⌝ }
 {
-    let half_byte = held_of(cells[HALF]);
+    let half_byte = maybe_of(cells[HALF]);
     Pen {
         x: half(cells[X]),
         y: half(cells[Y]),
@@ -109,7 +109,7 @@ pub fn put_pen(cells: &mut Cells, pen: Pen)
     let half_byte = pen.half;
     cells[X] = pen.x as u64;
     cells[Y] = pen.y as u64;
-    cells[HALF] = held_number(half_byte);
+    cells[HALF] = maybe_number(half_byte);
     cells[FRAMES] = pen.frames;
 }
 
@@ -122,7 +122,7 @@ pub fn put_panel(cells: &mut Cells, panel: Panel)
     let args = panel.args;
     crate::sized::four_long(args);
     let window = panel.window;
-    cells[ORDER] = held_number(cmd);
+    cells[ORDER] = maybe_number(cmd);
     cells[ARG0] = wide(args[0]);
     cells[ARG1] = wide(args[1]);
     cells[ARG2] = wide(args[2]);

@@ -13,7 +13,8 @@ use Rattle.steps.specs.declared.Output.the-variants.{Nothing, Answer}
 use Rattle.steps.specs.declared.Session.{Session}
 use Rattle.steps.specs.declared.Fed.{Fed}
 use Rattle.steps.specs.Rule.{digitOf}
-use Rattle.steps.specs.Machine.{World, WorldOutput, world, worldOutput, withOutput, fedWith, says, grown, isEmpty}
+use Rattle.steps.specs.Machine.{World, WorldOutput, world, worldOutput, withOutput, says, grown, isEmpty}
+use Rattle.steps.specs.Inner.{fedWith}
 use Rattle.steps.specs.Machine.{nextLine, withLine, boardOf, chosen, sent, obeyed, lineDone, fed, finished}
 
 -- ---- a hex digit

@@ -16,7 +16,8 @@ use Rattle.flash.specs.declared.Chip.{Chip}
 use Rattle.flash.specs.declared.SpiFlash.{SpiFlash}
 use Rattle.steps.specs.Text.{textOf, lastLine}
 use Rattle.steps.specs.Machine.{World, WorldOutput, Printed, world, withOutput, says, chosen, sent, obeyed, fed}
-use Rattle.steps.specs.Machine.{printed, joined, afterBytes, Reaches, finished, closed, erasedArray, begun, fresh}
+use Rattle.steps.specs.Machine.{printed, joined, afterBytes, finished, closed, erasedArray, begun, fresh}
+use Rattle.steps.specs.Inner.{Reaches}
 use Rattle.steps.specs.Machine.{wholeRun, RunEnd}
 use Rattle.steps.specs.declared.Output.{Output}
 use Rattle.steps.specs.declared.Session.{Session}

@@ -2,3 +2,4 @@ pub mod Rule
 pub mod Text
 pub mod Machine
 pub mod Lines
+pub mod Inner

@@ -41,9 +41,6 @@ worldOutput r p m = record { output = r .output; world = world (r .session) p m 
 abbrev pub withOutput : Output → World → WorldOutput
 withOutput s w = record { output = s; world = w }
 
-abbrev pub fedWith : Session → Output → Fed
-fedWith s t = record { session = s; output = t }
-
 -- ---- the line so far
 abbrev pub grown : Line → ℕ → Line
 grown Empty c = One c
@@ -128,11 +125,6 @@ joined t p = printed (t ++ p .text) (p .world)
 unfoldable pub afterBytes : World → List ℕ → Printed
 afterBytes w [] = printed [] w
 afterBytes w (c ∷ cs) = joined (textOf (fed w c .output)) (afterBytes (fed w c .world) cs)
-
--- from one world to a later one by some bytes
-pub record Reaches (w v : World) : Type 0 where
-  pub input : List ℕ
-  pub stands : v ≡ afterBytes w input .world
 
 -- ---- a whole run
 -- an array of 65,536 bytes of FF

@@ -7,7 +7,8 @@ pub mod talk;
 mod text;
 
 ghost use mathlib.Core.Path.{_≡_};
-ghost use Rattle.steps.specs.Machine.{world, worldOutput, fedWith, nextLine, withLine, ended, grown, chosen};
+ghost use Rattle.steps.specs.Machine.{world, worldOutput, nextLine, withLine, ended, grown, chosen};
+ghost use Rattle.steps.specs.Inner.{fedWith};
 ghost use Rattle.steps.specs.Machine.{sent, lineDone, fed, finished};
 use flash::Chip;
 use parse::grow;

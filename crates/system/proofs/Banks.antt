@@ -34,8 +34,8 @@ use Rattle.state.specs.declared.Clocks.{Clocks}
 use Rattle.state.specs.declared.Devices.{Devices}
 use Rattle.state.specs.declared.Parts.{Parts}
 use Rattle.state.specs.Parts.{devicesOf, parts}
-use Rattle.state.specs.Bank.{modeIn, heldIn, chipIn, panelIn, timesIn, timerIn, irqIn, latchIn, toneIn, ringIn, keysIn}
-use Rattle.state.specs.Packed.{modeNumber, heldNumber, chipCells, panelCells, clockCells, keyCells, timesFloats}
+use Rattle.state.specs.Bank.{modeIn, maybeIn, chipIn, panelIn, timesIn, timerIn, irqIn, latchIn, toneIn, ringIn, keysIn}
+use Rattle.state.specs.Packed.{modeNumber, maybeNumber, chipCells, panelCells, clockCells, keyCells, timesFloats}
 use Rattle.state.specs.Packed.{cellsOf, floatsOf, Packed}
 use Rattle.time.specs.Clocks.{clockIn, freshClocks}
 use Rattle.time.specs.declared.NextTime.{NextTime}
@@ -56,34 +56,36 @@ use Rattle.bus.specs.Write.{Noted, notedWrite}
 use Rattle.system.specs.declared.System.{System}
 use Rattle.system.specs.declared.Read.{Read}
 use Rattle.system.specs.declared.Taken.{Taken}
-use Rattle.system.specs.System.{Machine, machine, left, systemOf, presses, withOwn, withPresses, withQueue}
+use Rattle.system.specs.System.{Machine, machine, left, systemOf, presses, withSlots, withPresses, withQueue}
 use Rattle.system.specs.System.{withWorld, freshDevices, freshSystem}
 use Rattle.system.specs.Calls.{changed, reading, readOf, writeOf, moved, advanceOf, nextOf, pendingOf, wantedOf}
 use Rattle.system.specs.Calls.{turboOf, pacing, takeOf, pressOf, liveOf, holdOf, wipedOf}
-use Rattle.system.specs.Bank.{partsOf, withParts, freshParts}
+use Rattle.system.specs.Bank.{freshParts}
+use Rattle.system.specs.Inner.{partsOf, withParts}
 
 -- ---- reads and writes
 
-pub read-done : (s : System) (m r g : List ℕ) (a n : ℕ) {own : List ℕ} {x : Parts} {v : Got} {t : System}
+pub read-done : (s : System) (ram sram gpio : List ℕ) (a n : ℕ) {slots : List ℕ} {x : Parts} {v : Got} {t : System}
     → x ≡ partsOf s
-    → got own v ≡ read.readOf (s .registers) m r g (x .devices) a n → t ≡ withOwn s own
-    → _≡_ {A = Read} (record { refusal = v .refusal; value = v .value; system = t }) (readOf s m r g a n)
+    → got slots v ≡ read.readOf (s .registers) ram sram gpio (x .devices) a n → t ≡ withSlots s slots
+    → _≡_ {A = Read} (record { refusal = v .refusal; value = v .value; system = t }) (readOf s ram sram gpio a n)
 unfolding readOf
-read-done s m r g a n i e h =
-    rw h (ap (λ (z : ReadOut). reading s z) (e ∙ ap (λ (z : Parts). read.readOf (s .registers) m r g (z .devices) a n)
+read-done s ram sram gpio a n i e h =
+    rw h (ap (λ (z : ReadOut). reading s z) (e ∙ ap (λ (z : Parts). read.readOf (s .registers) ram sram gpio
+    (z .devices) a n)
     i))
 
 -- d and k: the devices and the keys that are then in the bank
-pub write-done : (m : Machine) (a n v : ℕ) {r : Registers} {c p ram sram gpio fb : List ℕ} {d : Devices} {k : Keys}
+pub write-done : (m : Machine) (a n v : ℕ) {r : Registers} {rtc page ram sram gpio fb : List ℕ} {d : Devices} {k : Keys}
     {q : Queue} {x : Parts} {t : WriteAnswer} → x ≡ partsOf (m .system)
-    → record { out = outOf (world r c p ram sram gpio fb d) t; queue = q }
+    → record { out = outOf (world r rtc page ram sram gpio fb d) t; queue = q }
     ≡ notedWrite
     (world (m .system .registers) (m .system .rtc) (m .system .page) (m .ram) (m .sram) (m .gpio) (m .fb) (x .devices))
-    (queueOf (m .system .queue .times) (m .system .queue .frequencies) (m .system .queue .duties) (x .ring)) a n v
+    (queueOf (m .system .queue .onsets) (m .system .queue .frequencies) (m .system .queue .duties) (x .ring)) a n v
     → k ≡ x .keys
-    → left (machine (systemOf r c p d q (m .system .presses) k) ram sram gpio fb) (t .refusal) ≡ writeOf m a n v
+    → left (machine (systemOf r rtc page d q (m .system .presses) k) ram sram gpio fb) (t .refusal) ≡ writeOf m a n v
 unfolding writeOf notedWrite
-write-done m a n v {r} {c} {p} {ram} {sram} {gpio} {fb} {d} {k} {q} {x} {t} i e h =
+write-done m a n v {r} {rtc} {page} {ram} {sram} {gpio} {fb} {d} {k} {q} {x} {t} i e h =
     rw (h ∙ ap (λ (z : Parts). z .keys) i)
     (ap (λ (z : Noted). left (withWorld m (z .out .world) (z .queue)) (z .out .refusal)) e
     ∙ ap
@@ -91,39 +93,41 @@ write-done m a n v {r} {c} {p} {ram} {sram} {gpio} {fb} {d} {k} {q} {x} {t} i e 
     let w = world (m .system .registers) (m .system .rtc) (m .system .page) (m .ram) (m .sram) (m .gpio) (m .fb)
     (z .devices) in
     let o = write.writeOf w (events.fullOf (z .ring)) a n v in
-    let u = queueOf (m .system .queue .times) (m .system .queue .frequencies) (m .system .queue .duties) (z .ring) in
+    let u = queueOf (m .system .queue .onsets) (m .system .queue .frequencies) (m .system .queue .duties) (z .ring) in
     left (withWorld m (o .world) (noted u (o .world .devices) (o .event))) (o .refusal))
     i)
 
 -- ---- time
 
 module _ (s : System) {x : Parts} (i : x ≡ partsOf s) where
-  pub pending-done : {n : ℕ} → n ≡ irq.pendingOf (s .registers .own) (x .devices .clocks .timers) → n ≡ pendingOf s
+  pub pending-done : {n : ℕ} → n ≡ irq.pendingOf (s .registers .slots) (x .devices .clocks .timers) → n ≡ pendingOf s
   unfolding pendingOf
-  pending-done h = h ∙ ap (λ (z : Parts). irq.pendingOf (s .registers .own) (z .devices .clocks .timers)) i
+  pending-done h = h ∙ ap (λ (z : Parts). irq.pendingOf (s .registers .slots) (z .devices .clocks .timers)) i
 
-  pub wanted-done : {b : Bool} → b ≡ irq.wantedOf (s .registers .own) (x .devices .clocks .timers) → b ≡ wantedOf s
+  pub wanted-done : {b : Bool} → b ≡ irq.wantedOf (s .registers .slots) (x .devices .clocks .timers) → b ≡ wantedOf s
   unfolding wantedOf
-  wanted-done h = h ∙ ap (λ (z : Parts). irq.wantedOf (s .registers .own) (z .devices .clocks .timers)) i
+  wanted-done h = h ∙ ap (λ (z : Parts). irq.wantedOf (s .registers .slots) (z .devices .clocks .timers)) i
 
-  pub next-done : (sram : List ℕ) {r : NextTime} → r ≡ next.nextOf (s .registers .own) (s .presses .times)
+  pub next-done : (sram : List ℕ) {r : NextTime} → r ≡ next.nextOf (s .registers .slots) (s .presses .starts)
       (x .devices .clocks) (x .keys) (clockIn sram) → r ≡ nextOf s sram
   unfolding nextOf
-  next-done sram h = h ∙ ap (λ (z : Parts). next.nextOf (s .registers .own) (s .presses .times) (z .devices .clocks)
+  next-done sram h = h ∙ ap (λ (z : Parts). next.nextOf (s .registers .slots) (s .presses .starts) (z .devices .clocks)
       (z .keys) (clockIn sram)) i
 
-pub advance-done : (s : System) (sram gpio : List ℕ) (to : Float) {own g : List ℕ} {n : ℕ} {x y : Parts} → x ≡ partsOf s
-    → movedBank own g n y
-    ≡ movesOf x (move.advanceOf (s .registers .own) gpio (s .presses .times) (s .presses .codes) (x .devices .clocks)
+pub advance-done : (s : System) (sram gpio : List ℕ) (to : Float) {slots gpio₁ : List ℕ} {n : ℕ} {x y : Parts}
+    → x ≡ partsOf s
+    → movedBank slots gpio₁ n y
+    ≡ movesOf x (move.advanceOf (s .registers .slots) gpio (s .presses .starts) (s .presses .codes) (x .devices .clocks)
     (x .keys) (clockIn sram) to)
-    → moved (changed n (withParts (withOwn s own) y)) g ≡ advanceOf s sram gpio to
+    → moved (changed n (withParts (withSlots s slots) y)) gpio₁ ≡ advanceOf s sram gpio to
 unfolding advanceOf
-advance-done s sram gpio to {own} {g} {n} {x} {y} i h =
-    let e : movedBank own g n y ≡ movesOf (partsOf s) (move.advanceOf (s .registers .own) gpio (s .presses .times)
-    (s .presses .codes) (s .devices .clocks) (s .keys) (clockIn sram) to)
-    = h ∙ ap (λ (z : Parts). movesOf z (move.advanceOf (s .registers .own) gpio (s .presses .times)
+advance-done s sram gpio to {slots} {gpio₁} {n} {x} {y} i h =
+    let e : movedBank slots gpio₁ n y ≡ movesOf (partsOf s)
+    (move.advanceOf (s .registers .slots) gpio (s .presses .starts) (s .presses .codes) (s .devices .clocks)
+    (s .keys) (clockIn sram) to)
+    = h ∙ ap (λ (z : Parts). movesOf z (move.advanceOf (s .registers .slots) gpio (s .presses .starts)
     (s .presses .codes) (z .devices .clocks) (z .keys) (clockIn sram) to)) i in
-    ap (λ (z : MovedBank). moved (changed (z .refusal) (withParts (withOwn s (z .own)) (z .parts))) (z .gpio)) e
+    ap (λ (z : MovedBank). moved (changed (z .refusal) (withParts (withSlots s (z .slots)) (z .parts))) (z .gpio)) e
 
 pub turbo-done : (s : System) (to : Float) {x y : Parts} {n : ℕ} → x ≡ partsOf s
     → asked y n ≡ pacedPut x (pacedOf (x .devices .clocks .times) to)
@@ -141,7 +145,7 @@ turbo-done s to {x} {y} {n} i h =
 
 pub take-done : (s : System) {a f u : List Float} {x y : Parts} {n : ℕ} {e : Event} → x ≡ partsOf s
     → took a f u (asked y n) e ≡ tookOf x
-    (events.takeOf (queueOf (s .queue .times) (s .queue .frequencies) (s .queue .duties) (x .ring)))
+    (events.takeOf (queueOf (s .queue .onsets) (s .queue .frequencies) (s .queue .duties) (x .ring)))
     → _≡_ {A = Taken} (record {
       refusal = n;
       event = e;
@@ -153,11 +157,11 @@ take-done s i h =
     (λ (z : Took). record {
       refusal = z .asked .refusal;
       event = z .event;
-      system = withQueue (withParts s (z .asked .parts)) (queueOf (z .times) (z .frequencies) (z .duties)
+      system = withQueue (withParts s (z .asked .parts)) (queueOf (z .onsets) (z .frequencies) (z .duties)
           (z .asked .parts .ring));
     })
     (h ∙ ap (λ (z : Parts). tookOf z
-    (events.takeOf (queueOf (s .queue .times) (s .queue .frequencies) (s .queue .duties) (z .ring)))) i)
+    (events.takeOf (queueOf (s .queue .onsets) (s .queue .frequencies) (s .queue .duties) (z .ring)))) i)
 
 -- ---- keys
 
@@ -179,18 +183,18 @@ module _ (s : System) {x y : Parts} {n : ℕ} (i : x ≡ partsOf s) where
   unfolding holdOf
   hold-done key until h = keys-done (λ k. live.holdOf k key until) h
 
-pub press-done : (s : System) (key : ℕ) (at : Float) {x y : Parts} {n : ℕ} {times : List Float} {codes : List ℕ}
+pub press-done : (s : System) (key : ℕ) (at : Float) {x y : Parts} {n : ℕ} {starts : List Float} {codes : List ℕ}
     → x ≡ partsOf s
-    → pressed times codes (asked y n)
-    ≡ pressedOf x (script.pressOf (script.script (s .presses .times) (s .presses .codes) (x .keys .count)) key at
+    → pressed starts codes (asked y n)
+    ≡ pressedOf x (script.pressOf (script.script (s .presses .starts) (s .presses .codes) (x .keys .count)) key at
     (x .devices .clocks .times .now))
-    → changed n (withPresses (withParts s y) (presses times codes)) ≡ pressOf s key at
+    → changed n (withPresses (withParts s y) (presses starts codes)) ≡ pressOf s key at
 unfolding pressOf
 press-done s key at i h =
     ap (λ (z : Pressed). changed (z .asked .refusal) (withPresses (withParts s (z .asked .parts))
-    (presses (z .times) (z .codes))))
+    (presses (z .starts) (z .codes))))
     (h ∙ ap (λ (z : Parts). pressedOf z
-    (script.pressOf (script.script (s .presses .times) (s .presses .codes) (z .keys .count)) key at
+    (script.pressOf (script.script (s .presses .starts) (s .presses .codes) (z .keys .count)) key at
     (z .devices .clocks .times .now))) i)
 
 -- ---- the fresh state
@@ -203,27 +207,29 @@ parts-fresh e h i j k l = rw (e, h, i, j, k, l)
 
 -- a bank is packed from the first reset on
 pub fresh-packed : Packed (cellsOf freshParts) (floatsOf freshParts)
-unfolding freshDevices freshClocks freshRtc modeIn heldIn modeNumber heldNumber chipIn panelIn timesIn timerIn irqIn latchIn toneIn ringIn keysIn chipCells panelCells clockCells keyCells timesFloats cellsOf floatsOf
+unfolding freshDevices freshClocks freshRtc modeIn maybeIn modeNumber maybeNumber chipIn panelIn timesIn timerIn irqIn
+    latchIn toneIn ringIn keysIn chipCells panelCells clockCells keyCells timesFloats cellsOf floatsOf
 fresh-packed = record { cells = refl; floats = refl }
 
 -- f: the chip that was made
 pub state-fresh : (f : Chip) {g : Registers} {r : Rtc} {page : List ℕ} {a h u : List Float} {q : Ring}
-    {times : List Float} {codes : List ℕ} {k : Keys} {x : Parts} → g ≡ freshRegisters → r ≡ freshRtc
-    → chipWithPage f page ≡ madeIn Rust → queueOf a h u q ≡ emptyQueue → buttons times codes k ≡ freshButtons
+    {starts : List Float} {codes : List ℕ} {k : Keys} {x : Parts} → g ≡ freshRegisters → r ≡ freshRtc
+    → chipWithPage f page ≡ madeIn Rust → queueOf a h u q ≡ emptyQueue → buttons starts codes k ≡ freshButtons
     → x ≡ freshParts
-    → systemOf g (r .regs) page (x .devices) (queueOf a h u (x .ring)) (presses times codes) (x .keys) ≡ freshSystem
+    → systemOf g (r .regs) page (x .devices) (queueOf a h u (x .ring)) (presses starts codes) (x .keys) ≡ freshSystem
 unfolding freshSystem emptyQueue freshButtons
-state-fresh f {g} {r} {page} {a} {h} {u} {q} {times} {codes} {k} {x} e i j l m n =
+state-fresh f {g} {r} {page} {a} {h} {u} {q} {starts} {codes} {k} {x} e i j l m n =
     rw (n, e, i)
     (ap (λ (z : SpiFlash). systemOf freshRegisters (freshRtc .regs) (z .page) freshDevices
-    (queueOf a h u (ringOf 0 0)) (presses times codes) freshKeys) j
+    (queueOf a h u (ringOf 0 0)) (presses starts codes) freshKeys) j
     ∙ ap (λ (z : Queue). systemOf freshRegisters (freshRtc .regs) (madeIn Rust .page) freshDevices
-    (queueOf (z .times) (z .frequencies) (z .duties) (ringOf 0 0)) (presses times codes) freshKeys) l
+    (queueOf (z .onsets) (z .frequencies) (z .duties) (ringOf 0 0)) (presses starts codes) freshKeys) l
     ∙ ap (λ (z : Buttons). systemOf freshRegisters (freshRtc .regs) (madeIn Rust .page) freshDevices emptyQueue
-    (presses (z .times) (z .codes)) freshKeys) m)
+    (presses (z .starts) (z .codes)) freshKeys) m)
 
-pub wiped-by : (m r g f : List ℕ) {m′ r′ g′ f′ : List ℕ} {s : System} → m′ ≡ replicate (length m) 0
-    → r′ ≡ replicate (length r) 0 → g′ ≡ replicate (length g) 0 → f′ ≡ replicate (length f) 0
-    → s ≡ freshSystem → machine s m′ r′ g′ f′ ≡ wipedOf (length m) (length r) (length g) (length f)
+pub wiped-by : (ram sram gpio fb : List ℕ) {ram′ sram′ gpio′ fb′ : List ℕ} {s : System}
+    → ram′ ≡ replicate (length ram) 0
+    → sram′ ≡ replicate (length sram) 0 → gpio′ ≡ replicate (length gpio) 0 → fb′ ≡ replicate (length fb) 0
+    → s ≡ freshSystem → machine s ram′ sram′ gpio′ fb′ ≡ wipedOf (length ram) (length sram) (length gpio) (length fb)
 unfolding wipedOf
-wiped-by m r g f e h i j k = rw (e, h, i, j, k)
+wiped-by ram sram gpio fb e h i j k = rw (e, h, i, j, k)

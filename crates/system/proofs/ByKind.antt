@@ -6,7 +6,7 @@ use lib.ListN.{length}
 use Rattle.clock.specs.declared.Paced.{Paced}
 use Rattle.clock.specs.declared.Paced.the-variants.{By, BadTurbo}
 use Rattle.clock.specs.Times.{pacedOf}
-use Rattle.bus.specs.Block.{plain, laidOf}
+use Rattle.block.specs.Block.{plain, laidOf}
 use Rattle.system.specs.System.{Machine, withTimes}
 use Rattle.system.specs.Calls.{readOf, writeOf, advanceOf, turboOf, pacing, takeOf, liveOf, holdOf, pressOf}
 use Rattle.system.specs.Calls.{wipedOf}

@@ -21,7 +21,7 @@ use Rattle.flash.specs.Steps.{Step, cs, byte}
 use Rattle.flash.specs.Run.{afterSteps}
 use Rattle.flash.specs.Run.{afterStep as once}
 use Rattle.bus.specs.World.{World, Out}
-use Rattle.bus.specs.Block.{Plain, plain, pokedAt, pokedOf, laidFrom, laidOf}
+use Rattle.block.specs.Block.{Plain, plain, pokedAt, pokedOf, laidFrom, laidOf}
 use Rattle.bus.specs.Chip.{Chipped, selectedOver, sentOver, selectWritten, sendWritten}
 use Rattle.bus.specs.Write as bus
 use Rattle.bus.specs.Write.{storedWord, wordAddress, portWritten, regWritten}
@@ -44,13 +44,15 @@ boardOn w = board (w .devices .flash) (w .page) (arrayIn (w .ram))
 abbrev left : Chipped → Board
 left c = board (c .chip) (c .page) (arrayIn (c .ram))
 
-select-on : (c : Chip) (p m : List ℕ) (on : Bool) → left (selectedOver c p m on) ≡ once (board c p (arrayIn m)) (cs on)
+select-on : (c : Chip) (page ram : List ℕ) (on : Bool) → left (selectedOver c page ram on)
+    ≡ once (board c page (arrayIn ram)) (cs on)
 unfolding arrayIn
-select-on c p m on = select-step c p m on
+select-on c page ram on = select-step c page ram on
 
-send-on : (c : Chip) (p m : List ℕ) (b : ℕ) → left (sentOver c p m b) ≡ once (board c p (arrayIn m)) (byte b)
+send-on : (c : Chip) (page ram : List ℕ) (b : ℕ) → left (sentOver c page ram b)
+    ≡ once (board c page (arrayIn ram)) (byte b)
 unfolding arrayIn
-send-on c p m b = send-step c p m b
+send-on c page ram b = send-step c page ram b
 
 store-on : (m : List ℕ) (o n v : ℕ) → FLASH-SIZE ≤ o → arrayIn (storedAt m o n v) ≡ arrayIn m
 unfolding arrayIn
@@ -68,7 +70,7 @@ flash-port w full word old new part =
     (λ e. rw e)
     (λ e. rw e)
     (λ x e. rw e
-    (ap (λ (c : Chip). board c (w .page) (arrayIn (w .ram))) (word-alone (w .registers .own) (w .devices)
+    (ap (λ (c : Chip). board c (w .page) (arrayIn (w .ram))) (word-alone (w .registers .slots) (w .devices)
     (clockIn (w .sram)) full x word old new part .0)))
     (λ p e s. rw e (by-stores (λ (q : Port). boardOn w ≡ afterSteps (boardOn w) (flashAt q new)) (λ v. refl) refl refl
     p s))

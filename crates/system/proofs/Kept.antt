@@ -70,20 +70,21 @@ fresh-limits m r g f = record {
 
 -- ---- words with storage of their own are replaced
 
-pub own-tidy : (r : Registers) (own : List ℕ) → Tidy r → length own ≡ length (r .own)
-    → Tidy (registersOf own (r .addresses) (r .values))
-own-tidy r own w e = record { own = e ∙ w .own; others = w .others }
+pub own-tidy : (r : Registers) (slots : List ℕ) → Tidy r → length slots ≡ length (r .slots)
+    → Tidy (registersOf slots (r .addresses) (r .values))
+own-tidy r slots w e = record { slots = e ∙ w .slots; others = w .others }
 
 -- ---- a read
 
-read-length : (own : List ℕ) (d : Devices) (clock word old : ℕ) → length (wordRead own d clock word old .own) ≡ length
-    own
+read-length : (slots : List ℕ) (d : Devices) (clock word old : ℕ)
+    → length (wordRead slots d clock word old .slots) ≡ length
+    slots
 unfolding wordRead
-read-length own d clock word old = at (portOf word)
+read-length slots d clock word old = at (portOf word)
   where
-    shown : (v : View) → length (viewOf v own d clock word old .own) ≡ length own
+    shown : (v : View) → length (viewOf v slots d clock word old .slots) ≡ length slots
     shown TimerCounter = refl
-    shown SpiAnswer = own-length own _ _
+    shown SpiAnswer = own-length slots _ _
     shown RtcReady = refl
     shown RtcOut = refl
     shown FlashStatus = refl
@@ -92,7 +93,7 @@ read-length own d clock word old = at (portOf word)
     shown Pending = refl
     shown PendingFiq = refl
 
-    at : (p : Port) → length (readBy p own d clock word old .own) ≡ length own
+    at : (p : Port) → length (readBy p slots d clock word old .slots) ≡ length slots
     at Select = refl
     at Send = refl
     at LcdControl = refl
@@ -102,18 +103,18 @@ read-length own d clock word old = at (portOf word)
     at Holds = refl
     at Other = refl
 
-module _ (r : Registers) (m s g : List ℕ) (d : Devices) (a n : ℕ) where
-  placed-length : (p : Place) → length (readAt p r m s g d a n .own) ≡ length (r .own)
+module _ (r : Registers) (ram sram gpio : List ℕ) (d : Devices) (a n : ℕ) where
+  placed-length : (p : Place) → length (readAt p r ram sram gpio d a n .slots) ≡ length (r .slots)
   unfolding regRead
   placed-length (Ram o) = refl
   placed-length (Sram o) = refl
   placed-length (Gpio o) = refl
-  placed-length Register = read-length (r .own) d _ _ _
+  placed-length Register = read-length (r .slots) d _ _ _
   placed-length Stray = refl
 
-  given-length : length (read.readOf r m s g d a n .own) ≡ length (r .own)
+  given-length : length (read.readOf r ram sram gpio d a n .slots) ≡ length (r .slots)
   unfolding read.readOf
-  given-length = either (λ (x : ReadOut). length (x .own) ≡ length (r .own)) (goodSize n) _ _
+  given-length = either (λ (x : ReadOut). length (x .slots) ≡ length (r .slots)) (goodSize n) _ _
       (placed-length (placeOf a)) refl
 
 module _ (m : Machine) (w : WithinLimits m) where
@@ -196,16 +197,17 @@ module _ (m : Machine) (w : WithinLimits m) where
 
 -- ---- time goes on
 
-module _ (own gpio : List ℕ) (times : List Float) (codes : List ℕ) (c : Clocks) (k : Keys) (clock : ℕ) where
-  moved-length : (x : Moved) → length (move.moved own gpio times codes c k clock x .own) ≡ length own
+module _ (slots gpio : List ℕ) (starts : List Float) (codes : List ℕ) (c : Clocks) (k : Keys) (clock : ℕ) where
+  moved-length : (x : Moved) → length (move.moved slots gpio starts codes c k clock x .slots) ≡ length slots
   unfolding move.moved move.movedTo move.devicesOf move.syncedOf move.convertedIn move.tickedIn
   moved-length (To t) = own-length _ _ _ ∙ own-length _ _ _ ∙ own-length _ _ _ ∙ own-length _ _ _
   moved-length BadTime = refl
 
-  moved-keys : (x : Moved) → keys.Within (buttons times codes k)
-      → keys.Within (buttons times codes (keys.withApplied k (move.moved own gpio times codes c k clock x .applied)))
+  moved-keys : (x : Moved) → keys.Within (buttons starts codes k)
+      → keys.Within (buttons starts codes (keys.withApplied k
+      (move.moved slots gpio starts codes c k clock x .applied)))
   unfolding move.moved move.movedTo
-  moved-keys (To t) w = keys-limits.sync-within (buttons times codes k) gpio (heldOf times codes k (t .now)) w
+  moved-keys (To t) w = keys-limits.sync-within (buttons starts codes k) gpio (heldOf starts codes k (t .now)) w
   moved-keys BadTime w = w
 
 pub advance-limits : (m : Machine) (to : Float) → WithinLimits m
@@ -214,16 +216,16 @@ pub advance-limits : (m : Machine) (to : Float) → WithinLimits m
 unfolding advanceOf move.advanceOf
 advance-limits m to w =
     let c = m .system .devices .clocks in
-    let own = m .system .registers .own in
+    let slots = m .system .registers .slots in
     let clock = clockIn (m .sram) in
-    let later = time-limits.later-times own (m .gpio) (m .system .presses .times) (m .system .presses .codes) c
+    let later = time-limits.later-times slots (m .gpio) (m .system .presses .starts) (m .system .presses .codes) c
     (m .system .keys) clock to (w .clocks) in
-    let within = time-limits.advance-within own (m .gpio) (m .system .presses .times) (m .system .presses .codes) c
+    let within = time-limits.advance-within slots (m .gpio) (m .system .presses .starts) (m .system .presses .codes) c
     (m .system .keys) clock to (w .clocks)
     (load-fits (m .sram) 0x90A4 4) in
     record {
       registers = own-tidy (m .system .registers) _ (w .registers)
-          (moved-length own (m .gpio) (m .system .presses .times) (m .system .presses .codes) c (m .system .keys)
+          (moved-length slots (m .gpio) (m .system .presses .starts) (m .system .presses .codes) c (m .system .keys)
           clock (movedOf (c .times) to));
       clocks = within;
       rtc = later-latched (m .system .rtc) (m .system .devices .latch) (c .times .game) _
@@ -231,6 +233,6 @@ advance-limits m to w =
           (later .game-later) (w .rtc);
       tone = w .tone;
       queue = w .queue;
-      keys = moved-keys own (m .gpio) (m .system .presses .times) (m .system .presses .codes) c (m .system .keys)
+      keys = moved-keys slots (m .gpio) (m .system .presses .starts) (m .system .presses .codes) c (m .system .keys)
           clock (movedOf (c .times) to) (w .keys);
     }

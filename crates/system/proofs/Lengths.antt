@@ -20,8 +20,8 @@ use Rattle.flash.specs.declared.Chip.{Chip}
 use Rattle.flash.specs.Steps.{cs, byte}
 use Rattle.flash.specs.Run as flash
 use Rattle.flash.proofs.Long.{step-long}
-use Rattle.panel.specs.declared.Held.{Held}
-use Rattle.panel.specs.declared.Held.the-variants as held
+use Rattle.panel.specs.declared.MaybeByte.{MaybeByte}
+use Rattle.panel.specs.declared.MaybeByte.the-variants as maybe
 use Rattle.panel.specs.declared.Panel.{Panel}
 use Rattle.panel.specs.declared.Pen.{Pen}
 use Rattle.panel.specs.Lcd.{inkedBy, inked, codeOf, painted}
@@ -31,12 +31,12 @@ use Rattle.panel.proofs.Touch.{put-length}
 use Rattle.clock.specs.declared.Moved.{Moved}
 use Rattle.clock.specs.declared.Moved.the-variants.{To, BadTime}
 use Rattle.clock.specs.Times.{movedOf}
-use Rattle.keys.specs.declared.Held as keys-held
+use Rattle.keys.specs.declared.Held.{Held}
 use Rattle.keys.specs.Lines.{Lines, wanted, syncOf}
 use Rattle.time.specs.Advance as move
 use Rattle.bus.specs.World.{Out}
 use Rattle.bus.specs.Chip.{boardOf, selectedOver, sentOver, selectWritten, sendWritten}
-use Rattle.bus.specs.Block.{Plain, plain, pokedAt, pokedOf, laidFrom, laidOf, table, blockOf}
+use Rattle.block.specs.Block.{Plain, plain, pokedAt, pokedOf, laidFrom, laidOf, table, blockOf}
 use Rattle.bus.specs.Screen.{Copied, copied, fedWord, dmaDone, actResult, controlled}
 use Rattle.bus.specs.Write.{storedWord, wordAddress, regWritten}
 use Rattle.time.specs.Clocks.{clockIn}
@@ -56,22 +56,22 @@ part-length k l m e =
     length-append l (drop k m) ∙ ap (λ (n : ℕ). n + length (drop k m)) e ∙ sym (length-append (take k m) (drop k m)) ∙
     ap length (take-append-drop k m)
 
-module _ (c : Chip) (p m : List ℕ) where
-  select-length : (on : Bool) → length (selectedOver c p m on .ram) ≡ length m
+module _ (c : Chip) (page ram : List ℕ) where
+  select-length : (on : Bool) → length (selectedOver c page ram on .ram) ≡ length ram
   unfolding selectedOver
-  select-length on = part-length FLASH-SIZE (flash.afterStep (boardOf c p m) (cs on) .array) m
-      (step-long (boardOf c p m) (cs on))
+  select-length on = part-length FLASH-SIZE (flash.afterStep (boardOf c page ram) (cs on) .array) ram
+      (step-long (boardOf c page ram) (cs on))
 
-  send-length : (b : ℕ) → length (sentOver c p m b .ram) ≡ length m
+  send-length : (b : ℕ) → length (sentOver c page ram b .ram) ≡ length ram
   unfolding sentOver
-  send-length b = part-length FLASH-SIZE (flash.afterStep (boardOf c p m) (byte b) .array) m
-      (step-long (boardOf c p m) (byte b))
+  send-length b = part-length FLASH-SIZE (flash.afterStep (boardOf c page ram) (byte b) .array) ram
+      (step-long (boardOf c page ram) (byte b))
 
 -- ---- the pixels
 
-ink-length : (h : Held) (fb : List ℕ) (p : Pen) (b : ℕ) → length (inkedBy h fb p b) ≡ length fb
-ink-length held.Nothing fb p b = refl
-ink-length (held.Byte h) fb p b = put-length fb (p .x) (p .y) h b
+ink-length : (h : MaybeByte) (fb : List ℕ) (p : Pen) (b : ℕ) → length (inkedBy h fb p b) ≡ length fb
+ink-length maybe.Nothing fb p b = refl
+ink-length (maybe.Byte h) fb p b = put-length fb (p .x) (p .y) h b
 
 paint-length : (p : Panel) (fb : List ℕ) (b : ℕ) → length (painted p fb b) ≡ length fb
 unfolding painted inked
@@ -89,31 +89,33 @@ unfolding fedWord
 fed-length t true word = paint-length (t .panel) (t .fb) _
 fed-length t false word = paint-length _ _ _ ∙ paint-length (t .panel) (t .fb) _
 
-module _ (r : Registers) (m s g : List ℕ) (t : Screen) where
+module _ (r : Registers) (ram sram gpio : List ℕ) (t : Screen) where
   abbrev SamePixels : Copied → Type 0
   SamePixels x = length (x .screen .fb) ≡ length (t .fb)
 
-  dma-length : SamePixels (dmaDone r m s g t)
+  dma-length : SamePixels (dmaDone r ram sram gpio t)
   unfolding dmaDone blockOf
-  dma-length = either SamePixels (eqb (ownAt (r .own) LCD-DMA) 0) _ _ refl (table-length _ 0 (length (t .fb)))
+  dma-length = either SamePixels (eqb (ownAt (r .slots) LCD-DMA) 0) _ _ refl (table-length _ 0 (length (t .fb)))
 
-  acted-length : (val : ℕ) → SamePixels (actResult r m s g t val)
+  acted-length : (val : ℕ) → SamePixels (actResult r ram sram gpio t val)
   unfolding actResult
   acted-length val = by (eqb (bitAnd val 0xF0) 0x80) (eqb (bitAnd val 0xF0) 0xA0) (eqb (bitAnd val 0xF0) 0xD0)
     where
-      by : (a b c : Bool) → SamePixels (cond a (copied (r .own) (screenAfterCommand t (ownAt (r .own) LCD-DATA % 256)))
-          (cond b (copied (r .own) (fedWord t (has val 0x2000) (ownAt (r .own) LCD-DATA)))
-          (cond c (dmaDone r m s g t) (copied (r .own) t))))
+      by : (a b c : Bool) → SamePixels (cond a (copied (r .slots) (screenAfterCommand t (ownAt
+          (r .slots) LCD-DATA % 256)))
+          (cond b (copied (r .slots) (fedWord t (has val 0x2000) (ownAt (r .slots) LCD-DATA)))
+          (cond c (dmaDone r ram sram gpio t) (copied (r .slots) t))))
       by true b c = refl
-      by false true c = fed-length t (has val 0x2000) (ownAt (r .own) LCD-DATA)
+      by false true c = fed-length t (has val 0x2000) (ownAt (r .slots) LCD-DATA)
       by false false true = dma-length
       by false false false = refl
 
-controlled-length : (r : Registers) (m s g : List ℕ) (t : Screen) (val : ℕ)
-    → length (controlled r m s g t val .screen .fb) ≡ length (t .fb)
+controlled-length : (r : Registers) (ram sram gpio : List ℕ) (t : Screen) (val : ℕ)
+    → length (controlled r ram sram gpio t val .screen .fb) ≡ length (t .fb)
 unfolding controlled
-controlled-length r m s g t val =
-    either (λ (x : Copied). length (x .screen .fb) ≡ length (t .fb)) (has val 1) _ _ (acted-length _ m s g t val) refl
+controlled-length r ram sram gpio t val =
+    either (λ (x : Copied). length (x .screen .fb) ≡ length (t .fb)) (has val 1) _ _
+    (acted-length _ ram sram gpio t val) refl
 
 -- ---- a write
 
@@ -145,7 +147,7 @@ write-lengths m a n v =
 
 -- ---- an advance
 
-sync-length : (gpio : List ℕ) (applied : ℕ) (h : keys-held.Held) → length (syncOf gpio applied h .gpio) ≡ length gpio
+sync-length : (gpio : List ℕ) (applied : ℕ) (h : Held) → length (syncOf gpio applied h .gpio) ≡ length gpio
 unfolding syncOf
 sync-length gpio applied h =
     either (λ (l : Lines). length (l .gpio) ≡ length gpio) (eqb (wanted h) applied) _ _ refl
@@ -156,7 +158,7 @@ advance-length : (m : Machine) (to : Float) → length (advanceOf (m .system) (m
 unfolding advanceOf move.advanceOf move.moved move.movedTo
 advance-length m to = by (movedOf (m .system .devices .clocks .times) to)
   where
-    by : (x : Moved) → length (move.moved (m .system .registers .own) (m .gpio) (m .system .presses .times)
+    by : (x : Moved) → length (move.moved (m .system .registers .slots) (m .gpio) (m .system .presses .starts)
         (m .system .presses .codes)
         (m .system .devices .clocks) (m .system .keys) (clockIn (m .sram)) x .gpio) ≡ length (m .gpio)
     by (To t) = sync-length (m .gpio) _ _

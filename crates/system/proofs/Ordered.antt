@@ -46,7 +46,8 @@ module _ (m : Machine) where
     where
       by : (b : Bool) (p : Place) → _≡_ {A = ℕ}
           (cond b (readAt p (m .system .registers) (m .ram) (m .sram) (m .gpio) (m .system .devices) a n)
-          (reads.got (m .system .registers .own) (record { refusal = 9; value = 0 })) .got .refusal) (cond (not b) 9 0)
+          (reads.got (m .system .registers .slots) (record { refusal = 9; value = 0 })) .got .refusal) (cond
+          (not b) 9 0)
       by true (Ram o) = refl
       by true (Sram o) = refl
       by true (Gpio o) = refl
@@ -64,7 +65,7 @@ module _ (m : Machine) where
       c = m .system .devices .clocks
 
       by : (good back high : Bool) (t : Times)
-          → _≡_ {A = ℕ} (move.moved (m .system .registers .own) (m .gpio) (m .system .presses .times)
+          → _≡_ {A = ℕ} (move.moved (m .system .registers .slots) (m .gpio) (m .system .presses .starts)
           (m .system .presses .codes) c (m .system .keys)
           (clockIn (m .sram)) (cond good (cond back BadTime (cond high BadTime (To t))) BadTime) .refusal)
           (cond (not good || back || high) 1 0)
@@ -76,7 +77,7 @@ module _ (m : Machine) where
   pub next-order : step m nextEvent .refusal ≡ refusalOf m nextEvent
   unfolding step nextOf next.nextOf next.answered refusalOf firstOf given order
   next-order =
-      by (next.finite (next.eventOf (m .system .registers .own) (m .system .presses .times)
+      by (next.finite (next.eventOf (m .system .registers .slots) (m .system .presses .starts)
       (m .system .devices .clocks) (m .system .keys) (clockIn (m .sram)))) _ _
     where
       by : (b : Bool) (t z : Float) → _≡_ {A = ℕ} (cond b (nextTime 0 t) (nextTime 13 z) .refusal) (cond (not b) 13 0)

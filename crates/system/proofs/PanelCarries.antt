@@ -45,26 +45,27 @@ unfolding fedWord dataSent later
 data-sent t true w = refl
 data-sent t false w = refl
 
-module _ (r : Registers) (m s g : List ℕ) (t : Screen) where
+module _ (r : Registers) (ram sram gpio : List ℕ) (t : Screen) where
   abbrev Shows : Copied → List Act → Type 0
   Shows c l = c .screen ≡ later t l
 
-  copy-sent : Shows (dmaDone r m s g t) (copySent r m s g (length (t .fb)))
+  copy-sent : Shows (dmaDone r ram sram gpio t) (copySent r ram sram gpio (length (t .fb)))
   unfolding dmaDone copySent later
-  copy-sent = by-both Shows (eqb (ownAt (r .own) LCD-DMA) 0) _ _ _ _ refl refl
+  copy-sent = by-both Shows (eqb (ownAt (r .slots) LCD-DMA) 0) _ _ _ _ refl refl
 
-  act-sent : (val : ℕ) → Shows (actResult r m s g t val) (actSent r m s g (length (t .fb)) val)
+  act-sent : (val : ℕ) → Shows (actResult r ram sram gpio t val) (actSent r ram sram gpio (length (t .fb)) val)
   unfolding actResult actSent later
   act-sent val =
       by-both Shows (eqb (bitAnd val 0xF0) 0x80) _ _ _ _ refl
-      (by-both Shows (eqb (bitAnd val 0xF0) 0xA0) _ _ _ _ (data-sent t (has val 0x2000) (ownAt (r .own) LCD-DATA))
+      (by-both Shows (eqb (bitAnd val 0xF0) 0xA0) _ _ _ _ (data-sent t (has val 0x2000) (ownAt (r .slots) LCD-DATA))
       (by-both Shows (eqb (bitAnd val 0xF0) 0xD0) _ _ _ _ copy-sent refl))
 
-control-sent : (r : Registers) (m s g : List ℕ) (t : Screen) (val : ℕ)
-    → controlled r m s g t val .screen ≡ later t
-    (cond (has val 1) (actSent (withControl r val) m s g (length (t .fb)) val) [])
+control-sent : (r : Registers) (ram sram gpio : List ℕ) (t : Screen) (val : ℕ)
+    → controlled r ram sram gpio t val .screen ≡ later t
+    (cond (has val 1) (actSent (withControl r val) ram sram gpio (length (t .fb)) val) [])
 unfolding controlled later
-control-sent r m s g t val = by-both (Shows r m s g t) (has val 1) _ _ _ _ (act-sent (withControl r val) m s g t val)
+control-sent r ram sram gpio t val = by-both (Shows r ram sram gpio t) (has val 1) _ _ _ _ (act-sent
+    (withControl r val) ram sram gpio t val)
     refl
 
 -- ---- a write
@@ -83,7 +84,7 @@ panel-port m full word old new part =
     (λ e. rw e (control-sent (m .system .registers) (m .ram) (m .sram) (m .gpio) (screenIn m) new))
     (λ e. rw e)
     (λ x e. rw e
-    (ap (λ (p : Panel). screen p (m .fb)) (word-alone (m .system .registers .own) (m .system .devices)
+    (ap (λ (p : Panel). screen p (m .fb)) (word-alone (m .system .registers .slots) (m .system .devices)
     (clockIn (m .sram)) full x word old new part .1)))
     (λ p e s. rw e (by-stores (λ (q : Port). screenIn m ≡ later (screenIn m) (panelAt q m new)) (λ v. refl) refl refl
     p s))

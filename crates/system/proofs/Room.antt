@@ -197,9 +197,9 @@ day-never word e =
 module _ (r : Registers) (d : Devices) (clock : ℕ) (full : Bool) (word new : ℕ) where
   -- 4, 5 or 0, by the words
   abbrev pub wordNumber : ℕ
-  wordNumber = cond (noRoom r word new) 4 (cond (addsEvent (r .own) (d .tone) clock word new && full) 5 0)
+  wordNumber = cond (noRoom r word new) 4 (cond (addsEvent (r .slots) (d .tone) clock word new && full) 5 0)
 
-  pub adds-none : soundWord word ≡ false → addsEvent (r .own) (d .tone) clock word new ≡ false
+  pub adds-none : soundWord word ≡ false → addsEvent (r .slots) (d .tone) clock word new ≡ false
   unfolding addsEvent
   adds-none h = rw h
 
@@ -207,13 +207,13 @@ module _ (r : Registers) (d : Devices) (clock : ℕ) (full : Bool) (word new : �
   number-none h k = rw (h, adds-none k)
 
   sound-order : (next : Devices) (v : ℕ) → slotOf word < 76 → soundWord word ≡ true → v ≡ storedOf word new
-      → soundWritten (r .own) d next clock full word v .wrote .refusal ≡ wordNumber
+      → soundWritten (r .slots) d next clock full word v .wrote .refusal ≡ wordNumber
   unfolding soundWritten soundOf soundedOf addsEvent
   sound-order next v less follows e = rw (room-own r word new less, follows, e)
-      (by (differOf (toneThen (r .own) clock word new) (d .tone)) full)
+      (by (differOf (toneThen (r .slots) clock word new) (d .tone)) full)
     where
-      by : (a b : Bool) → _≡_ {A = ℕ} (sounding (cond a (cond b SoundFull (Change (toneThen (r .own) clock word new)))
-          Same) (r .own) d next word (storedOf word new) .wrote .refusal)
+      by : (a b : Bool) → _≡_ {A = ℕ} (sounding (cond a (cond b SoundFull (Change (toneThen (r .slots) clock word new)))
+          Same) (r .slots) d next word (storedOf word new) .wrote .refusal)
           (cond (a && b) 5 0)
       by true true = refl
       by true false = refl
@@ -221,7 +221,7 @@ module _ (r : Registers) (d : Devices) (clock : ℕ) (full : Bool) (word new : �
 
   module _ (old part : ℕ) where
     abbrev Ordered : Effect → Type 0
-    Ordered e = wordWritten e (r .own) d clock full word old new part .wrote .refusal ≡ wordNumber
+    Ordered e = wordWritten e (r .slots) d clock full word old new part .wrote .refusal ≡ wordNumber
 
     -- a word that has its own storage, and that the sound does not follow
     silent : (e : Effect) → portOf word ≡ Acts e → hasSlot (Acts e) ≡ true → followedBy e (timerOf word) ≡ false
@@ -235,7 +235,7 @@ module _ (r : Registers) (d : Devices) (clock : ℕ) (full : Bool) (word new : �
     unfolding writtenOf
     timer-order p =
         let less : slotOf word < 76 = port-own word (ap hasSlot p) in
-        by-timer (λ (x : OwnOut). x .wrote .refusal ≡ wordNumber) (r .own) d clock full (timerOf word) word old new _
+        by-timer (λ (x : OwnOut). x .wrote .refusal ≡ wordNumber) (r .slots) d clock full (timerOf word) word old new _
         refl
         (λ four. sound-order _ _ less
         (sound-port word ∙ ap (λ (q : Port). onEffect followedBy q (timerOf word)) p ∙ eq-eqb _ _ four)

@@ -70,20 +70,20 @@ put-number r a v =
 
 -- what was answered left the own words and the devices as they were
 abbrev SaidPlainly : List ℕ → Devices → OwnOut → Type 0
-SaidPlainly own d x = x .wrote .refusal ≢ 0 → x ≡ ownOut own (answer (x .wrote .refusal) d)
+SaidPlainly slots d x = x .wrote .refusal ≢ 0 → x ≡ ownOut slots (answer (x .wrote .refusal) d)
 
-module _ (own : List ℕ) (d : Devices) (clock : ℕ) (full : Bool) where
-  sound-plain : (next : Devices) (word v : ℕ) → SaidPlainly own d (soundWritten own d next clock full word v)
+module _ (slots : List ℕ) (d : Devices) (clock : ℕ) (full : Bool) where
+  sound-plain : (next : Devices) (word v : ℕ) → SaidPlainly slots d (soundWritten slots d next clock full word v)
   sound-plain next word v =
-      by-sound (SaidPlainly own d) own d clock full next word v (λ e h. refl) (λ e h. absurd (h refl))
+      by-sound (SaidPlainly slots d) slots d clock full next word v (λ e h. refl) (λ e h. absurd (h refl))
       (λ tone e h. absurd (h refl))
 
   word-plain : (e : Effect) (word old new part : ℕ)
-      → SaidPlainly own d (wordWritten e own d clock full word old new part)
+      → SaidPlainly slots d (wordWritten e slots d clock full word old new part)
   unfolding adcWritten
   word-plain e word old new part =
-      by-word (SaidPlainly own d) own d clock full e word old new part
-      (λ k. by-timer (SaidPlainly own d) own d clock full _ word old new _ refl (λ e. sound-plain _ word _)
+      by-word (SaidPlainly slots d) slots d clock full e word old new part
+      (λ k. by-timer (SaidPlainly slots d) slots d clock full _ word old new _ refl (λ e. sound-plain _ word _)
       (λ e h. absurd (h refl)))
       (λ h. absurd (h refl)) (sound-plain d word new) (λ h. absurd (h refl)) (λ h. absurd (h refl))
       (λ h. absurd (h refl))
@@ -98,15 +98,15 @@ store-plain : (w : World) (word new : ℕ)
 unfolding storedWord
 store-plain w word new h = by (put-number (w .registers) word new)
   where
-    kept : (x : words.Outcome) → x .registers ≡ w .registers → bus.byStore w (bus.settled x (w .devices)) ≡ out w
+    same : (x : words.Outcome) → x .registers ≡ w .registers → bus.byStore w (bus.settled x (w .devices)) ≡ out w
         (x .refusal) false
-    kept x e = rw e
+    same x e = rw e
 
     by : StoreNumber (putWord (w .registers) word new .refusal)
         → bus.byStore w (bus.settled (putWord (w .registers) word new) (w .devices)) ≡ out w
         (putWord (w .registers) word new .refusal) false
     by (inl z) = absurd (h z)
-    by (inr e) = kept (putWord (w .registers) word new) (refused-stays (w .registers) word new e)
+    by (inr e) = same (putWord (w .registers) word new) (refused-stays (w .registers) word new e)
 
 write-plain : (w : World) (full : Bool) (a n v : ℕ) → BusPlainly w (bus.writeOf w full a n v)
 unfolding regWritten
@@ -116,7 +116,7 @@ write-plain w full a n v =
     (λ g e. by-port (BusPlainly w) w full (wordAddress a) _ _ _ (λ e h. absurd (h refl)) (λ e h. absurd (h refl))
     (λ e h. absurd (h refl))
     (λ e h. absurd (h refl))
-    (λ x e h. ap (bus.byWord w) (word-plain (w .registers .own) (w .devices) (clockIn (w .sram)) full x
+    (λ x e h. ap (bus.byWord w) (word-plain (w .registers .slots) (w .devices) (clockIn (w .sram)) full x
     (wordAddress a) _ _ (writtenOf a n v) h))
     (λ p e s. store-plain w (wordAddress a) _))
     (λ g e h. refl)
@@ -151,7 +151,7 @@ module _ (m : Machine) where
   advance-plainly to = by (movedOf (m .system .devices .clocks .times) to)
     where
       by : (x : Moved) → Plainly m (byMove m
-          (moving (m .system) (move.moved (m .system .registers .own) (m .gpio) (m .system .presses .times)
+          (moving (m .system) (move.moved (m .system .registers .slots) (m .gpio) (m .system .presses .starts)
           (m .system .presses .codes) (m .system .devices .clocks) (m .system .keys) (clockIn (m .sram)) x)))
       by (To t) h = absurd (h refl)
       by BadTime h = refl

@@ -14,15 +14,17 @@ one-write d m n i j h k = let e : left m i ≡ left n j = unique h k in
     (ap (λ (o : Left). o .machine) e, ap (λ (o : Left). o .refusal) e)
 
 -- of an advance: the answer, the state and the GPIO memory
-pub one-advance : (d : Moved) (r s : Changed) (g h : List ℕ) → moved r g ≡ d → moved s h ≡ d → (r ≡ s) × (g ≡ h)
-one-advance d r s g h i k = let e : moved r g ≡ moved s h = unique i k in
+pub one-advance : (d : Moved) (r s : Changed) (gpio gpio₁ : List ℕ) → moved r gpio ≡ d → moved s gpio₁ ≡ d
+    → (r ≡ s) × (gpio ≡ gpio₁)
+one-advance d r s gpio gpio₁ i k = let e : moved r gpio ≡ moved s gpio₁ = unique i k in
     (ap (λ (o : Moved). o .changed) e, ap (λ (o : Moved). o .gpio) e)
 
 -- of a wipe: the state and the four memories
-pub one-wipe : (d : Machine) (s t : System) (m n r q g h f b : List ℕ) → machine s m r g f ≡ d → machine t n q h b ≡ d
-    → (s ≡ t) × (m ≡ n) × (r ≡ q) × (g ≡ h) × (f ≡ b)
-one-wipe d s t m n r q g h f b i k =
-    let e : machine s m r g f ≡ machine t n q h b = unique i k in (
+pub one-wipe : (d : Machine) (s t : System) (ram ram₁ sram sram₁ gpio gpio₁ fb fb₁ : List ℕ)
+    → machine s ram sram gpio fb ≡ d → machine t ram₁ sram₁ gpio₁ fb₁ ≡ d
+    → (s ≡ t) × (ram ≡ ram₁) × (sram ≡ sram₁) × (gpio ≡ gpio₁) × (fb ≡ fb₁)
+one-wipe d s t ram ram₁ sram sram₁ gpio gpio₁ fb fb₁ i k =
+    let e : machine s ram sram gpio fb ≡ machine t ram₁ sram₁ gpio₁ fb₁ = unique i k in (
       ap (λ (o : Machine). o .system) e,
       ap (λ (o : Machine). o .ram) e,
       ap (λ (o : Machine). o .sram) e,

@@ -66,46 +66,47 @@ record BusWithin (r : Registers) (c : List ℕ) (d : Devices) : Type 0 where
 
 -- ---- the panel's words keep their number
 
-module _ (r : Registers) (m s g : List ℕ) (t : Screen) where
+module _ (r : Registers) (ram sram gpio : List ℕ) (t : Screen) where
   abbrev SameLength : Copied → Type 0
-  SameLength x = length (x .own) ≡ length (r .own)
+  SameLength x = length (x .slots) ≡ length (r .slots)
 
-  dma-length : SameLength (dmaDone r m s g t)
+  dma-length : SameLength (dmaDone r ram sram gpio t)
   unfolding dmaDone
-  dma-length = either SameLength (eqb (ownAt (r .own) LCD-DMA) 0) _ _ refl (own-length (r .own) _ _)
+  dma-length = either SameLength (eqb (ownAt (r .slots) LCD-DMA) 0) _ _ refl (own-length (r .slots) _ _)
 
-  acted-length : (val : ℕ) → SameLength (actResult r m s g t val)
+  acted-length : (val : ℕ) → SameLength (actResult r ram sram gpio t val)
   unfolding actResult
   acted-length val = by (eqb (bitAnd val 0xF0) 0x80) (eqb (bitAnd val 0xF0) 0xA0) (eqb (bitAnd val 0xF0) 0xD0) _ _
     where
       by : (a b c : Bool) (x y : Screen)
-          → SameLength (cond a (copied (r .own) x)
-          (cond b (copied (r .own) y) (cond c (dmaDone r m s g t) (copied (r .own) t))))
+          → SameLength (cond a (copied (r .slots) x)
+          (cond b (copied (r .slots) y) (cond c (dmaDone r ram sram gpio t) (copied (r .slots) t))))
       by true b c x y = refl
       by false true c x y = refl
       by false false true x y = dma-length
       by false false false x y = refl
 
-controlled-length : (r : Registers) (m s g : List ℕ) (t : Screen) (val : ℕ) → length (controlled r m s g t val .own) ≡
-    length (r .own)
+controlled-length : (r : Registers) (ram sram gpio : List ℕ) (t : Screen) (val : ℕ)
+    → length (controlled r ram sram gpio t val .slots) ≡
+    length (r .slots)
 unfolding controlled
-controlled-length r m s g t val =
-    either (λ (x : Copied). length (x .own) ≡ length (r .own)) (has val 1) _ _
-    (own-length _ _ _ ∙ acted-length _ m s g t val ∙ own-length (r .own) _ _) (own-length (r .own) _ _)
+controlled-length r ram sram gpio t val =
+    either (λ (x : Copied). length (x .slots) ≡ length (r .slots)) (has val 1) _ _
+    (own-length _ _ _ ∙ acted-length _ ram sram gpio t val ∙ own-length (r .slots) _ _) (own-length (r .slots) _ _)
 
 -- ---- the tone of a change is one that timer 4's words give
 
-changed-held : (own : List ℕ) (state tone : Tone) (clock : ℕ) (full : Bool) (word v : ℕ) → clock < 2 ^ 32
-    → soundOf own state clock full word v ≡ Change tone
+changed-held : (slots : List ℕ) (state tone : Tone) (clock : ℕ) (full : Bool) (word v : ℕ) → clock < 2 ^ 32
+    → soundOf slots state clock full word v ≡ Change tone
     → ToneWithin tone
 unfolding soundOf soundedOf
-changed-held own state tone clock full word v h e = by (differOf new state) full e
+changed-held slots state tone clock full word v h e = by (differOf new state) full e
   where
     new : Tone
     new =
-        toneOf clock (cond (eqb word SOUND-CONTROL) v (ownAt own SOUND-CONTROL))
-        (cond (eqb word SOUND-RELOAD) v (ownAt own SOUND-RELOAD))
-        (cond (eqb word SOUND-COMPARE) v (ownAt own SOUND-COMPARE))
+        toneOf clock (cond (eqb word SOUND-CONTROL) v (ownAt slots SOUND-CONTROL))
+        (cond (eqb word SOUND-RELOAD) v (ownAt slots SOUND-RELOAD))
+        (cond (eqb word SOUND-COMPARE) v (ownAt slots SOUND-COMPARE))
 
     by : (a b : Bool) → cond a (cond b SoundFull (Change new)) Same ≡ Change tone → ToneWithin tone
     by true false e = let same : new ≡ tone = cc in subst ToneWithin same (tone-within clock _ _ _ h)
@@ -114,15 +115,15 @@ changed-held own state tone clock full word v h e = by (differOf new state) full
 
 -- ---- a write on the bus
 
-module _ (r : Registers) (c : List ℕ) (d : Devices) (w : BusWithin r c d) where
+module _ (r : Registers) (rtc : List ℕ) (d : Devices) (w : BusWithin r rtc d) where
   abbrev Kept : List ℕ → Devices → Type 0
-  Kept own e = BusWithin (registersOf own (r .addresses) (r .values)) c e
+  Kept slots e = BusWithin (registersOf slots (r .addresses) (r .values)) rtc e
 
   -- neither clocks nor RTC nor tone change
-  apart : (own : List ℕ) (f : Chip) (p : Panel) (off : Bool) → length own ≡ length (r .own)
-      → Kept own (devicesOf f p (d .clocks) (d .latch) (d .tone) off)
-  apart own f p off e = record {
-    registers = own-tidy r own (w .registers) e;
+  apart : (slots : List ℕ) (f : Chip) (p : Panel) (off : Bool) → length slots ≡ length (r .slots)
+      → Kept slots (devicesOf f p (d .clocks) (d .latch) (d .tone) off)
+  apart slots f p off e = record {
+    registers = own-tidy r slots (w .registers) e;
     clocks = w .clocks;
     rtc = w .rtc;
     tone =
@@ -130,10 +131,11 @@ module _ (r : Registers) (c : List ℕ) (d : Devices) (w : BusWithin r c d) wher
   }
 
   -- of the clocks all but game time may change
-  clocked : (own : List ℕ) (k : Clocks) → length own ≡ length (r .own) → k .times ≡ d .clocks .times → ClocksWithin k
-      → Kept own (withClocks d k)
-  clocked own k e t h = record {
-    registers = own-tidy r own (w .registers) e;
+  clocked : (slots : List ℕ) (k : Clocks) → length slots ≡ length (r .slots) → k .times ≡ d .clocks .times
+      → ClocksWithin k
+      → Kept slots (withClocks d k)
+  clocked slots k e t h = record {
+    registers = own-tidy r slots (w .registers) e;
     clocks = h;
     rtc = rw t (w .rtc);
     tone =
@@ -142,40 +144,40 @@ module _ (r : Registers) (c : List ℕ) (d : Devices) (w : BusWithin r c d) wher
 
   module _ (clock : ℕ) (full : Bool) (small : clock < 2 ^ 32) where
     abbrev SaidKept : OwnOut → Type 0
-    SaidKept x = Kept (x .own) (x .wrote .devices)
+    SaidKept x = Kept (x .slots) (x .wrote .devices)
 
-    sound-kept : (next : Devices) (word v : ℕ) → Kept (ownWith (r .own) word v) next
-        → SaidKept (soundWritten (r .own) d next clock full word v)
+    sound-kept : (next : Devices) (word v : ℕ) → Kept (ownWith (r .slots) word v) next
+        → SaidKept (soundWritten (r .slots) d next clock full word v)
     sound-kept next word v h =
-        by-sound SaidKept (r .own) d clock full next word v (λ e. w) (λ e. h)
+        by-sound SaidKept (r .slots) d clock full next word v (λ e. w) (λ e. h)
         (λ tone e. record {
           registers = h .registers;
           clocks = h .clocks;
           rtc = h .rtc;
-          tone = changed-held (r .own) (d .tone) tone clock full word v small e;
+          tone = changed-held (r .slots) (d .tone) tone clock full word v small e;
         })
 
-    timer-kept : (n word old new : ℕ) → n < 6 → SaidKept (timerWritten (r .own) d clock full n word old new)
+    timer-kept : (n word old new : ℕ) → n < 6 → SaidKept (timerWritten (r .slots) d clock full n word old new)
     timer-kept n word old new h =
         let x = timers.writtenOf (getD (d .clocks .timers) n none) (d .clocks .times .now) new old in
-        let next : Kept (ownWith (r .own) word (x .control)) (timerSet d n (x .timer)) =
-        clocked _ _ (own-length (r .own) _ _) refl (timer-within (d .clocks) (w .clocks) n new old h) in
-        by-timer SaidKept (r .own) d clock full n word old new x refl (λ e. sound-kept _ word (x .control) next)
+        let next : Kept (ownWith (r .slots) word (x .control)) (timerSet d n (x .timer)) =
+        clocked _ _ (own-length (r .slots) _ _) refl (timer-within (d .clocks) (w .clocks) n new old h) in
+        by-timer SaidKept (r .slots) d clock full n word old new x refl (λ e. sound-kept _ word (x .control) next)
         (λ e. next)
 
     word-kept : (e : Effect) (word old new part : ℕ) → portOf word ≡ Acts e
-        → SaidKept (wordWritten e (r .own) d clock full word old new part)
+        → SaidKept (wordWritten e (r .slots) d clock full word old new part)
     unfolding daySet adcWritten spiSent
     word-kept e word old new part p =
-        by-word SaidKept (r .own) d clock full e word old new part
+        by-word SaidKept (r .slots) d clock full e word old new part
         (λ k. timer-kept (timerOf word) word old new (port-timer word (p ∙ ap Acts k)))
         (clocked _ _ refl refl (day-within (d .clocks) (w .clocks) _ new))
-        (sound-kept d word new (apart _ _ _ _ (own-length (r .own) _ _)))
-        (apart _ _ _ _ (own-length (r .own) _ _))
-        (apart _ _ _ _ (own-length (r .own) _ _))
-        (clocked _ _ (own-length (r .own) _ _) refl (adc-within (d .clocks) (w .clocks) _))
-        (apart _ _ _ _ (own-length (r .own) _ _))
-        (apart _ _ _ _ (own-length _ _ _ ∙ own-length _ _ _ ∙ own-length (r .own) _ _))
+        (sound-kept d word new (apart _ _ _ _ (own-length (r .slots) _ _)))
+        (apart _ _ _ _ (own-length (r .slots) _ _))
+        (apart _ _ _ _ (own-length (r .slots) _ _))
+        (clocked _ _ (own-length (r .slots) _ _) refl (adc-within (d .clocks) (w .clocks) _))
+        (apart _ _ _ _ (own-length (r .slots) _ _))
+        (apart _ _ _ _ (own-length _ _ _ ∙ own-length _ _ _ ∙ own-length (r .slots) _ _))
 
 abbrev WorldKept : Out → Type 0
 WorldKept x = BusWithin (x .world .registers) (x .world .rtc) (x .world .devices)
@@ -188,11 +190,11 @@ reg-kept w full a n v h =
     let old = wordAt r (wordAddress a) in
     let new = mergedOf old a n v in
     by-port WorldKept w full (wordAddress a) old new (writtenOf a n v)
-    (λ e. apart r (w .rtc) (w .devices) h _ _ _ _ (own-length (r .own) _ _))
-    (λ e. apart r (w .rtc) (w .devices) h _ _ _ _ (own-length (r .own) _ _))
+    (λ e. apart r (w .rtc) (w .devices) h _ _ _ _ (own-length (r .slots) _ _))
+    (λ e. apart r (w .rtc) (w .devices) h _ _ _ _ (own-length (r .slots) _ _))
     (λ e. apart r (w .rtc) (w .devices) h _ _ _ _ (controlled-length r (w .ram) (w .sram) (w .gpio) _ new))
     (λ e. record {
-      registers = own-tidy r _ (h .registers) (own-length (r .own) _ _);
+      registers = own-tidy r _ (h .registers) (own-length (r .slots) _ _);
       clocks = h .clocks;
       rtc = commands-latched (rtcOf (w .rtc) (w .devices .latch)) (w .devices .clocks .times .game) _ _ new (h .rtc)
           (h .clocks .times .game-limit);

@@ -29,7 +29,7 @@ use Rattle.system.specs.declared.Read.{Read}
 use Rattle.system.specs.declared.Taken.{Taken}
 use Rattle.system.specs.declared.Counters.{Counters}
 use Rattle.bus.specs.Sounds.{noted}
-use Rattle.system.specs.System.{Machine, machine, Left, left, presses, withOwn, withClocks, withTimes, withKeys}
+use Rattle.system.specs.System.{Machine, machine, Left, left, presses, withSlots, withClocks, withTimes, withKeys}
 use Rattle.system.specs.System.{withPresses, withQueue, worldIn, withWorld, freshSystem}
 
 abbrev pub changed : ℕ → System → Changed
@@ -38,7 +38,7 @@ changed n s = record { refusal = n; system = s }
 -- ---- reads and writes
 
 abbrev pub reading : System → ReadOut → Read
-reading s x = record { refusal = x .got .refusal; value = x .got .value; system = withOwn s (x .own) }
+reading s x = record { refusal = x .got .refusal; value = x .got .value; system = withSlots s (x .slots) }
 
 unfoldable pub readOf : System → List ℕ → List ℕ → List ℕ → ℕ → ℕ → Read
 readOf s ram sram gpio a n = reading s (read.readOf (s .registers) ram sram gpio (s .devices) a n)
@@ -61,16 +61,16 @@ moved c gpio = record { changed = c; gpio = gpio }
 
 abbrev pub moving : System → move.Outcome → Moved
 moving s x =
-    moved (changed (x .refusal) (withKeys (withClocks (withOwn s (x .own)) (x .clocks))
+    moved (changed (x .refusal) (withKeys (withClocks (withSlots s (x .slots)) (x .clocks))
     (withApplied (s .keys) (x .applied)))) (x .gpio)
 
 unfoldable pub advanceOf : System → List ℕ → List ℕ → Float → Moved
 advanceOf s sram gpio to =
-    moving s (move.advanceOf (s .registers .own) gpio (s .presses .times) (s .presses .codes) (s .devices .clocks)
+    moving s (move.advanceOf (s .registers .slots) gpio (s .presses .starts) (s .presses .codes) (s .devices .clocks)
     (s .keys) (clockIn sram) to)
 
 unfoldable pub nextOf : System → List ℕ → NextTime
-nextOf s sram = next.nextOf (s .registers .own) (s .presses .times) (s .devices .clocks) (s .keys) (clockIn sram)
+nextOf s sram = next.nextOf (s .registers .slots) (s .presses .starts) (s .devices .clocks) (s .keys) (clockIn sram)
 
 abbrev pub pacing : System → Paced → Changed
 pacing s (By t) = changed DONE (withTimes s t)
@@ -80,10 +80,10 @@ unfoldable pub turboOf : System → Float → Changed
 turboOf s to = pacing s (pacedOf (s .devices .clocks .times) to)
 
 unfoldable pub pendingOf : System → ℕ
-pendingOf s = irq.pendingOf (s .registers .own) (s .devices .clocks .timers)
+pendingOf s = irq.pendingOf (s .registers .slots) (s .devices .clocks .timers)
 
 unfoldable pub wantedOf : System → Bool
-wantedOf s = irq.wantedOf (s .registers .own) (s .devices .clocks .timers)
+wantedOf s = irq.wantedOf (s .registers .slots) (s .devices .clocks .timers)
 
 abbrev pub taking : System → TakeOutcome → Taken
 taking s x = record { refusal = x .refusal; event = x .event; system = withQueue s (x .queue) }
@@ -104,15 +104,15 @@ holdOf s key until = changed (live.holdOf (s .keys) key until .refusal)
 abbrev pub pressing : System → script.Outcome → Changed
 pressing s x =
     changed (x .refusal) (withPresses (withKeys s (withCount (s .keys) (x .script .count)))
-    (presses (x .script .times) (x .script .codes)))
+    (presses (x .script .starts) (x .script .codes)))
 
 unfoldable pub pressOf : System → ℕ → Float → Changed
 pressOf s key at =
-    pressing s (script.pressOf (script.script (s .presses .times) (s .presses .codes) (s .keys .count)) key at
+    pressing s (script.pressOf (script.script (s .presses .starts) (s .presses .codes) (s .keys .count)) key at
     (s .devices .clocks .times .now))
 
 unfoldable pub heldOf : System → Held
-heldOf s = live.heldOf (s .presses .times) (s .presses .codes) (s .keys) (s .devices .clocks .times .now)
+heldOf s = live.heldOf (s .presses .starts) (s .presses .codes) (s .keys) (s .devices .clocks .times .now)
 
 -- ---- counters, wipe
 

@@ -22,7 +22,7 @@ use Rattle.flash.specs.Steps.{Step}
 use Rattle.panel.specs.Entries.{Screen, screen}
 use Rattle.panel.specs.Runs as panel
 use Rattle.panel.specs.Runs.{Act}
-use Rattle.bus.specs.Block.{blockOf}
+use Rattle.block.specs.Block.{blockOf}
 use Rattle.bus.specs.Screen.{withControl}
 use Rattle.bus.specs.Write.{wordAddress}
 use Rattle.system.specs.System.{Machine}
@@ -125,14 +125,14 @@ dataSent one w =
 -- as many bytes as the framebuffer has, from the address in LCD-DMA on, unless that is 0
 unfoldable pub copySent : Registers → List ℕ → List ℕ → List ℕ → ℕ → List Act
 copySent r ram sram gpio n =
-    cond (eqb (ownAt (r .own) LCD-DMA) 0) []
-    (panel.input (panel.copy (blockOf r ram sram gpio (ownAt (r .own) LCD-DMA) n)) ∷ [])
+    cond (eqb (ownAt (r .slots) LCD-DMA) 0) []
+    (panel.input (panel.copy (blockOf r ram sram gpio (ownAt (r .slots) LCD-DMA) n)) ∷ [])
 
 -- bits 4 to 7: 0x80 a command, 0xA0 data, 0xD0 a DMA
 unfoldable pub actSent : Registers → List ℕ → List ℕ → List ℕ → ℕ → ℕ → List Act
 actSent r ram sram gpio n val =
-    cond (eqb (bitAnd val 0xF0) 0x80) (panel.order (ownAt (r .own) LCD-DATA % 256) ∷ [])
-    (cond (eqb (bitAnd val 0xF0) 0xA0) (dataSent (has val 0x2000) (ownAt (r .own) LCD-DATA))
+    cond (eqb (bitAnd val 0xF0) 0x80) (panel.order (ownAt (r .slots) LCD-DATA % 256) ∷ [])
+    (cond (eqb (bitAnd val 0xF0) 0xA0) (dataSent (has val 0x2000) (ownAt (r .slots) LCD-DATA))
     (cond (eqb (bitAnd val 0xF0) 0xD0) (copySent r ram sram gpio n) []))
 
 -- and to the panel: its control word, stored, acts where bit 0 is set

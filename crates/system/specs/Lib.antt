@@ -10,3 +10,4 @@ pub mod Refusals
 pub mod Lengths
 pub mod Carried
 pub mod Damage
+pub mod Inner

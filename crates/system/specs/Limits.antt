@@ -11,7 +11,7 @@ use Rattle.system.specs.System.{Machine}
 
 -- the keys, and the presses that wait for them
 abbrev pub buttonsIn : System → Buttons
-buttonsIn s = buttons (s .presses .times) (s .presses .codes) (s .keys)
+buttonsIn s = buttons (s .presses .starts) (s .presses .codes) (s .keys)
 
 pub record WithinLimits (m : Machine) : Type 0 where
   -- the table's words stand in falling order, so that none stands twice, and its free places, which hold zeros, last

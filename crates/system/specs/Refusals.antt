@@ -8,7 +8,8 @@ use lib.Dec.{eqb, leb}
 use lib.ListN.{length}
 use lib.Ieee.{Float, binary64, ofBits, lt}
 use Rattle.whole.specs.Limits.{goodTime, goodTurbo}
-use Rattle.map.specs.Numbers.{SOUND-CONTROL, SOUND-RELOAD, SOUND-COMPARE}
+use Rattle.map.specs.Numbers.{SOUND-CONTROL, SOUND-RELOAD, SOUND-COMPARE, BAD-TIME, BAD-TURBO, KEYS-FULL}
+use Rattle.map.specs.Numbers.{REGISTERS-FULL, SOUND-FULL, STRAY-WRITE, BAD-KEY, BAD-SIZE, NO-EVENT, NO-NEXT-TIME}
 use Rattle.registers.specs.declared.Registers.{Registers}
 use Rattle.registers.specs.Words.{unstored, ownAt, wordAt}
 use Rattle.registers.specs.Ports.{slotOf}
@@ -100,20 +101,20 @@ storedOf word new = cond (eqb word SOUND-CONTROL) (bitAnd new 0xFFFF7FFF) new
 
 -- what word w then holds
 abbrev pub thenAt : List ℕ → ℕ → ℕ → ℕ → ℕ
-thenAt own word new w = cond (eqb word w) (storedOf word new) (ownAt own w)
+thenAt slots word new w = cond (eqb word w) (storedOf word new) (ownAt slots w)
 
 abbrev pub toneThen : List ℕ → ℕ → ℕ → ℕ → Tone
-toneThen own clock word new = toneOf clock (thenAt own word new SOUND-CONTROL) (thenAt own word new SOUND-RELOAD)
-    (thenAt own word new SOUND-COMPARE)
+toneThen slots clock word new = toneOf clock (thenAt slots word new SOUND-CONTROL) (thenAt slots word new SOUND-RELOAD)
+    (thenAt slots word new SOUND-COMPARE)
 
 -- a write adds an event where the tone that timer 4's words then give is another
 unfoldable pub addsEvent : List ℕ → Tone → ℕ → ℕ → ℕ → Bool
-addsEvent own tone clock word new = soundWord word && differOf (toneThen own clock word new) tone
+addsEvent slots tone clock word new = soundWord word && differOf (toneThen slots clock word new) tone
 
 -- 5: a write would add an event while 256 wait
 abbrev pub soundFull : System → List ℕ → ℕ → ℕ → ℕ → Bool
 soundFull s sram a n v =
-    isRegister (placeOf a) && addsEvent (s .registers .own) (s .devices .tone) (clockIn sram) (wordAddress a)
+    isRegister (placeOf a) && addsEvent (s .registers .slots) (s .devices .tone) (clockIn sram) (wordAddress a)
     (newWord (s .registers) a n v)
     && eqb (length (waiting (s .queue))) 256
 
@@ -121,7 +122,7 @@ soundFull s sram a n v =
 
 -- 3: 64 presses have time + 0.15 > now
 abbrev pub keysFull : System → Bool
-keysFull s = eqb (waitingIn (s .presses .times) (s .devices .clocks .times .now) (placesOf (s .keys .count))) 64
+keysFull s = eqb (waitingIn (s .presses .starts) (s .devices .clocks .times .now) (placesOf (s .keys .count))) 64
 
 -- 12: no sound event waits
 abbrev pub noEvent : Queue → Bool
@@ -129,7 +130,7 @@ noEvent q = eqb (length (waiting q)) 0
 
 -- 13: the next event time is not finite
 abbrev pub noNextTime : System → List ℕ → Bool
-noNextTime s sram = not (finite (eventOf (s .registers .own) (s .presses .times) (s .devices .clocks) (s .keys)
+noNextTime s sram = not (finite (eventOf (s .registers .slots) (s .presses .starts) (s .devices .clocks) (s .keys)
     (clockIn sram)))
 
 -- ---- which refusals an operation can be given, and the order
@@ -142,21 +143,25 @@ abbrev pub reason : ℕ → Bool → Reason
 reason n b = record { number = n; holds = b }
 
 abbrev pub reasonsOf : Machine → Op → List Reason
-reasonsOf m (read a n) = reason 9 (badSize n) ∷ []
+reasonsOf m (read a n) = reason BAD-SIZE (badSize n) ∷ []
 reasonsOf m (write a n v) =
-    reason 9 (badSize n)
-    ∷ reason 6 (strayWrite a)
-    ∷ reason 4 (registersFull (m .system .registers) a n v)
-    ∷ reason 5 (soundFull (m .system) (m .sram) a n v)
+    reason BAD-SIZE (badSize n)
+    ∷ reason STRAY-WRITE (strayWrite a)
+    ∷ reason REGISTERS-FULL (registersFull (m .system .registers) a n v)
+    ∷ reason SOUND-FULL (soundFull (m .system) (m .sram) a n v)
     ∷ []
-reasonsOf m (advance t) = reason 1 (badAdvance (m .system .devices .clocks .times) t) ∷ []
-reasonsOf m nextEvent = reason 13 (noNextTime (m .system) (m .sram)) ∷ []
+reasonsOf m (advance t) = reason BAD-TIME (badAdvance (m .system .devices .clocks .times) t) ∷ []
+reasonsOf m nextEvent = reason NO-NEXT-TIME (noNextTime (m .system) (m .sram)) ∷ []
 reasonsOf m pending = []
-reasonsOf m (turbo t) = reason 2 (badTurbo t) ∷ []
-reasonsOf m (live k down) = reason 8 (badKey k) ∷ []
-reasonsOf m (hold k t) = reason 8 (badKey k) ∷ reason 1 (badTime t) ∷ []
-reasonsOf m (press k t) = reason 8 (badKey k) ∷ reason 1 (badTime t) ∷ reason 3 (keysFull (m .system)) ∷ []
-reasonsOf m takeEvent = reason 12 (noEvent (m .system .queue)) ∷ []
+reasonsOf m (turbo t) = reason BAD-TURBO (badTurbo t) ∷ []
+reasonsOf m (live k down) = reason BAD-KEY (badKey k) ∷ []
+reasonsOf m (hold k t) = reason BAD-KEY (badKey k) ∷ reason BAD-TIME (badTime t) ∷ []
+reasonsOf m (press k t) =
+    reason BAD-KEY (badKey k)
+    ∷ reason BAD-TIME (badTime t)
+    ∷ reason KEYS-FULL (keysFull (m .system))
+    ∷ []
+reasonsOf m takeEvent = reason NO-EVENT (noEvent (m .system .queue)) ∷ []
 reasonsOf m counters = []
 reasonsOf m (pixel k) = []
 reasonsOf m wipe = []
@@ -168,7 +173,18 @@ reasonsOf m irqWanted = []
 
 -- Order: 9, 8, 1, 2, 6, 4, 5, 3; the last two come alone
 unfoldable pub order : List ℕ
-order = 9 ∷ 8 ∷ 1 ∷ 2 ∷ 6 ∷ 4 ∷ 5 ∷ 3 ∷ 12 ∷ 13 ∷ []
+order =
+    BAD-SIZE
+    ∷ BAD-KEY
+    ∷ BAD-TIME
+    ∷ BAD-TURBO
+    ∷ STRAY-WRITE
+    ∷ REGISTERS-FULL
+    ∷ SOUND-FULL
+    ∷ KEYS-FULL
+    ∷ NO-EVENT
+    ∷ NO-NEXT-TIME
+    ∷ []
 
 -- whether the reason of a number is there and holds
 unfoldable pub given : List Reason → ℕ → Bool

@@ -11,7 +11,7 @@ use Rattle.panel.specs.declared.Colours.{Colours}
 use Rattle.panel.specs.Colour.{pixelAt}
 use Rattle.keys.specs.declared.Held.{Held}
 use Rattle.time.specs.declared.NextTime.{NextTime}
-use Rattle.bus.specs.Block.{Plain, plain, peekOf, peeked32, laidOf}
+use Rattle.block.specs.Block.{Plain, plain, peekOf, peeked32, laidOf}
 use Rattle.system.specs.declared.System.{System}
 use Rattle.system.specs.declared.Changed.{Changed}
 use Rattle.system.specs.declared.Read.{Read}

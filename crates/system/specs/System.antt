@@ -49,11 +49,11 @@ abbrev pub systemOf : Registers → List ℕ → List ℕ → Devices → Queue 
 systemOf r c p d q x k = record { registers = r; rtc = c; page = p; devices = d; queue = q; presses = x; keys = k }
 
 abbrev pub presses : List Float → List ℕ → Presses
-presses t c = record { times = t; codes = c }
+presses t c = record { starts = t; codes = c }
 
-abbrev pub withOwn : System → List ℕ → System
-withOwn s own =
-    systemOf (registersOf own (s .registers .addresses) (s .registers .values)) (s .rtc) (s .page) (s .devices)
+abbrev pub withSlots : System → List ℕ → System
+withSlots s slots =
+    systemOf (registersOf slots (s .registers .addresses) (s .registers .values)) (s .rtc) (s .page) (s .devices)
     (s .queue) (s .presses) (s .keys)
 
 abbrev pub withClocks : System → Clocks → System
@@ -91,4 +91,4 @@ freshDevices = devicesOf (madeIn Rust .chip) freshPanel freshClocks (freshRtc .l
 unfoldable pub freshSystem : System
 freshSystem =
     systemOf freshRegisters (freshRtc .regs) (madeIn Rust .page) freshDevices emptyQueue
-    (presses (freshButtons .times) (freshButtons .codes)) (freshButtons .keys)
+    (presses (freshButtons .starts) (freshButtons .codes)) (freshButtons .keys)

@@ -5,7 +5,7 @@ use Rattle.whole.specs.Table.{Example}
 use Rattle.map.specs.Numbers.{LCD-STATUS}
 use Rattle.registers.specs.Words.{ownWith, wordAt}
 use Rattle.bus.specs.Write.{wordAddress}
-use Rattle.system.specs.System.{Machine, machine, withOwn, freshSystem}
+use Rattle.system.specs.System.{Machine, machine, withSlots, freshSystem}
 use Rattle.system.specs.Steps.{step, write}
 
 -- no memory is written in these examples, so none is lent
@@ -14,7 +14,7 @@ fresh = machine freshSystem [] [] [] []
 
 -- and with a word that holds something
 abbrev pub holding : ℕ → ℕ → Machine
-holding word v = machine (withOwn freshSystem (ownWith (freshSystem .registers .own) word v)) [] [] [] []
+holding word v = machine (withSlots freshSystem (ownWith (freshSystem .registers .slots) word v)) [] [] [] []
 
 -- the word that an address lies in, once v is written there
 abbrev pub written : Machine → ℕ → ℕ → ℕ → ℕ

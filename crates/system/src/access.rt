@@ -6,7 +6,7 @@ use crate::Changed;
 use crate::Read;
 use crate::System;
 use crate::parts::parts_of;
-use crate::parts::with_own;
+use crate::parts::with_slots;
 use registers::Registers;
 use state::CELLS;
 use state::FLOATS;
@@ -16,14 +16,14 @@ pub fn read(s: System, ram: &[u8], sram: &[u8], gpio: &[u8], addr: u32, size: u3
     ensures { λ r. ⌜ r ≡ readOf s (now (ram .entry)) (now (sram .entry)) (now (gpio .entry)) addr size ⌝ }
 {
     let registers = s.registers;
-    let mut own = registers.own;
+    let mut slots = registers.slots;
     let addresses = registers.addresses;
     let values = registers.values;
     let mut cells = [0; CELLS];
     let mut floats = [0.0; FLOATS];
     state::wholes::put_parts(&mut cells, &mut floats, parts_of(s));
     let got = bus::read::read(
-        &mut own,
+        &mut slots,
         &addresses,
         &values,
         &cells,
@@ -34,7 +34,7 @@ pub fn read(s: System, ram: &[u8], sram: &[u8], gpio: &[u8], addr: u32, size: u3
         addr,
         size,
     );
-    let system = with_own(s, own);
+    let system = with_slots(s, slots);
     Read {
         refusal: got.refusal,
         value: got.value,
@@ -58,25 +58,25 @@ pub fn write(
         value ⌝ }
 {
     let registers = s.registers;
-    let mut own = registers.own;
+    let mut slots = registers.slots;
     let mut addresses = registers.addresses;
     let mut values = registers.values;
     let mut rtc = s.rtc;
     let mut page = s.page;
     let queue = s.queue;
-    let mut times = queue.times;
+    let mut onsets = queue.onsets;
     let mut frequencies = queue.frequencies;
     let mut duties = queue.duties;
     let mut cells = [0; CELLS];
     let mut floats = [0.0; FLOATS];
     state::wholes::put_parts(&mut cells, &mut floats, parts_of(s));
-    let told = bus::write::write(
-        &mut own,
+    let answer = bus::write::write(
+        &mut slots,
         &mut addresses,
         &mut values,
         &mut rtc,
         &mut page,
-        &mut times,
+        &mut onsets,
         &mut frequencies,
         &mut duties,
         &mut cells,
@@ -95,10 +95,10 @@ pub fn write(
     let keys = parts.keys;
     let presses = s.presses;
     Changed {
-        refusal: told.refusal,
+        refusal: answer.refusal,
         system: System {
             registers: Registers {
-                own,
+                slots,
                 addresses,
                 values,
             },
@@ -106,7 +106,7 @@ pub fn write(
             page,
             devices,
             queue: Queue {
-                times,
+                onsets,
                 frequencies,
                 duties,
                 ring,

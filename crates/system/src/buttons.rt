@@ -36,14 +36,14 @@ pub fn press(s: System, key: u32, at: f64) -> Changed
     ensures { λ r. ⌜ r ≡ pressOf s key at ⌝ }
 {
     let presses = s.presses;
-    let mut times = presses.times;
+    let mut starts = presses.starts;
     let mut codes = presses.codes;
     let mut cells = [0; CELLS];
     let mut floats = [0.0; FLOATS];
     state::wholes::put_parts(&mut cells, &mut floats, parts_of(s));
-    let refusal = time::buttons::press(&mut times, &mut codes, &mut cells, &floats, key, at);
+    let refusal = time::buttons::press(&mut starts, &mut codes, &mut cells, &floats, key, at);
     let mut system = with_parts(s, state::wholes::parts_of(&cells, &floats));
-    let later = Presses { times, codes };
+    let later = Presses { starts, codes };
     system.presses = later;
     Changed { refusal, system }
 }
@@ -52,10 +52,10 @@ pub fn keys_held(s: System) -> Held
     ensures { λ r. ⌜ r ≡ heldOf s ⌝ }
 {
     let presses = s.presses;
-    let times = presses.times;
+    let starts = presses.starts;
     let codes = presses.codes;
     let devices = s.devices;
     let clocks = devices.clocks;
     let moment = clocks.times;
-    keys::live::keys_held(&times, &codes, s.keys, moment.now)
+    keys::live::keys_held(&starts, &codes, s.keys, moment.now)
 }

@@ -16,9 +16,9 @@ use state::Devices;
 use timer::Event;
 use timer::Queue;
 
-// Scripted presses: times and keys in 64 places.
+// Scripted presses: when each starts and its key, in 64 places.
 pub struct Presses {
-    pub times: [f64; 64],
+    pub starts: [f64; 64],
     pub codes: [u8; 64],
 }
 

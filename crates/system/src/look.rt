@@ -1,7 +1,7 @@
 // What can be seen without a change: counters, and bytes of the bus.
 ghost use mathlib.Core.Path.{_≡_};
 ghost use lib.ListN.{length};
-ghost use Rattle.bus.specs.Block.{block, readOf, peekOf, peeked32};
+ghost use Rattle.block.specs.Block.{block, readOf, peekOf, peeked32};
 ghost use Rattle.system.specs.Calls.{countersOf};
 use crate::Counters;
 use crate::System;
@@ -24,20 +24,20 @@ pub fn peek8(s: System, ram: &[u8], sram: &[u8], gpio: &[u8], addr: u32) -> u8
     ensures { λ r. ⌜ r ≡ peekOf (s .registers) (now (ram .entry)) (now (sram .entry)) (now (gpio .entry)) addr ⌝ }
 {
     let registers = s.registers;
-    let own = registers.own;
+    let slots = registers.slots;
     let addresses = registers.addresses;
     let values = registers.values;
-    bus::block::peek8(&own, &addresses, &values, ram, sram, gpio, addr)
+    block::peek8(&slots, &addresses, &values, ram, sram, gpio, addr)
 }
 
 pub fn peek32(s: System, ram: &[u8], sram: &[u8], gpio: &[u8], addr: u32) -> u32
     ensures { λ r. ⌜ r ≡ peeked32 (s .registers) (now (ram .entry)) (now (sram .entry)) (now (gpio .entry)) addr ⌝ }
 {
     let registers = s.registers;
-    let own = registers.own;
+    let slots = registers.slots;
     let addresses = registers.addresses;
     let values = registers.values;
-    bus::block::peek32(&own, &addresses, &values, ram, sram, gpio, addr)
+    block::peek32(&slots, &addresses, &values, ram, sram, gpio, addr)
 }
 
 pub fn read_block(
@@ -52,8 +52,8 @@ pub fn read_block(
         (now (gpio .entry)) addr (length (now (buf .entry))) ⌝ }
 {
     let registers = s.registers;
-    let own = registers.own;
+    let slots = registers.slots;
     let addresses = registers.addresses;
     let values = registers.values;
-    bus::block::read_block(&own, &addresses, &values, ram, sram, gpio, addr, buf)
+    block::read_block(&slots, &addresses, &values, ram, sram, gpio, addr, buf)
 }

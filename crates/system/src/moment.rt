@@ -5,8 +5,8 @@ use crate::Changed;
 use crate::System;
 use crate::Taken;
 use crate::parts::parts_of;
-use crate::parts::with_own;
 use crate::parts::with_parts;
+use crate::parts::with_slots;
 use state::CELLS;
 use state::FLOATS;
 use time::NextTime;
@@ -16,24 +16,27 @@ pub fn advance(s: System, sram: &[u8], gpio: &mut [u8], to: f64) -> Changed
     ensures { λ r. ⌜ moved r (now (gpio .exit)) ≡ advanceOf s (now (sram .entry)) (now (gpio .entry)) to ⌝ }
 {
     let registers = s.registers;
-    let mut own = registers.own;
+    let mut slots = registers.slots;
     let presses = s.presses;
-    let times = presses.times;
+    let starts = presses.starts;
     let codes = presses.codes;
     let mut cells = [0; CELLS];
     let mut floats = [0.0; FLOATS];
     state::wholes::put_parts(&mut cells, &mut floats, parts_of(s));
     let refusal = time::advancing::advance(
-        &mut own,
+        &mut slots,
         &mut cells,
         &mut floats,
         sram,
         gpio,
-        &times,
+        &starts,
         &codes,
         to,
     );
-    let system = with_parts(with_own(s, own), state::wholes::parts_of(&cells, &floats));
+    let system = with_parts(
+        with_slots(s, slots),
+        state::wholes::parts_of(&cells, &floats),
+    );
     Changed { refusal, system }
 }
 
@@ -41,13 +44,13 @@ pub fn next_event(s: System, sram: &[u8]) -> NextTime
     ensures { λ r. ⌜ r ≡ nextOf s (now (sram .entry)) ⌝ }
 {
     let registers = s.registers;
-    let own = registers.own;
+    let slots = registers.slots;
     let presses = s.presses;
-    let times = presses.times;
+    let starts = presses.starts;
     let mut cells = [0; CELLS];
     let mut floats = [0.0; FLOATS];
     state::wholes::put_parts(&mut cells, &mut floats, parts_of(s));
-    time::next::next_event(&own, &cells, &floats, sram, &times)
+    time::next::next_event(&slots, &cells, &floats, sram, &starts)
 }
 
 pub fn set_turbo(s: System, to: f64) -> Changed
@@ -65,22 +68,22 @@ pub fn pending_irq(s: System) -> u32
     ensures { λ r. ⌜ r ≡ pendingOf s ⌝ }
 {
     let registers = s.registers;
-    let own = registers.own;
+    let slots = registers.slots;
     let mut cells = [0; CELLS];
     let mut floats = [0.0; FLOATS];
     state::wholes::put_parts(&mut cells, &mut floats, parts_of(s));
-    time::irq::pending_irq(&own, &cells)
+    time::irq::pending_irq(&slots, &cells)
 }
 
 pub fn irq_wanted(s: System) -> bool
     ensures { λ r. ⌜ r ≡ wantedOf s ⌝ }
 {
     let registers = s.registers;
-    let own = registers.own;
+    let slots = registers.slots;
     let mut cells = [0; CELLS];
     let mut floats = [0.0; FLOATS];
     state::wholes::put_parts(&mut cells, &mut floats, parts_of(s));
-    time::irq::irq_wanted(&own, &cells)
+    time::irq::irq_wanted(&slots, &cells)
 }
 
 // The oldest sound event.
@@ -88,18 +91,18 @@ pub fn take_event(s: System) -> Taken
     ensures { λ r. ⌜ r ≡ takeOf s ⌝ }
 {
     let before = s.queue;
-    let mut times = before.times;
+    let mut onsets = before.onsets;
     let mut frequencies = before.frequencies;
     let mut duties = before.duties;
     let mut cells = [0; CELLS];
     let mut floats = [0.0; FLOATS];
     state::wholes::put_parts(&mut cells, &mut floats, parts_of(s));
-    let waited = time::tones::take_event(&mut times, &mut frequencies, &mut duties, &mut cells);
+    let waited = time::tones::take_event(&mut onsets, &mut frequencies, &mut duties, &mut cells);
     let event = waited.event;
     let parts = state::wholes::parts_of(&cells, &floats);
     let ring = parts.ring;
     let queue = Queue {
-        times,
+        onsets,
         frequencies,
         duties,
         ring,

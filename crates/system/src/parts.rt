@@ -1,15 +1,15 @@
 // The state with a part replaced, and the bank's part of it.
 ghost use mathlib.Core.Path.{_≡_};
-ghost use Rattle.system.specs.System.{withOwn};
-ghost use Rattle.system.specs.Bank.{partsOf, withParts};
+ghost use Rattle.system.specs.System.{withSlots};
+ghost use Rattle.system.specs.Inner.{partsOf, withParts};
 use crate::System;
 use state::Parts;
 
-pub(crate) fn with_own(s: System, own: [u32; 76]) -> System
-    ensures { λ r. ⌜ r ≡ withOwn s own ⌝ }
+pub(crate) fn with_slots(s: System, slots: [u32; 76]) -> System
+    ensures { λ r. ⌜ r ≡ withSlots s slots ⌝ }
 {
     let mut registers = s.registers;
-    registers.own = own;
+    registers.slots = slots;
     let mut next = s;
     next.registers = registers;
     next

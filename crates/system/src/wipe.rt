@@ -66,45 +66,45 @@ fn fresh_parts() -> Parts
 
 // The fresh state over lent arrays. Every word is set, whatever stood there.
 pub fn reset(
-    own: &mut [u32; 76],
+    slots: &mut [u32; 76],
     addresses: &mut [u32; 256],
     values: &mut [u32; 256],
     rtc: &mut [u8; 256],
     page: &mut [u8; 256],
-    at: &mut [f64; 256],
+    onsets: &mut [f64; 256],
     frequencies: &mut [f64; 256],
     duties: &mut [f64; 256],
-    times: &mut [f64; 64],
+    starts: &mut [f64; 64],
     codes: &mut [u8; 64],
     cells: &mut Cells,
     floats: &mut Floats,
 )
-    ensures { λ _. ⌜ (stateIn (now (own .exit)) (now (addresses .exit)) (now (values .exit)) (now (rtc .exit))
-        (now (page .exit)) (now (at .exit)) (now (frequencies .exit)) (now (duties .exit)) (now (times .exit))
+    ensures { λ _. ⌜ (stateIn (now (slots .exit)) (now (addresses .exit)) (now (values .exit)) (now (rtc .exit))
+        (now (page .exit)) (now (onsets .exit)) (now (frequencies .exit)) (now (duties .exit)) (now (starts .exit))
         (now (codes .exit)) (partsIn (now (cells .exit)) (now (floats .exit)))
         ≡ freshSystem) × (now (cells .exit) ≡ cellsOf freshParts) × (now (floats .exit) ≡ floatsOf freshParts) ⌝ }
 {
-    registers::clear(own, addresses, values);
+    registers::clear(slots, addresses, values);
     let chip = clock::chip::fresh();
     let regs = chip.regs;
     *rtc = regs;
     flash::made(Mode::Rust, page);
-    timer::events::empty_in(at, frequencies, duties);
-    keys::clear(times, codes);
+    timer::events::empty_in(onsets, frequencies, duties);
+    keys::clear(starts, codes);
     state::wholes::put_parts(cells, floats, fresh_parts());
 }
 
 // The fresh state, and the memories zero, over lent arrays.
 pub fn wipe_all(
-    own: &mut [u32; 76],
+    slots: &mut [u32; 76],
     addresses: &mut [u32; 256],
     values: &mut [u32; 256],
     rtc: &mut [u8; 256],
     page: &mut [u8; 256],
-    at: &mut [f64; 256],
+    onsets: &mut [f64; 256],
     frequencies: &mut [f64; 256],
     duties: &mut [f64; 256],
-    times: &mut [f64; 64],
+    starts: &mut [f64; 64],
     codes: &mut [u8; 64],
     cells: &mut Cells,
     floats: &mut Floats,
@@ -113,8 +113,8 @@ pub fn wipe_all(
     gpio: &mut [u8],
     fb: &mut [u8],
 )
-    ensures { λ _. ⌜ (machineOf (now (own .exit)) (now (addresses .exit)) (now (values .exit)) (now (rtc .exit))
-        (now (page .exit)) (now (at .exit)) (now (frequencies .exit)) (now (duties .exit)) (now (times .exit))
+    ensures { λ _. ⌜ (machineOf (now (slots .exit)) (now (addresses .exit)) (now (values .exit)) (now (rtc .exit))
+        (now (page .exit)) (now (onsets .exit)) (now (frequencies .exit)) (now (duties .exit)) (now (starts .exit))
         (now (codes .exit)) (partsIn (now (cells .exit)) (now (floats .exit))) (now (ram .exit)) (now (sram .exit))
         (now (gpio .exit)) (now (fb .exit))
         ≡ wipedOf (length (now (ram .entry))) (length (now (sram .entry))) (length (now (gpio .entry)))
@@ -126,15 +126,15 @@ pub fn wipe_all(
     clear(gpio);
     clear(fb);
     reset(
-        own,
+        slots,
         addresses,
         values,
         rtc,
         page,
-        at,
+        onsets,
         frequencies,
         duties,
-        times,
+        starts,
         codes,
         cells,
         floats,
@@ -145,28 +145,28 @@ pub fn wipe_all(
 pub fn fresh() -> System
     ensures { λ r. ⌜ r ≡ freshSystem ⌝ }
 {
-    let mut own = [0; 76];
+    let mut slots = [0; 76];
     let mut addresses = [0; 256];
     let mut values = [0; 256];
     let mut rtc = [0; 256];
     let mut page = [0; 256];
-    let mut at = [0.0; 256];
+    let mut onsets = [0.0; 256];
     let mut frequencies = [0.0; 256];
     let mut duties = [0.0; 256];
-    let mut times = [0.0; 64];
+    let mut starts = [0.0; 64];
     let mut codes = [0; 64];
     let mut cells = [0; CELLS];
     let mut floats = [0.0; FLOATS];
     reset(
-        &mut own,
+        &mut slots,
         &mut addresses,
         &mut values,
         &mut rtc,
         &mut page,
-        &mut at,
+        &mut onsets,
         &mut frequencies,
         &mut duties,
-        &mut times,
+        &mut starts,
         &mut codes,
         &mut cells,
         &mut floats,
@@ -177,7 +177,7 @@ pub fn fresh() -> System
     let keys = parts.keys;
     System {
         registers: Registers {
-            own,
+            slots,
             addresses,
             values,
         },
@@ -185,12 +185,12 @@ pub fn fresh() -> System
         page,
         devices,
         queue: Queue {
-            times: at,
+            onsets,
             frequencies,
             duties,
             ring,
         },
-        presses: Presses { times, codes },
+        presses: Presses { starts, codes },
         keys,
     }
 }

@@ -17,34 +17,34 @@ use Rattle.time.specs.Next.{timerNext, runs, pends, anyPends, withTimer,
 use Rattle.time.specs.Next.{finite, answered}
 
 -- ---- the next event
-module _ (own : List ℕ) (n : ℕ) (t : Timer) (clock : ℕ) (so : Float) (control : ℕ) (b : Bool)
-    (h : control ≡ controlWord own n) (e : b ≡ runs control) where
-  pub timer-runs : {u : Timer} {reload : ℕ} {next r : Float} → b ≡ true → reload ≡ reloadWord own n → u ≡ t
-      → next ≡ timerNext u clock control reload → r ≡ minOf so next → r ≡ withTimer own n t clock so
+module _ (slots : List ℕ) (n : ℕ) (t : Timer) (clock : ℕ) (so : Float) (control : ℕ) (b : Bool)
+    (h : control ≡ controlWord slots n) (e : b ≡ runs control) where
+  pub timer-runs : {u : Timer} {reload : ℕ} {next r : Float} → b ≡ true → reload ≡ reloadWord slots n → u ≡ t
+      → next ≡ timerNext u clock control reload → r ≡ minOf so next → r ≡ withTimer slots n t clock so
   unfolding withTimer
   timer-runs y k u f g = rw (← h, ← e, y, ← k, ← u, ← f) g
 
-  pub timer-stands : b ≡ false → so ≡ withTimer own n t clock so
+  pub timer-stands : b ≡ false → so ≡ withTimer slots n t clock so
   unfolding withTimer
   timer-stands y = rw (← h, ← e, y)
 
-pub timers-ahead : (own : List ℕ) (ts : List Timer) (clock : ℕ) (so a b c d e f : Float)
-    → a ≡ withTimer own 0 (getD ts 0 none) clock so
-    → b ≡ withTimer own 1 (getD ts 1 none) clock a → c ≡ withTimer own 2 (getD ts 2 none) clock b
-    → d ≡ withTimer own 3 (getD ts 3 none) clock c
-    → e ≡ withTimer own 4 (getD ts 4 none) clock d → f ≡ withTimer own 5 (getD ts 5 none) clock e
-    → f ≡ withTimers own ts clock so
+pub timers-ahead : (slots : List ℕ) (ts : List Timer) (clock : ℕ) (so a b c d e f : Float)
+    → a ≡ withTimer slots 0 (getD ts 0 none) clock so
+    → b ≡ withTimer slots 1 (getD ts 1 none) clock a → c ≡ withTimer slots 2 (getD ts 2 none) clock b
+    → d ≡ withTimer slots 3 (getD ts 3 none) clock c
+    → e ≡ withTimer slots 4 (getD ts 4 none) clock d → f ≡ withTimer slots 5 (getD ts 5 none) clock e
+    → f ≡ withTimers slots ts clock so
 unfolding withTimers
-timers-ahead own ts clock so a b c d e f g h i j k l = rw (← g, ← h, ← i, ← j, ← k) l
+timers-ahead slots ts clock so a b c d e f g h i j k l = rw (← g, ← h, ← i, ← j, ← k) l
 
 none-of : (x y : Bool) → (x || y) ≡ false → (x ≡ false) × (y ≡ false)
 none-of true y h = absurd (true≢false h)
 none-of false y h = (refl, h)
 
 -- where no timer is pending, none runs and is pending
-pub none-pends : (own : List ℕ) (ts : List Timer) → timerLine ts ≡ false → anyPends own ts ≡ false
+pub none-pends : (slots : List ℕ) (ts : List Timer) → timerLine ts ≡ false → anyPends slots ts ≡ false
 unfolding timerLine anyPends pends
-none-pends own ts h =
+none-pends slots ts h =
     let a = none-of (pendingAt ts 0) _ h in
     let b = none-of (pendingAt ts 1) _ (a .1) in
     let c = none-of (pendingAt ts 2) _ (b .1) in
@@ -52,18 +52,18 @@ none-pends own ts h =
     let e = none-of (pendingAt ts 4) _ (d .1) in
     simp (a .0, b .0, c .0, d .0, e .0, e .1, and-false)
 
-module _ (own : List ℕ) (times : List Float) (c : Clocks) (k : Keys) (clock : ℕ) {on wanted : Bool}
-    (f : on ≡ c .converting) (w : wanted ≡ wantedOf own (c .timers)) where
-  pub event-wanted : {t : Times} → t ≡ c .times → (on || wanted) ≡ true → t .now ≡ eventOf own times c k clock
+module _ (slots : List ℕ) (starts : List Float) (c : Clocks) (k : Keys) (clock : ℕ) {on wanted : Bool}
+    (f : on ≡ c .converting) (w : wanted ≡ wantedOf slots (c .timers)) where
+  pub event-wanted : {t : Times} → t ≡ c .times → (on || wanted) ≡ true → t .now ≡ eventOf slots starts c k clock
   unfolding eventOf
   event-wanted e h = let g = rw (f, w) at h in rw (g, e)
 
-  module _ {p : Bool} (h : (on || wanted) ≡ false) (q : p ≡ anyPends own (c .timers)) where
-    pub event-pends : {t : Times} → t ≡ c .times → p ≡ true → t .now ≡ eventOf own times c k clock
+  module _ {p : Bool} (h : (on || wanted) ≡ false) (q : p ≡ anyPends slots (c .timers)) where
+    pub event-pends : {t : Times} → t ≡ c .times → p ≡ true → t .now ≡ eventOf slots starts c k clock
     unfolding eventOf
     event-pends e y = let g = rw (f, w) at h in rw (g, ← q, y, e)
 
-    pub event-ahead : {r : Float} → p ≡ false → r ≡ earliest own times c k clock → r ≡ eventOf own times c k clock
+    pub event-ahead : {r : Float} → p ≡ false → r ≡ earliest slots starts c k clock → r ≡ eventOf slots starts c k clock
     unfolding eventOf
     event-ahead y e = let g = rw (f, w) at h in rw (g, ← q, y) e
 

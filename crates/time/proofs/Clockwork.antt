@@ -37,7 +37,8 @@ use Rattle.state.specs.declared.Parts.{Parts}
 use Rattle.state.specs.Parts.{none, timersPut, timerPut, timesPut, vsyncPut, convertingPut, irqPut, appliedPut}
 use Rattle.state.specs.Parts.{clocksPut}
 use Rattle.state.specs.Bank.{timersIn, partsIn}
-use Rattle.time.specs.Bank.{Went, went, syncedPut, convertedPut, tickedPut, wentOf, MovedBank, movedBank, movesOf}
+use Rattle.time.specs.Bank.{MovedBank, movedBank, movesOf}
+use Rattle.time.specs.Inner.{Went, went, syncedPut, convertedPut, tickedPut, wentOf}
 
 -- ---- where nothing happens the same values would be put back, which changes nothing
 
@@ -46,9 +47,9 @@ put-same [] i d = refl
 put-same (x ∷ xs) zero d = refl
 put-same (x ∷ xs) (suc i) d = ap (λ (z : List _). x ∷ z) (put-same xs i d)
 
-own-same : (own : List ℕ) (a : ℕ) {v : ℕ} → v ≡ ownAt own a → own ≡ ownWith own a v
+own-same : (slots : List ℕ) (a : ℕ) {v : ℕ} → v ≡ ownAt slots a → slots ≡ ownWith slots a v
 unfolding ownAt ownWith
-own-same own a e = sym (ap (λ (z : ℕ). ownWith own a z) e ∙ put-same own (slotOf a) 0)
+own-same slots a e = sym (ap (λ (z : ℕ). ownWith slots a z) e ∙ put-same slots (slotOf a) 0)
 
 -- no more periods than were seen leave the status alone
 signal-still : (n seen status bit : ℕ) {s : Signal} → s ≡ signalOf n seen status bit → s .seen ≡ seen
@@ -66,151 +67,154 @@ signal-still n seen status bit e h =
 
 -- ---- the timers
 
-pub timer-stepped : (own l : List ℕ) (f : List Float) (n : ℕ) (now : Float) (clock : ℕ) {control reload : ℕ}
+pub timer-stepped : (slots l : List ℕ) (f : List Float) (n : ℕ) (now : Float) (clock : ℕ) {control reload : ℕ}
     {t r : Timer} {y : Parts}
-    → control ≡ controlWord own n → reload ≡ reloadWord own n → t ≡ getD (timersIn l f) n none
+    → control ≡ controlWord slots n → reload ≡ reloadWord slots n → t ≡ getD (timersIn l f) n none
     → r ≡ advancedOf t now clock control reload → y ≡ timerPut (partsIn l f) n r
-    → y ≡ timerPut (partsIn l f) n (timerAfter own n (getD (timersIn l f) n none) now clock)
+    → y ≡ timerPut (partsIn l f) n (timerAfter slots n (getD (timersIn l f) n none) now clock)
 unfolding timerAfter
-timer-stepped own l f n now clock c d e h i = rw (i, h, e, c, d)
+timer-stepped slots l f n now clock c d e h i = rw (i, h, e, c, d)
 
 -- a timer that does not run
-pub timer-stays : (own l : List ℕ) (f : List Float) (n : ℕ) (now : Float) (clock : ℕ) {control : ℕ}
-    → control ≡ controlWord own n → bitAnd control 0x2000 ≡ 0
-    → partsIn l f ≡ timerPut (partsIn l f) n (timerAfter own n (getD (timersIn l f) n none) now clock)
+pub timer-stays : (slots l : List ℕ) (f : List Float) (n : ℕ) (now : Float) (clock : ℕ) {control : ℕ}
+    → control ≡ controlWord slots n → bitAnd control 0x2000 ≡ 0
+    → partsIn l f ≡ timerPut (partsIn l f) n (timerAfter slots n (getD (timersIn l f) n none) now clock)
 unfolding advancedOf
-timer-stays own l f n now clock {control} c h =
+timer-stays slots l f n now clock {control} c h =
     let t : Timer = getD (timersIn l f) n none in
-    timer-stepped own l f n now clock {reload = reloadWord own n} {t = t} {r = t} c refl refl (rw (eq-eqb _ _ h))
+    timer-stepped slots l f n now clock {reload = reloadWord slots n} {t = t} {r = t} c refl refl (rw (eq-eqb _ _ h))
     (ap (λ (z : List Timer). timersPut (partsIn l f) z) (sym (put-same (timersIn l f) n none)))
 
 abbrev stepped : List ℕ → Float → ℕ → Parts → ℕ → Parts
-stepped own now clock x n = timerPut x n (timerAfter own n (getD (x .devices .clocks .timers) n none) now clock)
+stepped slots now clock x n = timerPut x n (timerAfter slots n (getD (x .devices .clocks .timers) n none) now clock)
 
-pub timers-stepped : (own l : List ℕ) (f : List Float) (now : Float) (clock : ℕ) {a b c d e g : Parts}
-    → a ≡ stepped own now clock (partsIn l f) 0 → b ≡ stepped own now clock a 1
-    → c ≡ stepped own now clock b 2 → d ≡ stepped own now clock c 3 → e ≡ stepped own now clock d 4
-    → g ≡ stepped own now clock e 5
-    → g ≡ timersPut (partsIn l f) (timersAfter own (timersIn l f) now clock)
+pub timers-stepped : (slots l : List ℕ) (f : List Float) (now : Float) (clock : ℕ) {a b c d e g : Parts}
+    → a ≡ stepped slots now clock (partsIn l f) 0 → b ≡ stepped slots now clock a 1
+    → c ≡ stepped slots now clock b 2 → d ≡ stepped slots now clock c 3 → e ≡ stepped slots now clock d 4
+    → g ≡ stepped slots now clock e 5
+    → g ≡ timersPut (partsIn l f) (timersAfter slots (timersIn l f) now clock)
 unfolding timersAfter
-timers-stepped own l f now clock h i j k m n = rw (n, m, k, j, i, h)
+timers-stepped slots l f now clock h i j k m n = rw (n, m, k, j, i, h)
 
-module _ (own : List ℕ) (x : Parts) where
+module _ (slots : List ℕ) (x : Parts) where
   pub vsync-went : (now : Float) {status last : ℕ} {s : Signal} {o : List ℕ} {y : Parts}
-      → status ≡ ownAt own LCD-STATUS → last ≡ x .devices .clocks .vsync → s ≡ vsyncOf last now status
-      → o ≡ ownWith own LCD-STATUS (s .status) → y ≡ vsyncPut x (s .seen)
-      → went o y ≡ syncedPut x (syncedOf own (x .devices .clocks .vsync) now)
+      → status ≡ ownAt slots LCD-STATUS → last ≡ x .devices .clocks .vsync → s ≡ vsyncOf last now status
+      → o ≡ ownWith slots LCD-STATUS (s .status) → y ≡ vsyncPut x (s .seen)
+      → went o y ≡ syncedPut x (syncedOf slots (x .devices .clocks .vsync) now)
   unfolding syncedOf
   vsync-went now a b e h i = rw (h, i, e, b, a)
 
   pub adc-went : {control result : ℕ} {on : Bool} {adc : Adc} {mid o : List ℕ} {y : Parts}
-      → control ≡ ownAt own ADC-CONTROL → result ≡ ownAt own ADC-RESULT
+      → control ≡ ownAt slots ADC-CONTROL → result ≡ ownAt slots ADC-RESULT
       → on ≡ x .devices .clocks .converting
       → adc ≡ convertedOf (record { converting = on; control = control; result = result })
-      → mid ≡ ownWith own ADC-RESULT (adc .result)
+      → mid ≡ ownWith slots ADC-RESULT (adc .result)
       → o ≡ ownWith mid ADC-CONTROL (adc .control) → y ≡ convertingPut x (adc .converting)
-      → went o y ≡ convertedPut x (convertedIn own (x .devices .clocks .converting))
+      → went o y ≡ convertedPut x (convertedIn slots (x .devices .clocks .converting))
   unfolding convertedIn
   adc-went a b c e h i j = rw (i, h, j, e, c, a, b)
 
   pub irq-went : (game : Float) {status : ℕ} {irq : RtcIrq} {t : Ticked} {o : List ℕ} {y : Parts}
-      → status ≡ ownAt own RTC-IRQ-STATUS → irq ≡ x .devices .clocks .irq → t ≡ tickedOf irq game status
-      → o ≡ ownWith own RTC-IRQ-STATUS (t .status) → y ≡ irqPut x (t .irq)
-      → went o y ≡ tickedPut x (tickedIn own (x .devices .clocks .irq) game)
+      → status ≡ ownAt slots RTC-IRQ-STATUS → irq ≡ x .devices .clocks .irq → t ≡ tickedOf irq game status
+      → o ≡ ownWith slots RTC-IRQ-STATUS (t .status) → y ≡ irqPut x (t .irq)
+      → went o y ≡ tickedPut x (tickedIn slots (x .devices .clocks .irq) game)
   unfolding tickedIn
   irq-went game a b e h i = rw (h, i, e, b, a)
 
   -- no period has passed
-  pub vsync-stays : (now : Float) {status last : ℕ} {s : Signal} → status ≡ ownAt own LCD-STATUS
+  pub vsync-stays : (now : Float) {status last : ℕ} {s : Signal} → status ≡ ownAt slots LCD-STATUS
       → last ≡ x .devices .clocks .vsync → s ≡ vsyncOf last now status → s .seen ≡ last
-      → went own x ≡ syncedPut x (syncedOf own (x .devices .clocks .vsync) now)
+      → went slots x ≡ syncedPut x (syncedOf slots (x .devices .clocks .vsync) now)
   vsync-stays now a b e h =
-      vsync-went now a b e (own-same own LCD-STATUS (signal-still _ _ _ _ e h ∙ a))
+      vsync-went now a b e (own-same slots LCD-STATUS (signal-still _ _ _ _ e h ∙ a))
       (ap (λ (v : ℕ). vsyncPut x v) (sym (h ∙ b)))
 
   -- nothing converts
   pub adc-stays : {on : Bool} → on ≡ x .devices .clocks .converting → not on ≡ true
-      → went own x ≡ convertedPut x (convertedIn own (x .devices .clocks .converting))
+      → went slots x ≡ convertedPut x (convertedIn slots (x .devices .clocks .converting))
   unfolding convertedOf
   adc-stays {on = true} c h = absurd (false≢true h)
   adc-stays {on = false} c h =
-      let adc : Adc = record { converting = false; control = ownAt own ADC-CONTROL; result = ownAt own ADC-RESULT } in
+      let adc : Adc = record { converting = false; control = ownAt slots ADC-CONTROL; result = ownAt slots ADC-RESULT }
+      in
       adc-went {adc = adc} refl refl c refl
-      (own-same own ADC-RESULT refl) (own-same own ADC-CONTROL refl) (ap (λ (b : Bool). convertingPut x b) (sym c))
+      (own-same slots ADC-RESULT refl) (own-same slots ADC-CONTROL refl) (ap (λ (b : Bool). convertingPut x b) (sym c))
 
   -- no second has passed
-  pub irq-stays : (game : Float) {status : ℕ} {irq : RtcIrq} {t : Ticked} → status ≡ ownAt own RTC-IRQ-STATUS
+  pub irq-stays : (game : Float) {status : ℕ} {irq : RtcIrq} {t : Ticked} → status ≡ ownAt slots RTC-IRQ-STATUS
       → irq ≡ x .devices .clocks .irq → t ≡ tickedOf irq game status → t .irq .fired ≡ irq .fired
-      → went own x ≡ tickedPut x (tickedIn own (x .devices .clocks .irq) game)
+      → went slots x ≡ tickedPut x (tickedIn slots (x .devices .clocks .irq) game)
   irq-stays game {status} {irq} {t} a b e h =
       let k : tickOf (irq .fired) game status .seen ≡ irq .fired = ap (λ (z : Ticked). z .irq .fired) (sym e) ∙ h in
       let s : t .status ≡ status
       = ap (λ (z : Ticked). z .status) e ∙ signal-still _ _ _ _ {s = tickOf (irq .fired) game status} refl k in
       let i : t .irq ≡ irq
       = ap (λ (z : Ticked). z .irq) e ∙ ap (λ (z : ℕ). record { fired = z; base = irq .base; set = irq .set }) k in
-      irq-went game a b e (own-same own RTC-IRQ-STATUS (s ∙ a)) (ap (λ (z : RtcIrq). irqPut x z) (sym (i ∙ b)))
+      irq-went game a b e (own-same slots RTC-IRQ-STATUS (s ∙ a)) (ap (λ (z : RtcIrq). irqPut x z) (sym (i ∙ b)))
 
-pub devices-went : (own : List ℕ) (x : Parts) (clock : ℕ) (t : Times) {o₁ o₂ o₃ : List ℕ} {x₁ x₂ x₃ x₄ x₅ : Parts}
-    → x₁ ≡ timersPut x (timersAfter own (x .devices .clocks .timers) (t .now) clock)
-    → went o₁ x₂ ≡ syncedPut x₁ (syncedOf own (x₁ .devices .clocks .vsync) (t .now))
+pub devices-went : (slots : List ℕ) (x : Parts) (clock : ℕ) (t : Times) {o₁ o₂ o₃ : List ℕ} {x₁ x₂ x₃ x₄ x₅ : Parts}
+    → x₁ ≡ timersPut x (timersAfter slots (x .devices .clocks .timers) (t .now) clock)
+    → went o₁ x₂ ≡ syncedPut x₁ (syncedOf slots (x₁ .devices .clocks .vsync) (t .now))
     → went o₂ x₃ ≡ convertedPut x₂ (convertedIn o₁ (x₂ .devices .clocks .converting))
     → went o₃ x₄ ≡ tickedPut x₃ (tickedIn o₂ (x₃ .devices .clocks .irq) (t .game))
-    → x₅ ≡ timesPut x₄ t → went o₃ x₅ ≡ wentOf x (devicesOf own (x .devices .clocks) clock t)
+    → x₅ ≡ timesPut x₄ t → went o₃ x₅ ≡ wentOf x (devicesOf slots (x .devices .clocks) clock t)
 unfolding devicesOf
-devices-went own x clock t {o₁} {o₂} {o₃} {x₁} {x₂} {x₃} {x₄} {x₅} a b c d e =
-    let b₀ : o₁ ≡ syncedOf own (x₁ .devices .clocks .vsync) (t .now) .own = ap (λ (z : Went). z .own) b in
-    let b₁ : x₂ ≡ vsyncPut x₁ (syncedOf own (x₁ .devices .clocks .vsync) (t .now) .vsync) = ap
+devices-went slots x clock t {o₁} {o₂} {o₃} {x₁} {x₂} {x₃} {x₄} {x₅} a b c d e =
+    let b₀ : o₁ ≡ syncedOf slots (x₁ .devices .clocks .vsync) (t .now) .slots = ap (λ (z : Went). z .slots) b in
+    let b₁ : x₂ ≡ vsyncPut x₁ (syncedOf slots (x₁ .devices .clocks .vsync) (t .now) .vsync) = ap
     (λ (z : Went). z .parts) b in
-    let c₀ : o₂ ≡ convertedIn o₁ (x₂ .devices .clocks .converting) .own = ap (λ (z : Went). z .own) c in
+    let c₀ : o₂ ≡ convertedIn o₁ (x₂ .devices .clocks .converting) .slots = ap (λ (z : Went). z .slots) c in
     let c₁ : x₃ ≡ convertingPut x₂ (convertedIn o₁ (x₂ .devices .clocks .converting) .converting) = ap
     (λ (z : Went). z .parts) c in
-    let d₀ : o₃ ≡ tickedIn o₂ (x₃ .devices .clocks .irq) (t .game) .own = ap (λ (z : Went). z .own) d in
+    let d₀ : o₃ ≡ tickedIn o₂ (x₃ .devices .clocks .irq) (t .game) .slots = ap (λ (z : Went). z .slots) d in
     let d₁ : x₄ ≡ irqPut x₃ (tickedIn o₂ (x₃ .devices .clocks .irq) (t .game) .irq) = ap (λ (z : Went). z .parts) d in
     rw (e, d₁, d₀, c₁, c₀, b₁, b₀, a)
 
-moved-to : (own gpio : List ℕ) (times : List Float) (codes : List ℕ) (c : Clocks) (k : Keys) (clock : ℕ) (t : Times)
-    (o g : List ℕ) (clocks : Clocks)
-    (held : Held) (applied : ℕ) → move.devices o clocks ≡ devicesOf own c clock t → held ≡ heldOf times codes k (t .now)
-    → lines g applied ≡ syncOf gpio (k .applied) held → outcome o g 0 clocks applied ≡ movedTo own gpio times codes c
-    k clock t
+moved-to : (slots gpio : List ℕ) (starts : List Float) (codes : List ℕ) (c : Clocks) (k : Keys) (clock : ℕ) (t : Times)
+    (slots₁ gpio₁ : List ℕ) (clocks : Clocks) (held : Held) (applied : ℕ)
+    → move.devices slots₁ clocks ≡ devicesOf slots c clock t
+    → held ≡ heldOf starts codes k (t .now)
+    → lines gpio₁ applied ≡ syncOf gpio (k .applied) held → outcome slots₁ gpio₁ 0 clocks applied
+    ≡ movedTo slots gpio starts codes c k clock t
 unfolding movedTo
-moved-to own gpio times codes c k clock t o g clocks held applied d h l = rw (← d, ← h, ← l)
+moved-to slots gpio starts codes c k clock t slots₁ gpio₁ clocks held applied d h l = rw (← d, ← h, ← l)
 
-module _ (own gpio : List ℕ) (times : List Float) (codes : List ℕ) (x : Parts) (clock : ℕ) where
-  pub moved-went : (t : Times) {o g : List ℕ} {y z : Parts} {k : Keys} {held : Held} {applied : ℕ}
-      → went o y ≡ wentOf x (devicesOf own (x .devices .clocks) clock t)
-      → k ≡ y .keys → held ≡ heldOf times codes k (t .now) → lines g applied ≡ syncOf gpio (k .applied) held
+module _ (slots gpio : List ℕ) (starts : List Float) (codes : List ℕ) (x : Parts) (clock : ℕ) where
+  pub moved-went : (t : Times) {slots₁ gpio₁ : List ℕ} {y z : Parts} {k : Keys} {held : Held} {applied : ℕ}
+      → went slots₁ y ≡ wentOf x (devicesOf slots (x .devices .clocks) clock t)
+      → k ≡ y .keys → held ≡ heldOf starts codes k (t .now) → lines gpio₁ applied ≡ syncOf gpio (k .applied) held
       → z ≡ appliedPut y applied
-      → movedBank o g 0 z ≡ movesOf x (movedTo own gpio times codes (x .devices .clocks) (x .keys) clock t)
-  moved-went t {o} {g} {y} {z} {k} {held} {applied} d h i l e =
-      let p : y ≡ clocksPut x (devicesOf own (x .devices .clocks) clock t .clocks) = ap (λ (w : Went). w .parts) d in
+      → movedBank slots₁ gpio₁ 0 z ≡ movesOf x (movedTo slots gpio starts codes (x .devices .clocks) (x .keys) clock t)
+  moved-went t {slots₁} {gpio₁} {y} {z} {k} {held} {applied} d h i l e =
+      let p : y ≡ clocksPut x (devicesOf slots (x .devices .clocks) clock t .clocks) = ap (λ (w : Went). w .parts) d in
       let q : k ≡ x .keys = h ∙ ap (λ (w : Parts). w .keys) p in
-      let c : move.devices o (y .devices .clocks) ≡ devicesOf own (x .devices .clocks) clock t = ap
-      (λ (w : Went). move.devices (w .own) (w .parts .devices .clocks)) d in
-      let s : outcome o g 0 (y .devices .clocks) applied ≡ movedTo own gpio times codes (x .devices .clocks) (x .keys)
-      clock t
-      = moved-to own gpio times codes (x .devices .clocks) (x .keys) clock t o g (y .devices .clocks) held applied c
+      let c : move.devices slots₁ (y .devices .clocks) ≡ devicesOf slots (x .devices .clocks) clock t = ap
+      (λ (w : Went). move.devices (w .slots) (w .parts .devices .clocks)) d in
+      let s : outcome slots₁ gpio₁ 0 (y .devices .clocks) applied
+      ≡ movedTo slots gpio starts codes (x .devices .clocks) (x .keys) clock t
+      = moved-to slots gpio starts codes (x .devices .clocks) (x .keys) clock t slots₁ gpio₁
+      (y .devices .clocks) held applied c
       (rw q at i) (rw q at l) in
       let u : z ≡ appliedPut (clocksPut x (y .devices .clocks)) applied = e ∙ ap (λ (w : Parts). appliedPut w applied)
       (p ∙ ap (λ (w : Parts). clocksPut x (w .devices .clocks)) (sym p)) in
-      ap (λ (w : Parts). movedBank o g 0 w) u ∙ ap (λ (w : Outcome). movesOf x w) s
+      ap (λ (w : Parts). movedBank slots₁ gpio₁ 0 w) u ∙ ap (λ (w : Outcome). movesOf x w) s
 
-module _ (own gpio : List ℕ) (times : List Float) (codes : List ℕ) (x : Parts) (sram : List ℕ) (m : Moved) where
+module _ (slots gpio : List ℕ) (starts : List Float) (codes : List ℕ) (x : Parts) (sram : List ℕ) (m : Moved) where
   pub goes : (t : Times) {clock : ℕ} {r : MovedBank} → m ≡ To t → clock ≡ clockIn sram
-      → r ≡ movesOf x (movedTo own gpio times codes (x .devices .clocks) (x .keys) clock t)
-      → r ≡ movesOf x (moved own gpio times codes (x .devices .clocks) (x .keys) (clockIn sram) m)
+      → r ≡ movesOf x (movedTo slots gpio starts codes (x .devices .clocks) (x .keys) clock t)
+      → r ≡ movesOf x (moved slots gpio starts codes (x .devices .clocks) (x .keys) (clockIn sram) m)
   unfolding moved
   goes t h c i = rw (h, ← c) i
 
-  pub rests : m ≡ BadTime → movedBank own gpio 1 x ≡ movesOf x (moved own gpio times codes (x .devices .clocks)
+  pub rests : m ≡ BadTime → movedBank slots gpio 1 x ≡ movesOf x (moved slots gpio starts codes (x .devices .clocks)
       (x .keys) (clockIn sram) m)
   unfolding moved
   rests h = rw h
 
   pub goes-by : (to : Float) {times₀ : Times} {r : MovedBank} → times₀ ≡ x .devices .clocks .times
       → m ≡ movedOf times₀ to
-      → r ≡ movesOf x (moved own gpio times codes (x .devices .clocks) (x .keys) (clockIn sram) m)
-      → r ≡ movesOf x (advanceOf own gpio times codes (x .devices .clocks) (x .keys) (clockIn sram) to)
+      → r ≡ movesOf x (moved slots gpio starts codes (x .devices .clocks) (x .keys) (clockIn sram) m)
+      → r ≡ movesOf x (advanceOf slots gpio starts codes (x .devices .clocks) (x .keys) (clockIn sram) to)
   unfolding advanceOf
   goes-by to h e i = let k : m ≡ movedOf (x .devices .clocks .times) to = e ∙ ap (λ (z : Times). movedOf z to) h in rw
       (← k) i

@@ -68,17 +68,17 @@ fresh-within = record {
     started = fresh-started (freshTimes .now) tt
 
 -- ---- an advance
-module _ (own : List ℕ) (c : Clocks) (clock : ℕ) (t : Times) (w : ClocksWithin c) (h : clock < 2 ^ 32) (v : Within t)
+module _ (slots : List ℕ) (c : Clocks) (clock : ℕ) (t : Times) (w : ClocksWithin c) (h : clock < 2 ^ 32) (v : Within t)
     (l : Later (c .times) t) where
-  each : (n : ℕ) → n < 6 → Started (timerAfter own n (getD (c .timers) n none) (t .now) clock) (t .now)
+  each : (n : ℕ) → n < 6 → Started (timerAfter slots n (getD (c .timers) n none) (t .now) clock) (t .now)
   unfolding timerAfter
   each n i =
-      advance-started (getD (c .timers) n none) (t .now) clock (controlWord own n)
+      advance-started (getD (c .timers) n none) (t .now) clock (controlWord slots n)
       (later-started (getD (c .timers) n none) (c .times .now) (t .now) (w .timers n i) (w .times .now-good)
       (v .now-good) (l .now-later))
-      (v .now-good) h (reloadWord own n)
+      (v .now-good) h (reloadWord slots n)
 
-  timers-started : (n : ℕ) → n < 6 → Started (getD (timersAfter own (c .timers) (t .now) clock) n none) (t .now)
+  timers-started : (n : ℕ) → n < 6 → Started (getD (timersAfter slots (c .timers) (t .now) clock) n none) (t .now)
   unfolding timersAfter
   timers-started =
       six (λ (u : Timer). Started u (t .now)) _ _ _ _ _ _ (each 0 (lit< tt)) (each 1 (lit< tt)) (each 2 (lit< tt))
@@ -89,7 +89,7 @@ module _ (own : List ℕ) (c : Clocks) (clock : ℕ) (t : Times) (w : ClocksWith
   day-later = later-day (c .irq) (c .times .game) (t .game) (w .times .game-limit) (v .game-limit) (l .game-later)
       (w .day)
 
-  devices-within : ClocksWithin (devicesOf own c clock t .clocks)
+  devices-within : ClocksWithin (devicesOf slots c clock t .clocks)
   unfolding devicesOf syncedOf convertedIn tickedIn
   devices-within = record {
     times = v;
@@ -101,25 +101,25 @@ module _ (own : List ℕ) (c : Clocks) (clock : ℕ) (t : Times) (w : ClocksWith
         (l .now-later);
   }
 
-module _ (own gpio : List ℕ) (times : List Float) (codes : List ℕ) (c : Clocks) (k : Keys) (clock : ℕ) (to : Float)
+module _ (slots gpio : List ℕ) (starts : List Float) (codes : List ℕ) (c : Clocks) (k : Keys) (clock : ℕ) (to : Float)
     (w : ClocksWithin c) where
   -- AN ADVANCE KEEPS THE LIMITS
-  pub advance-within : clock < 2 ^ 32 → ClocksWithin (advanceOf own gpio times codes c k clock to .clocks)
+  pub advance-within : clock < 2 ^ 32 → ClocksWithin (advanceOf slots gpio starts codes c k clock to .clocks)
   unfolding advanceOf moved movedTo
   advance-within h = by (movedOf (c .times) to) refl
     where
-      by : (m : Moved) → movedOf (c .times) to ≡ m → ClocksWithin (moved own gpio times codes c k clock m .clocks)
+      by : (m : Moved) → movedOf (c .times) to ≡ m → ClocksWithin (moved slots gpio starts codes c k clock m .clocks)
       by (To t) e = let p : Within t × Later (c .times) t = moves-within (c .times) t to (w .times) e in
-          devices-within own c clock t w h (p .0) (p .1)
+          devices-within slots c clock t w h (p .0) (p .1)
       by BadTime e = w
 
   -- and neither time goes back
-  pub later-times : Later (c .times) (advanceOf own gpio times codes c k clock to .clocks .times)
+  pub later-times : Later (c .times) (advanceOf slots gpio starts codes c k clock to .clocks .times)
   unfolding advanceOf moved movedTo devicesOf
   later-times = by (movedOf (c .times) to) refl
     where
       by : (m : Moved) → movedOf (c .times) to ≡ m
-          → Later (c .times) (moved own gpio times codes c k clock m .clocks .times)
+          → Later (c .times) (moved slots gpio starts codes c k clock m .clocks .times)
       by (To t) e = moves-within (c .times) t to (w .times) e .1
       by BadTime e = record {
         now-later = le-refl-clear (c .times .now) (good-clear (c .times .now) (w .times .now-good));

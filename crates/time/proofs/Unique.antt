@@ -16,7 +16,7 @@ pub one-advance : (d : MovedBank) (o p g h : List ℕ) (m n : ℕ) (x y : Parts)
     → (o ≡ p) × (g ≡ h) × (m ≡ n) × (x ≡ y)
 one-advance d o p g h m n x y a b =
     let e : movedBank o g m x ≡ movedBank p h n y = unique a b in (
-      ap (λ (z : MovedBank). z .own) e,
+      ap (λ (z : MovedBank). z .slots) e,
       ap (λ (z : MovedBank). z .gpio) e,
       ap (λ (z : MovedBank). z .refusal) e,
       ap (λ (z : MovedBank). z .parts) e,
@@ -35,14 +35,14 @@ pub one-press : (d : Pressed) (t u : List Float) (c k : List ℕ) (x y : Asked) 
     → (t ≡ u) × (c ≡ k) × (x ≡ y)
 one-press d t u c k x y a b =
     let e : pressed t c x ≡ pressed u k y = unique a b in
-    (ap (λ (z : Pressed). z .times) e, ap (λ (z : Pressed). z .codes) e, ap (λ (z : Pressed). z .asked) e)
+    (ap (λ (z : Pressed). z .starts) e, ap (λ (z : Pressed). z .codes) e, ap (λ (z : Pressed). z .asked) e)
 
 pub one-take : (d : Took) (t u f g v w : List Float) (x y : Asked) (i j : Event) → took t f v x i ≡ d
     → took u g w y j ≡ d
     → (t ≡ u) × (f ≡ g) × (v ≡ w) × (x ≡ y) × (i ≡ j)
 one-take d t u f g v w x y i j a b =
     let e : took t f v x i ≡ took u g w y j = unique a b in (
-      ap (λ (z : Took). z .times) e,
+      ap (λ (z : Took). z .onsets) e,
       ap (λ (z : Took). z .frequencies) e,
       ap (λ (z : Took). z .duties) e,
       ap (λ (z : Took). z .asked) e,

@@ -6,7 +6,7 @@ use mathlib.Core.List.{List}
 use lib.ListN.{getD}
 use lib.Ieee.{Float}
 use Rattle.state.specs.Each.{listOf}
-use Rattle.map.specs.Numbers.{ADC-CONTROL, ADC-RESULT, LCD-STATUS, RTC-IRQ-STATUS, TIMER-COUNT}
+use Rattle.map.specs.Numbers.{TIMER-COUNT, RTC-IRQ-STATUS, ADC-CONTROL, ADC-RESULT, LCD-STATUS, BAD-TIME}
 use Rattle.registers.specs.Words.{ownAt, ownWith}
 use Rattle.timer.specs.declared.Timer.{Timer}
 use Rattle.timer.specs.Timers.{advancedOf}
@@ -30,47 +30,47 @@ use Rattle.state.specs.Parts.{none}
 -- ---- the timers
 
 unfoldable pub timerAfter : List ℕ → ℕ → Timer → Float → ℕ → Timer
-timerAfter own n t now clock = advancedOf t now clock (controlWord own n) (reloadWord own n)
+timerAfter slots n t now clock = advancedOf t now clock (controlWord slots n) (reloadWord slots n)
 
 unfoldable pub timersAfter : List ℕ → List Timer → Float → ℕ → List Timer
-timersAfter own ts now clock = listOf (λ n. timerAfter own n (getD ts n none) now clock) 0 TIMER-COUNT
+timersAfter slots ts now clock = listOf (λ n. timerAfter slots n (getD ts n none) now clock) 0 TIMER-COUNT
 
 -- ---- the panel's vertical sync
 
 -- the words, and the last sync seen
 pub record Synced : Type 0 where
-  pub own : List ℕ
+  pub slots : List ℕ
   pub vsync : ℕ
 
 abbrev pub synced : List ℕ → ℕ → Synced
-synced own vsync = record { own = own; vsync = vsync }
+synced slots vsync = record { slots = slots; vsync = vsync }
 
 abbrev pub signalled : List ℕ → Signal → Synced
-signalled own s = synced (ownWith own LCD-STATUS (s .status)) (s .seen)
+signalled slots s = synced (ownWith slots LCD-STATUS (s .status)) (s .seen)
 
 unfoldable pub syncedOf : List ℕ → ℕ → Float → Synced
-syncedOf own last now = signalled own (vsyncOf last now (ownAt own LCD-STATUS))
+syncedOf slots last now = signalled slots (vsyncOf last now (ownAt slots LCD-STATUS))
 
 -- ---- the ADC
 
 -- the words, and whether it converts
 pub record Converted : Type 0 where
-  pub own : List ℕ
+  pub slots : List ℕ
   pub converting : Bool
 
 abbrev pub converted : List ℕ → Bool → Converted
-converted own converting = record { own = own; converting = converting }
+converted slots converting = record { slots = slots; converting = converting }
 
 abbrev pub storedIn : List ℕ → Adc → Converted
-storedIn own adc = converted (ownWith (ownWith own ADC-RESULT (adc .result)) ADC-CONTROL (adc .control))
+storedIn slots adc = converted (ownWith (ownWith slots ADC-RESULT (adc .result)) ADC-CONTROL (adc .control))
     (adc .converting)
 
 unfoldable pub convertedIn : List ℕ → Bool → Converted
-convertedIn own converting =
-    storedIn own (convertedOf (record {
+convertedIn slots converting =
+    storedIn slots (convertedOf (record {
       converting = converting;
-      control = ownAt own ADC-CONTROL;
-      result = ownAt own
+      control = ownAt slots ADC-CONTROL;
+      result = ownAt slots
           ADC-RESULT;
     }))
 
@@ -78,50 +78,56 @@ convertedIn own converting =
 
 -- the words, and the SoC's clock
 pub record Ticking : Type 0 where
-  pub own : List ℕ
+  pub slots : List ℕ
   pub irq : RtcIrq
 
 abbrev pub ticked : List ℕ → RtcIrq → Ticking
-ticked own irq = record { own = own; irq = irq }
+ticked slots irq = record { slots = slots; irq = irq }
 
 abbrev pub tickedWith : List ℕ → Ticked → Ticking
-tickedWith own t = ticked (ownWith own RTC-IRQ-STATUS (t .status)) (t .irq)
+tickedWith slots t = ticked (ownWith slots RTC-IRQ-STATUS (t .status)) (t .irq)
 
 unfoldable pub tickedIn : List ℕ → RtcIrq → Float → Ticking
-tickedIn own irq game = tickedWith own (tickedOf irq game (ownAt own RTC-IRQ-STATUS))
+tickedIn slots irq game = tickedWith slots (tickedOf irq game (ownAt slots RTC-IRQ-STATUS))
 
 -- ---- all devices, at later times t
 
 -- the words, and the clocks
 pub record Devices : Type 0 where
-  pub own : List ℕ
+  pub slots : List ℕ
   pub clocks : Clocks
 
 abbrev pub devices : List ℕ → Clocks → Devices
-devices own clocks = record { own = own; clocks = clocks }
+devices slots clocks = record { slots = slots; clocks = clocks }
 
 -- timers 0 to 5, vsync, ADC, 1 Hz tick
 unfoldable pub devicesOf : List ℕ → Clocks → ℕ → Times → Devices
-devicesOf own c clock t =
-    let timers = timersAfter own (c .timers) (t .now) clock in
-    let s = syncedOf own (c .vsync) (t .now) in
-    let a = convertedIn (s .own) (c .converting) in
-    let h = tickedIn (a .own) (c .irq) (t .game) in
-    devices (h .own) (record { times = t; timers = timers; irq = h .irq; vsync = s .vsync; converting = a .converting })
+devicesOf slots c clock t =
+    let timers = timersAfter slots (c .timers) (t .now) clock in
+    let s = syncedOf slots (c .vsync) (t .now) in
+    let a = convertedIn (s .slots) (c .converting) in
+    let h = tickedIn (a .slots) (c .irq) (t .game) in
+    devices (h .slots) (record {
+      times = t;
+      timers = timers;
+      irq = h .irq;
+      vsync = s .vsync;
+      converting = a .converting;
+    })
 
 -- ---- the whole
 
 -- the words, the GPIO memory, 01's number, the clocks, and what is applied to the lines
 pub record Outcome : Type 0 where
-  pub own : List ℕ
+  pub slots : List ℕ
   pub gpio : List ℕ
   pub refusal : ℕ
   pub clocks : Clocks
   pub applied : ℕ
 
 abbrev pub outcome : List ℕ → List ℕ → ℕ → Clocks → ℕ → Outcome
-outcome own gpio refusal clocks applied = record {
-  own = own;
+outcome slots gpio refusal clocks applied = record {
+  slots = slots;
   gpio = gpio;
   refusal = refusal;
   clocks = clocks;
@@ -130,16 +136,16 @@ outcome own gpio refusal clocks applied = record {
 
 -- the devices, and the keys that are down at the new time
 unfoldable pub movedTo : List ℕ → List ℕ → List Float → List ℕ → Clocks → Keys → ℕ → Times → Outcome
-movedTo own gpio times codes c k clock t =
-    let d = devicesOf own c clock t in
-    let l = syncOf gpio (k .applied) (heldOf times codes k (t .now)) in
-    outcome (d .own) (l .gpio) 0 (d .clocks) (l .applied)
+movedTo slots gpio starts codes c k clock t =
+    let d = devicesOf slots c clock t in
+    let l = syncOf gpio (k .applied) (heldOf starts codes k (t .now)) in
+    outcome (d .slots) (l .gpio) 0 (d .clocks) (l .applied)
 
 -- a time that is refused changes nothing
 unfoldable pub moved : List ℕ → List ℕ → List Float → List ℕ → Clocks → Keys → ℕ → Moved → Outcome
-moved own gpio times codes c k clock (To t) = movedTo own gpio times codes c k clock t
-moved own gpio times codes c k clock BadTime = outcome own gpio 1 c (k .applied)
+moved slots gpio starts codes c k clock (To t) = movedTo slots gpio starts codes c k clock t
+moved slots gpio starts codes c k clock BadTime = outcome slots gpio BAD-TIME c (k .applied)
 
 -- game time and now first
 unfoldable pub advanceOf : List ℕ → List ℕ → List Float → List ℕ → Clocks → Keys → ℕ → Float → Outcome
-advanceOf own gpio times codes c k clock to = moved own gpio times codes c k clock (movedOf (c .times) to)
+advanceOf slots gpio starts codes c k clock to = moved slots gpio starts codes c k clock (movedOf (c .times) to)

@@ -26,7 +26,7 @@ clockIn sram = loaded sram SYSCLK-AT 4
 
 -- the control and reload words of timer n
 abbrev pub controlWord : List ℕ → ℕ → ℕ
-controlWord own n = ownAt own (TIMER-BASE + TIMER-STEP * n)
+controlWord slots n = ownAt slots (TIMER-BASE + TIMER-STEP * n)
 
 abbrev pub reloadWord : List ℕ → ℕ → ℕ
-reloadWord own n = ownAt own (TIMER-RELOAD + TIMER-STEP * n)
+reloadWord slots n = ownAt slots (TIMER-RELOAD + TIMER-STEP * n)

@@ -5,8 +5,8 @@ use mathlib.Core.List.{List}
 use lib.ListN.{getD}
 use lib.Dec.{eqb}
 use Rattle.state.specs.Each.{anyOf}
-use Rattle.map.specs.Numbers.{ADC-CONTROL, INTC-DISABLE, INTC-MASK, LCD-ENABLE, LCD-STATUS, RTC-IRQ-ENABLE}
-use Rattle.map.specs.Numbers.{RTC-IRQ-STATUS, TIMER-COUNT}
+use Rattle.map.specs.Numbers.{TIMER-COUNT, RTC-IRQ-STATUS, RTC-IRQ-ENABLE, ADC-CONTROL, INTC-MASK, INTC-DISABLE}
+use Rattle.map.specs.Numbers.{LCD-ENABLE, LCD-STATUS, RTC-IRQ, TIMER-IRQ, LCD-IRQ, ADC-IRQ}
 use Rattle.whole.specs.Words.{has, lacks}
 use Rattle.registers.specs.Words.{ownAt}
 use Rattle.timer.specs.declared.Timer.{Timer}
@@ -20,7 +20,7 @@ pendingAt ts n = getD ts n none .pending
 
 -- the SoC clock's status and enable words
 unfoldable pub rtcLine : List ℕ → Bool
-rtcLine own = has (ownAt own RTC-IRQ-STATUS) (ownAt own RTC-IRQ-ENABLE)
+rtcLine slots = has (ownAt slots RTC-IRQ-STATUS) (ownAt slots RTC-IRQ-ENABLE)
 
 -- any of the six
 unfoldable pub timerLine : List Timer → Bool
@@ -28,10 +28,10 @@ timerLine ts = anyOf (λ n. pendingAt ts n) 0 TIMER-COUNT
 
 -- the panel's status and enable words
 unfoldable pub lcdLine : List ℕ → Bool
-lcdLine own = has (ownAt own LCD-STATUS) (ownAt own LCD-ENABLE)
+lcdLine slots = has (ownAt slots LCD-STATUS) (ownAt slots LCD-ENABLE)
 
 unfoldable pub adcLine : List ℕ → Bool
-adcLine own = lineOf (ownAt own ADC-CONTROL)
+adcLine slots = lineOf (ownAt slots ADC-CONTROL)
 
 -- ---- the first that is raised and not masked
 
@@ -41,11 +41,11 @@ unmasked mask n = eqb (mask / 2 ^ (32 - n) % 2) 0
 
 abbrev pub firstOf : ℕ → Bool → Bool → Bool → Bool → ℕ
 firstOf mask rtc timer lcd adc =
-    cond (rtc && unmasked mask 1) 1 (cond (timer && unmasked mask 8) 8
-    (cond (lcd && unmasked mask 27) 27 (cond (adc && unmasked mask 29) 29 0)))
+    cond (rtc && unmasked mask RTC-IRQ) RTC-IRQ (cond (timer && unmasked mask TIMER-IRQ) TIMER-IRQ
+    (cond (lcd && unmasked mask LCD-IRQ) LCD-IRQ (cond (adc && unmasked mask ADC-IRQ) ADC-IRQ 0)))
 
 unfoldable pub pendingOf : List ℕ → List Timer → ℕ
-pendingOf own ts = firstOf (ownAt own INTC-MASK) (rtcLine own) (timerLine ts) (lcdLine own) (adcLine own)
+pendingOf slots ts = firstOf (ownAt slots INTC-MASK) (rtcLine slots) (timerLine ts) (lcdLine slots) (adcLine slots)
 
 unfoldable pub wantedOf : List ℕ → List Timer → Bool
-wantedOf own ts = lacks (ownAt own INTC-DISABLE) 1 && not (eqb (pendingOf own ts) 0)
+wantedOf slots ts = lacks (ownAt slots INTC-DISABLE) 1 && not (eqb (pendingOf slots ts) 0)

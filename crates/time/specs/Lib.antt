@@ -4,3 +4,4 @@ pub mod Advance
 pub mod Next
 pub mod Within
 pub mod Bank
+pub mod Inner

@@ -49,33 +49,33 @@ abbrev pub runs : ℕ → Bool
 runs control = eqb (bitAnd control 0x6000) 0x6000
 
 unfoldable pub pends : List ℕ → ℕ → Timer → Bool
-pends own n t = runs (controlWord own n) && t .pending
+pends slots n t = runs (controlWord slots n) && t .pending
 
 unfoldable pub anyPends : List ℕ → List Timer → Bool
-anyPends own ts = anyOf (λ n. pends own n (getD ts n none)) 0 TIMER-COUNT
+anyPends slots ts = anyOf (λ n. pends slots n (getD ts n none)) 0 TIMER-COUNT
 
 -- t = t.min(next), of timer n where it runs
 unfoldable pub withTimer : List ℕ → ℕ → Timer → ℕ → Float → Float
-withTimer own n t clock so = cond (runs (controlWord own n))
-    (minOf so (timerNext t clock (controlWord own n) (reloadWord own n))) so
+withTimer slots n t clock so = cond (runs (controlWord slots n))
+    (minOf so (timerNext t clock (controlWord slots n) (reloadWord slots n))) so
 
 unfoldable pub withTimers : List ℕ → List Timer → ℕ → Float → Float
-withTimers own ts clock so = through (λ n x. withTimer own n (getD ts n none) clock x) 0 TIMER-COUNT so
+withTimers slots ts clock so = through (λ n x. withTimer slots n (getD ts n none) clock x) 0 TIMER-COUNT so
 
 -- ---- the whole
 
 -- vertical sync, timers, 1 Hz tick, and the edges of presses and taps
 unfoldable pub earliest : List ℕ → List Float → Clocks → Keys → ℕ → Float
-earliest own times c k clock =
-    nextEdge times k (c .times .now) (minOf (withTimers own (c .timers) clock (vsyncNext (c .vsync)))
+earliest slots starts c k clock =
+    nextEdge starts k (c .times .now) (minOf (withTimers slots (c .timers) clock (vsyncNext (c .vsync)))
     (gameNext (c .times) (c .irq .fired)))
 
 -- now, where something waits already. The Rust's loop over the timers returns now at the first that pends, whatever
 -- those before it wait for
 unfoldable pub eventOf : List ℕ → List Float → Clocks → Keys → ℕ → Float
-eventOf own times c k clock =
-    cond (c .converting || wantedOf own (c .timers)) (c .times .now)
-    (cond (anyPends own (c .timers)) (c .times .now) (earliest own times c k clock))
+eventOf slots starts c k clock =
+    cond (c .converting || wantedOf slots (c .timers)) (c .times .now)
+    (cond (anyPends slots (c .timers)) (c .times .now) (earliest slots starts c k clock))
 
 -- between the least and the greatest f64
 abbrev pub finite : Float → Bool
@@ -87,4 +87,4 @@ answered t = cond (finite t) (record { refusal = DONE; time = t })
     (record { refusal = NO-NEXT-TIME; time = ofBits binary64 0 })
 
 unfoldable pub nextOf : List ℕ → List Float → Clocks → Keys → ℕ → NextTime
-nextOf own times c k clock = answered (eventOf own times c k clock)
+nextOf slots starts c k clock = answered (eventOf slots starts c k clock)

@@ -7,13 +7,15 @@ ghost use mathlib.Core.List.{List};
 ghost use Prim.Native.Nat.{_<_};
 ghost use lib.Ieee.{Float, binary64, ofBits};
 ghost use lib.ListN.{getD};
+ghost use Rattle.map.specs.Numbers.{TIMER-COUNT};
 ghost use Rattle.state.specs.Parts.{none, timerPut, timersPut};
 ghost use Rattle.state.specs.Bank.{timersIn, irqIn, clocksIn, keysIn, partsIn};
 ghost use Rattle.state.specs.Packed.{StaysPacked, Answered};
 ghost use Rattle.time.specs.Clocks.{clockIn};
 ghost use Rattle.time.specs.Advance.{timerAfter, timersAfter, syncedOf, convertedIn, tickedIn, devicesOf};
 ghost use Rattle.time.specs.Advance.{movedTo, moved, advanceOf};
-ghost use Rattle.time.specs.Bank.{went, syncedPut, convertedPut, tickedPut, wentOf, movedBank, movesOf};
+ghost use Rattle.time.specs.Bank.{movedBank, movesOf};
+ghost use Rattle.time.specs.Inner.{went, syncedPut, convertedPut, tickedPut, wentOf};
 use crate::sysclk_var;
 use clock::Adc;
 use clock::Moved;
@@ -23,64 +25,64 @@ use state::Floats;
 
 // Timer n of the six.
 fn timer_advance(
-    own: &[u32; 76],
+    slots: &[u32; 76],
     cells: &mut Cells,
     floats: &mut Floats,
     n: u32,
     time: f64,
     clock: u32,
 )
-    requires { ⌜ n < 6 ⌝ }
+    requires { ⌜ n < TIMER-COUNT ⌝ }
     ensures { λ _. ⌜ (partsIn (now (cells .exit)) (now (floats .exit))
         ≡ timerPut (partsIn (now (cells .entry)) (now (floats .entry))) n
-        (timerAfter (now (own .entry)) n (getD (timersIn (now (cells .entry))
+        (timerAfter (now (slots .entry)) n (getD (timersIn (now (cells .entry))
         (now (floats .entry))) n none) time clock))
         × StaysPacked (now (cells .entry)) (now (floats .entry)) (now (cells .exit)) (now (floats .exit)) ⌝ }
 {
-    let control = registers::own_reg(own, map::TIMER_BASE + map::TIMER_STEP * n);
+    let control = registers::own_reg(slots, map::TIMER_BASE + map::TIMER_STEP * n);
     if control & 0x2000 == 0 {
         return;
     }
-    let reload = registers::own_reg(own, map::TIMER_RELOAD + map::TIMER_STEP * n);
+    let reload = registers::own_reg(slots, map::TIMER_RELOAD + map::TIMER_STEP * n);
     let t = state::moments::timer_of(cells, floats, n as usize);
     let next = timer::advance(t, time, clock, control, reload);
     state::moments::put_timer(cells, floats, n as usize, next);
 }
 
-fn timers_advance(own: &[u32; 76], cells: &mut Cells, floats: &mut Floats, time: f64, clock: u32)
+fn timers_advance(slots: &[u32; 76], cells: &mut Cells, floats: &mut Floats, time: f64, clock: u32)
     ensures { λ _. ⌜ (partsIn (now (cells .exit)) (now (floats .exit))
         ≡ timersPut (partsIn (now (cells .entry)) (now (floats .entry)))
-        (timersAfter (now (own .entry)) (timersIn (now (cells .entry)) (now (floats .entry))) time clock))
+        (timersAfter (now (slots .entry)) (timersIn (now (cells .entry)) (now (floats .entry))) time clock))
         × StaysPacked (now (cells .entry)) (now (floats .entry)) (now (cells .exit)) (now (floats .exit)) ⌝ }
 {
-    timer_advance(own, cells, floats, 0, time, clock);
-    timer_advance(own, cells, floats, 1, time, clock);
-    timer_advance(own, cells, floats, 2, time, clock);
-    timer_advance(own, cells, floats, 3, time, clock);
-    timer_advance(own, cells, floats, 4, time, clock);
-    timer_advance(own, cells, floats, 5, time, clock);
+    timer_advance(slots, cells, floats, 0, time, clock);
+    timer_advance(slots, cells, floats, 1, time, clock);
+    timer_advance(slots, cells, floats, 2, time, clock);
+    timer_advance(slots, cells, floats, 3, time, clock);
+    timer_advance(slots, cells, floats, 4, time, clock);
+    timer_advance(slots, cells, floats, 5, time, clock);
 }
 
 // The panel's vertical sync.
-fn vsync(own: &mut [u32; 76], cells: &mut Cells, time: f64)
-    ensures { λ _. ⌜ ((f : List Float) → (went (now (own .exit)) (partsIn (now (cells .exit)) f)
-        ≡ syncedPut (partsIn (now (cells .entry)) f) (syncedOf (now (own .entry))
+fn vsync(slots: &mut [u32; 76], cells: &mut Cells, time: f64)
+    ensures { λ _. ⌜ ((f : List Float) → (went (now (slots .exit)) (partsIn (now (cells .exit)) f)
+        ≡ syncedPut (partsIn (now (cells .entry)) f) (syncedOf (now (slots .entry))
         (clocksIn (now (cells .entry)) f .vsync) time))
         × StaysPacked (now (cells .entry)) f (now (cells .exit)) f) ⌝ }
 {
-    let status = registers::own_reg(own, map::LCD_STATUS);
+    let status = registers::own_reg(slots, map::LCD_STATUS);
     let last = state::moments::vsync_of(cells);
     let s = clock::sources::vsync(last, time, status);
     if s.seen == last {
         return;
     }
-    registers::own_insert(own, map::LCD_STATUS, s.status);
+    registers::own_insert(slots, map::LCD_STATUS, s.status);
     state::moments::put_vsync(cells, s.seen);
 }
 
-fn adc_advance(own: &mut [u32; 76], cells: &mut Cells)
-    ensures { λ _. ⌜ ((f : List Float) → (went (now (own .exit)) (partsIn (now (cells .exit)) f)
-        ≡ convertedPut (partsIn (now (cells .entry)) f) (convertedIn (now (own .entry))
+fn adc_advance(slots: &mut [u32; 76], cells: &mut Cells)
+    ensures { λ _. ⌜ ((f : List Float) → (went (now (slots .exit)) (partsIn (now (cells .exit)) f)
+        ≡ convertedPut (partsIn (now (cells .entry)) f) (convertedIn (now (slots .entry))
         (clocksIn (now (cells .entry)) f .converting)))
         × StaysPacked (now (cells .entry)) f (now (cells .exit)) f) ⌝ }
 {
@@ -88,95 +90,95 @@ fn adc_advance(own: &mut [u32; 76], cells: &mut Cells)
     if !converting {
         return;
     }
-    let control = registers::own_reg(own, map::ADC_CONTROL);
-    let result = registers::own_reg(own, map::ADC_RESULT);
+    let control = registers::own_reg(slots, map::ADC_CONTROL);
+    let result = registers::own_reg(slots, map::ADC_RESULT);
     let adc = clock::convert::adc_advance(Adc {
         converting,
         control,
         result,
     });
-    registers::own_insert(own, map::ADC_RESULT, adc.result);
-    registers::own_insert(own, map::ADC_CONTROL, adc.control);
+    registers::own_insert(slots, map::ADC_RESULT, adc.result);
+    registers::own_insert(slots, map::ADC_CONTROL, adc.control);
     state::moments::put_converting(cells, adc.converting);
 }
 
-fn rtc_irq_advance(own: &mut [u32; 76], cells: &mut Cells, floats: &mut Floats, game: f64)
-    ensures { λ _. ⌜ (went (now (own .exit)) (partsIn (now (cells .exit)) (now (floats .exit)))
+fn rtc_irq_advance(slots: &mut [u32; 76], cells: &mut Cells, floats: &mut Floats, game: f64)
+    ensures { λ _. ⌜ (went (now (slots .exit)) (partsIn (now (cells .exit)) (now (floats .exit)))
         ≡ tickedPut (partsIn (now (cells .entry)) (now (floats .entry)))
-        (tickedIn (now (own .entry)) (irqIn (now (cells .entry)) (now (floats .entry))) game))
+        (tickedIn (now (slots .entry)) (irqIn (now (cells .entry)) (now (floats .entry))) game))
         × StaysPacked (now (cells .entry)) (now (floats .entry)) (now (cells .exit)) (now (floats .exit)) ⌝ }
 {
-    let status = registers::own_reg(own, map::RTC_IRQ_STATUS);
+    let status = registers::own_reg(slots, map::RTC_IRQ_STATUS);
     let irq = state::moments::irq_of(cells, floats);
     let t = clock::sources::rtc_irq_advance(irq, game, status);
     if t.irq.fired == irq.fired {
         return;
     }
-    registers::own_insert(own, map::RTC_IRQ_STATUS, t.status);
+    registers::own_insert(slots, map::RTC_IRQ_STATUS, t.status);
     state::moments::put_irq(cells, floats, t.irq);
 }
 
 // All devices, at the times t.
 fn devices_advance(
-    own: &mut [u32; 76],
+    slots: &mut [u32; 76],
     cells: &mut Cells,
     floats: &mut Floats,
     clock: u32,
     t: Times,
 )
-    ensures { λ _. ⌜ (went (now (own .exit)) (partsIn (now (cells .exit)) (now (floats .exit)))
+    ensures { λ _. ⌜ (went (now (slots .exit)) (partsIn (now (cells .exit)) (now (floats .exit)))
         ≡ wentOf (partsIn (now (cells .entry)) (now (floats .entry)))
-        (devicesOf (now (own .entry)) (clocksIn (now (cells .entry)) (now (floats .entry))) clock t))
+        (devicesOf (now (slots .entry)) (clocksIn (now (cells .entry)) (now (floats .entry))) clock t))
         × StaysPacked (now (cells .entry)) (now (floats .entry)) (now (cells .exit)) (now (floats .exit)) ⌝ }
 {
-    timers_advance(own, cells, floats, t.now, clock);
-    vsync(own, cells, t.now);
-    adc_advance(own, cells);
-    rtc_irq_advance(own, cells, floats, t.game);
+    timers_advance(slots, cells, floats, t.now, clock);
+    vsync(slots, cells, t.now);
+    adc_advance(slots, cells);
+    rtc_irq_advance(slots, cells, floats, t.game);
     state::moments::put_times(floats, t);
 }
 
 // The devices, and then the keys.
 fn move_to(
-    own: &mut [u32; 76],
+    slots: &mut [u32; 76],
     cells: &mut Cells,
     floats: &mut Floats,
     gpio: &mut [u8],
-    times: &[f64; 64],
+    starts: &[f64; 64],
     codes: &[u8; 64],
     clock: u32,
     t: Times,
 )
-    ensures { λ _. ⌜ (movedBank (now (own .exit)) (now (gpio .exit)) 0
+    ensures { λ _. ⌜ (movedBank (now (slots .exit)) (now (gpio .exit)) 0
         (partsIn (now (cells .exit)) (now (floats .exit)))
         ≡ movesOf (partsIn (now (cells .entry)) (now (floats .entry)))
-        (movedTo (now (own .entry)) (now (gpio .entry)) (now (times .entry)) (now (codes .entry))
+        (movedTo (now (slots .entry)) (now (gpio .entry)) (now (starts .entry)) (now (codes .entry))
         (clocksIn (now (cells .entry)) (now (floats .entry)))
         (keysIn (now (cells .entry)) (now (floats .entry))) clock t))
         × StaysPacked (now (cells .entry)) (now (floats .entry)) (now (cells .exit)) (now (floats .exit)) ⌝ }
 {
-    devices_advance(own, cells, floats, clock, t);
+    devices_advance(slots, cells, floats, clock, t);
     let k = state::rests::keys_of(cells, floats);
-    let held = keys::live::keys_held(times, codes, k, t.now);
+    let held = keys::live::keys_held(starts, codes, k, t.now);
     let applied = keys::gpio::sync_gpio(gpio, k.applied, held);
     state::rests::put_applied(cells, applied);
 }
 
 // What follows once game time and now have moved, or were refused.
 fn go(
-    own: &mut [u32; 76],
+    slots: &mut [u32; 76],
     cells: &mut Cells,
     floats: &mut Floats,
     sram: &[u8],
     gpio: &mut [u8],
-    times: &[f64; 64],
+    starts: &[f64; 64],
     codes: &[u8; 64],
     to: Moved,
 ) -> u8
-    ensures { λ r. ⌜ (movedBank (now (own .exit)) (now (gpio .exit)) r
+    ensures { λ r. ⌜ (movedBank (now (slots .exit)) (now (gpio .exit)) r
         (partsIn (now (cells .exit)) (now (floats .exit)))
         ≡ movesOf (partsIn (now (cells .entry)) (now (floats .entry)))
-        (moved (now (own .entry)) (now (gpio .entry)) (now (times .entry)) (now (codes .entry))
+        (moved (now (slots .entry)) (now (gpio .entry)) (now (starts .entry)) (now (codes .entry))
         (clocksIn (now (cells .entry)) (now (floats .entry)))
         (keysIn (now (cells .entry)) (now (floats .entry))) (clockIn (now (sram .entry))) to))
         × Answered r (now (cells .entry)) (now (floats .entry)) (now (cells .exit)) (now (floats .exit)) ⌝ }
@@ -184,7 +186,7 @@ fn go(
     match to {
         Moved::To(t) => {
             let clock = sysclk_var(sram);
-            move_to(own, cells, floats, gpio, times, codes, clock, t);
+            move_to(slots, cells, floats, gpio, starts, codes, clock, t);
             return map::DONE;
         }
         Moved::BadTime => {
@@ -193,50 +195,50 @@ fn go(
     }
 }
 
-// Bring the hardware up to emulated time `to`: 0, or refusal 1. `times` and `codes` are the presses'.
+// Bring the hardware up to emulated time `to`: 0, or refusal 1. `starts` and `codes` are the presses'.
 pub fn advance(
-    own: &mut [u32; 76],
+    slots: &mut [u32; 76],
     cells: &mut Cells,
     floats: &mut Floats,
     sram: &[u8],
     gpio: &mut [u8],
-    times: &[f64; 64],
+    starts: &[f64; 64],
     codes: &[u8; 64],
     to: f64,
 ) -> u8
-    ensures { λ r. ⌜ (movedBank (now (own .exit)) (now (gpio .exit)) r
+    ensures { λ r. ⌜ (movedBank (now (slots .exit)) (now (gpio .exit)) r
         (partsIn (now (cells .exit)) (now (floats .exit)))
         ≡ movesOf (partsIn (now (cells .entry)) (now (floats .entry)))
-        (advanceOf (now (own .entry)) (now (gpio .entry)) (now (times .entry)) (now (codes .entry))
+        (advanceOf (now (slots .entry)) (now (gpio .entry)) (now (starts .entry)) (now (codes .entry))
         (clocksIn (now (cells .entry)) (now (floats .entry)))
         (keysIn (now (cells .entry)) (now (floats .entry))) (clockIn (now (sram .entry))) to))
         × Answered r (now (cells .entry)) (now (floats .entry)) (now (cells .exit)) (now (floats .exit)) ⌝ }
 {
     let before = state::moments::times_of(floats);
     let moved = clock::pace::advance(before, to);
-    go(own, cells, floats, sram, gpio, times, codes, moved)
+    go(slots, cells, floats, sram, gpio, starts, codes, moved)
 }
 
 // The same from the bits of `to`, which become a float only where they are a good time.
 pub fn advance_bits(
-    own: &mut [u32; 76],
+    slots: &mut [u32; 76],
     cells: &mut Cells,
     floats: &mut Floats,
     sram: &[u8],
     gpio: &mut [u8],
-    times: &[f64; 64],
+    starts: &[f64; 64],
     codes: &[u8; 64],
     bits: u64,
 ) -> u8
-    ensures { λ r. ⌜ (movedBank (now (own .exit)) (now (gpio .exit)) r
+    ensures { λ r. ⌜ (movedBank (now (slots .exit)) (now (gpio .exit)) r
         (partsIn (now (cells .exit)) (now (floats .exit)))
         ≡ movesOf (partsIn (now (cells .entry)) (now (floats .entry)))
-        (advanceOf (now (own .entry)) (now (gpio .entry)) (now (times .entry)) (now (codes .entry))
+        (advanceOf (now (slots .entry)) (now (gpio .entry)) (now (starts .entry)) (now (codes .entry))
         (clocksIn (now (cells .entry)) (now (floats .entry)))
         (keysIn (now (cells .entry)) (now (floats .entry))) (clockIn (now (sram .entry))) (ofBits binary64 bits)))
         × Answered r (now (cells .entry)) (now (floats .entry)) (now (cells .exit)) (now (floats .exit)) ⌝ }
 {
     let before = state::moments::times_of(floats);
     let moved = clock::pace::advance_bits(before, bits);
-    go(own, cells, floats, sram, gpio, times, codes, moved)
+    go(slots, cells, floats, sram, gpio, starts, codes, moved)
 }

@@ -79,23 +79,23 @@ pub fn hold_bits(cells: &mut Cells, floats: &mut Floats, key: u32, bits: u64) ->
 
 // A press of a key at a time.
 pub fn press(
-    times: &mut [f64; 64],
+    starts: &mut [f64; 64],
     codes: &mut [u8; 64],
     cells: &mut Cells,
     floats: &Floats,
     key: u32,
     at: f64,
 ) -> u8
-    ensures { λ r. ⌜ (pressed (now (times .exit)) (now (codes .exit)) (asked (partsIn (now (cells .exit))
+    ensures { λ r. ⌜ (pressed (now (starts .exit)) (now (codes .exit)) (asked (partsIn (now (cells .exit))
         (now (floats .entry))) r)
         ≡ pressedOf (partsIn (now (cells .entry)) (now (floats .entry)))
-        (script.pressOf (script.script (now (times .entry)) (now (codes .entry)) (keysIn (now (cells .entry))
+        (script.pressOf (script.script (now (starts .entry)) (now (codes .entry)) (keysIn (now (cells .entry))
         (now (floats .entry)) .count)) key at (timesIn (now (floats .entry)) .now)))
         × Answered r (now (cells .entry)) (now (floats .entry)) (now (cells .exit)) (now (floats .entry)) ⌝ }
 {
     let moment = state::moments::times_of(floats);
     let before = state::rests::keys_of(cells, floats);
-    let x = keys::presses::press(times, codes, before.count, key, at, moment.now);
+    let x = keys::presses::press(starts, codes, before.count, key, at, moment.now);
     let refusal = x.refusal;
     let n = key_number(refusal);
     if n != 0 {
@@ -106,23 +106,23 @@ pub fn press(
 }
 
 pub fn press_bits(
-    times: &mut [f64; 64],
+    starts: &mut [f64; 64],
     codes: &mut [u8; 64],
     cells: &mut Cells,
     floats: &Floats,
     key: u32,
     bits: u64,
 ) -> u8
-    ensures { λ r. ⌜ (pressed (now (times .exit)) (now (codes .exit)) (asked (partsIn (now (cells .exit))
+    ensures { λ r. ⌜ (pressed (now (starts .exit)) (now (codes .exit)) (asked (partsIn (now (cells .exit))
         (now (floats .entry))) r)
         ≡ pressedOf (partsIn (now (cells .entry)) (now (floats .entry)))
-        (script.pressOf (script.script (now (times .entry)) (now (codes .entry)) (keysIn (now (cells .entry))
+        (script.pressOf (script.script (now (starts .entry)) (now (codes .entry)) (keysIn (now (cells .entry))
         (now (floats .entry)) .count)) key (ofBits binary64 bits) (timesIn (now (floats .entry)) .now)))
         × Answered r (now (cells .entry)) (now (floats .entry)) (now (cells .exit)) (now (floats .entry)) ⌝ }
 {
     let moment = state::moments::times_of(floats);
     let before = state::rests::keys_of(cells, floats);
-    let x = keys::presses::press_bits(times, codes, before.count, key, bits, moment.now);
+    let x = keys::presses::press_bits(starts, codes, before.count, key, bits, moment.now);
     let refusal = x.refusal;
     let n = key_number(refusal);
     if n != 0 {

@@ -20,50 +20,50 @@ pub(crate) fn timer_irq_line(cells: &Cells) -> bool
     a | (b | (c | (d | (e | f))))
 }
 
-fn rtc_irq_line(own: &[u32; 76]) -> bool
-    ensures { λ r. ⌜ r ≡ rtcLine (now (own .entry)) ⌝ }
+fn rtc_irq_line(slots: &[u32; 76]) -> bool
+    ensures { λ r. ⌜ r ≡ rtcLine (now (slots .entry)) ⌝ }
 {
-    let status = registers::own_reg(own, map::RTC_IRQ_STATUS);
-    clock::sources::rtc_irq_line(status, registers::own_reg(own, map::RTC_IRQ_ENABLE))
+    let status = registers::own_reg(slots, map::RTC_IRQ_STATUS);
+    clock::sources::rtc_irq_line(status, registers::own_reg(slots, map::RTC_IRQ_ENABLE))
 }
 
-fn lcd_irq_line(own: &[u32; 76]) -> bool
-    ensures { λ r. ⌜ r ≡ lcdLine (now (own .entry)) ⌝ }
+fn lcd_irq_line(slots: &[u32; 76]) -> bool
+    ensures { λ r. ⌜ r ≡ lcdLine (now (slots .entry)) ⌝ }
 {
-    let status = registers::own_reg(own, map::LCD_STATUS);
-    status & registers::own_reg(own, map::LCD_ENABLE) != 0
+    let status = registers::own_reg(slots, map::LCD_STATUS);
+    status & registers::own_reg(slots, map::LCD_ENABLE) != 0
 }
 
-fn adc_irq_line(own: &[u32; 76]) -> bool
-    ensures { λ r. ⌜ r ≡ adcLine (now (own .entry)) ⌝ }
+fn adc_irq_line(slots: &[u32; 76]) -> bool
+    ensures { λ r. ⌜ r ≡ adcLine (now (slots .entry)) ⌝ }
 {
-    clock::convert::adc_irq_line(registers::own_reg(own, map::ADC_CONTROL))
+    clock::convert::adc_irq_line(registers::own_reg(slots, map::ADC_CONTROL))
 }
 
 // The number of the first line that is raised and not masked, or 0. Line n is masked by bit 32 - n.
 fn first(mask: u32, rtc: bool, timer: bool, lcd: bool, adc: bool) -> u32
     ensures { λ r. ⌜ r ≡ firstOf mask rtc timer lcd adc ⌝ }
 {
-    let last = choose(adc & (mask / 8 % 2 == 0), 29, 0);
-    let third = choose(lcd & (mask / 32 % 2 == 0), 27, last);
-    let second = choose(timer & (mask / 16777216 % 2 == 0), 8, third);
-    choose(rtc & (mask / 2147483648 % 2 == 0), 1, second)
+    let last = choose(adc & (mask / 0x8 % 2 == 0), map::ADC_IRQ, 0);
+    let third = choose(lcd & (mask / 0x20 % 2 == 0), map::LCD_IRQ, last);
+    let second = choose(timer & (mask / 0x100_0000 % 2 == 0), map::TIMER_IRQ, third);
+    choose(rtc & (mask / 0x8000_0000 % 2 == 0), map::RTC_IRQ, second)
 }
 
-pub fn pending_irq(own: &[u32; 76], cells: &Cells) -> u32
-    ensures { λ r. ⌜ ((f : List Float) → r ≡ pendingOf (now (own .entry)) (timersIn (now (cells .entry)) f)) ⌝ }
+pub fn pending_irq(slots: &[u32; 76], cells: &Cells) -> u32
+    ensures { λ r. ⌜ ((f : List Float) → r ≡ pendingOf (now (slots .entry)) (timersIn (now (cells .entry)) f)) ⌝ }
 {
-    let mask = registers::own_reg(own, map::INTC_MASK);
-    let rtc = rtc_irq_line(own);
+    let mask = registers::own_reg(slots, map::INTC_MASK);
+    let rtc = rtc_irq_line(slots);
     let timer = timer_irq_line(cells);
-    let lcd = lcd_irq_line(own);
-    let adc = adc_irq_line(own);
+    let lcd = lcd_irq_line(slots);
+    let adc = adc_irq_line(slots);
     first(mask, rtc, timer, lcd, adc)
 }
 
-pub fn irq_wanted(own: &[u32; 76], cells: &Cells) -> bool
-    ensures { λ r. ⌜ ((f : List Float) → r ≡ wantedOf (now (own .entry)) (timersIn (now (cells .entry)) f)) ⌝ }
+pub fn irq_wanted(slots: &[u32; 76], cells: &Cells) -> bool
+    ensures { λ r. ⌜ ((f : List Float) → r ≡ wantedOf (now (slots .entry)) (timersIn (now (cells .entry)) f)) ⌝ }
 {
-    let off = registers::own_reg(own, map::INTC_DISABLE);
-    (off & 1 == 0) & (pending_irq(own, cells) != 0)
+    let off = registers::own_reg(slots, map::INTC_DISABLE);
+    (off & 1 == 0) & (pending_irq(slots, cells) != 0)
 }

@@ -2,6 +2,7 @@
 ghost use mathlib.Core.Path.{_≡_};
 ghost use mathlib.Core.List.{List};
 ghost use Prim.Native.Nat.{_<_};
+ghost use Rattle.map.specs.Numbers.{TIMER-COUNT};
 ghost use Rattle.time.specs.Next.{oneMore, vsyncNext, timerNext, gameNext, runs, pends, anyPends, withTimer};
 ghost use Rattle.time.specs.Next.{withTimers};
 ghost use lib.Ieee.{Float};
@@ -60,99 +61,105 @@ fn runs(control: u32) -> bool
 }
 
 // Whether timer n runs with its interrupt pending.
-fn pends(own: &[u32; 76], cells: &Cells, n: u32) -> bool
-    requires { ⌜ n < 6 ⌝ }
-    ensures { λ r. ⌜ ((f : List Float) → r ≡ pends (now (own .entry)) n
+fn pends(slots: &[u32; 76], cells: &Cells, n: u32) -> bool
+    requires { ⌜ n < TIMER-COUNT ⌝ }
+    ensures { λ r. ⌜ ((f : List Float) → r ≡ pends (now (slots .entry)) n
         (getD (timersIn (now (cells .entry)) f) n none)) ⌝ }
 {
-    runs(registers::own_reg(own, map::TIMER_BASE + map::TIMER_STEP * n))
+    runs(registers::own_reg(slots, map::TIMER_BASE + map::TIMER_STEP * n))
         & pending_of(cells, n as usize)
 }
 
-fn each_pends(own: &[u32; 76], cells: &Cells) -> bool
-    ensures { λ r. ⌜ ((f : List Float) → r ≡ anyPends (now (own .entry)) (timersIn (now (cells .entry)) f)) ⌝ }
+fn each_pends(slots: &[u32; 76], cells: &Cells) -> bool
+    ensures { λ r. ⌜ ((f : List Float) → r ≡ anyPends (now (slots .entry)) (timersIn (now (cells .entry)) f)) ⌝ }
 {
-    let a = pends(own, cells, 0);
-    let b = pends(own, cells, 1);
-    let c = pends(own, cells, 2);
-    let d = pends(own, cells, 3);
-    let e = pends(own, cells, 4);
-    let f = pends(own, cells, 5);
+    let a = pends(slots, cells, 0);
+    let b = pends(slots, cells, 1);
+    let c = pends(slots, cells, 2);
+    let d = pends(slots, cells, 3);
+    let e = pends(slots, cells, 4);
+    let f = pends(slots, cells, 5);
     a | (b | (c | (d | (e | f))))
 }
 
 // Mostly no timer is pending, and then no control word needs to be looked at.
-fn any_pends(own: &[u32; 76], cells: &Cells) -> bool
-    ensures { λ r. ⌜ ((f : List Float) → r ≡ anyPends (now (own .entry)) (timersIn (now (cells .entry)) f)) ⌝ }
+fn any_pends(slots: &[u32; 76], cells: &Cells) -> bool
+    ensures { λ r. ⌜ ((f : List Float) → r ≡ anyPends (now (slots .entry)) (timersIn (now (cells .entry)) f)) ⌝ }
 {
     if timer_irq_line(cells) {
-        return each_pends(own, cells);
+        return each_pends(slots, cells);
     }
     false
 }
 
 // The earlier of `so` and what timer n waits for.
-fn with_timer(own: &[u32; 76], cells: &Cells, floats: &Floats, n: u32, clock: u32, so: f64) -> f64
-    requires { ⌜ n < 6 ⌝ }
-    ensures { λ r. ⌜ r ≡ withTimer (now (own .entry)) n (getD (timersIn (now (cells .entry)) (now (floats .entry)))
+fn with_timer(slots: &[u32; 76], cells: &Cells, floats: &Floats, n: u32, clock: u32, so: f64) -> f64
+    requires { ⌜ n < TIMER-COUNT ⌝ }
+    ensures { λ r. ⌜ r ≡ withTimer (now (slots .entry)) n (getD (timersIn (now (cells .entry)) (now (floats .entry)))
         n none) clock so ⌝ }
 {
-    let control = registers::own_reg(own, map::TIMER_BASE + map::TIMER_STEP * n);
+    let control = registers::own_reg(slots, map::TIMER_BASE + map::TIMER_STEP * n);
     if runs(control) {
-        let reload = registers::own_reg(own, map::TIMER_RELOAD + map::TIMER_STEP * n);
+        let reload = registers::own_reg(slots, map::TIMER_RELOAD + map::TIMER_STEP * n);
         let t = timer_of(cells, floats, n as usize);
         return min(so, timer_next(t, clock, control, reload));
     }
     so
 }
 
-fn with_timers(own: &[u32; 76], cells: &Cells, floats: &Floats, clock: u32, so: f64) -> f64
-    ensures { λ r. ⌜ r ≡ withTimers (now (own .entry)) (timersIn (now (cells .entry)) (now (floats .entry)))
+fn with_timers(slots: &[u32; 76], cells: &Cells, floats: &Floats, clock: u32, so: f64) -> f64
+    ensures { λ r. ⌜ r ≡ withTimers (now (slots .entry)) (timersIn (now (cells .entry)) (now (floats .entry)))
         clock so ⌝ }
 {
-    let a = with_timer(own, cells, floats, 0, clock, so);
-    let b = with_timer(own, cells, floats, 1, clock, a);
-    let c = with_timer(own, cells, floats, 2, clock, b);
-    let d = with_timer(own, cells, floats, 3, clock, c);
-    let e = with_timer(own, cells, floats, 4, clock, d);
-    with_timer(own, cells, floats, 5, clock, e)
+    let a = with_timer(slots, cells, floats, 0, clock, so);
+    let b = with_timer(slots, cells, floats, 1, clock, a);
+    let c = with_timer(slots, cells, floats, 2, clock, b);
+    let d = with_timer(slots, cells, floats, 3, clock, c);
+    let e = with_timer(slots, cells, floats, 4, clock, d);
+    with_timer(slots, cells, floats, 5, clock, e)
 }
 
 // The earliest of the vertical sync, the timers, the 1 Hz tick and the keys' edges.
-fn earliest(own: &[u32; 76], cells: &Cells, floats: &Floats, times: &[f64; 64], clock: u32) -> f64
-    ensures { λ r. ⌜ r ≡ earliest (now (own .entry)) (now (times .entry)) (clocksIn (now (cells .entry))
+fn earliest(
+    slots: &[u32; 76],
+    cells: &Cells,
+    floats: &Floats,
+    starts: &[f64; 64],
+    clock: u32,
+) -> f64
+    ensures { λ r. ⌜ r ≡ earliest (now (slots .entry)) (now (starts .entry)) (clocksIn (now (cells .entry))
         (now (floats .entry)))
         (keysIn (now (cells .entry)) (now (floats .entry))) clock ⌝ }
 {
     let t = times_of(floats);
     let irq = irq_of(cells, floats);
-    let timer = with_timers(own, cells, floats, clock, vsync_next(vsync_of(cells)));
+    let timer = with_timers(slots, cells, floats, clock, vsync_next(vsync_of(cells)));
     let tick = min(timer, game_next(t, irq.fired));
     let k = state::rests::keys_of(cells, floats);
-    keys::edges::next_edge(times, k, t.now, tick)
+    keys::edges::next_edge(starts, k, t.now, tick)
 }
 
 // The Rust returns at the first timer that is pending, whatever the timers before it wait for; so all are asked first.
 fn event_time(
-    own: &[u32; 76],
+    slots: &[u32; 76],
     cells: &Cells,
     floats: &Floats,
     sram: &[u8],
-    times: &[f64; 64],
+    starts: &[f64; 64],
 ) -> f64
-    ensures { λ r. ⌜ r ≡ eventOf (now (own .entry)) (now (times .entry)) (clocksIn (now (cells .entry))
+    ensures { λ r. ⌜ r ≡ eventOf (now (slots .entry)) (now (starts .entry)) (clocksIn (now (cells .entry))
         (now (floats .entry)))
         (keysIn (now (cells .entry)) (now (floats .entry))) (clockIn (now (sram .entry))) ⌝ }
 {
     let t = times_of(floats);
-    if converting_of(cells) | irq_wanted(own, cells) {
+    if converting_of(cells) | irq_wanted(slots, cells) {
         return t.now;
     }
-    if any_pends(own, cells) {
+    if any_pends(slots, cells) {
         return t.now;
     }
     let clock = sysclk_var(sram);
-    earliest(own, cells, floats, times, clock)
+    earliest(slots, cells, floats, starts, clock)
 }
 
 // Between the least and the greatest f64.
@@ -177,17 +184,17 @@ fn answered(t: f64) -> NextTime
     }
 }
 
-// `times` are the presses'.
+// `starts` are the presses'.
 pub fn next_event(
-    own: &[u32; 76],
+    slots: &[u32; 76],
     cells: &Cells,
     floats: &Floats,
     sram: &[u8],
-    times: &[f64; 64],
+    starts: &[f64; 64],
 ) -> NextTime
-    ensures { λ r. ⌜ r ≡ nextOf (now (own .entry)) (now (times .entry)) (clocksIn (now (cells .entry))
+    ensures { λ r. ⌜ r ≡ nextOf (now (slots .entry)) (now (starts .entry)) (clocksIn (now (cells .entry))
         (now (floats .entry)))
         (keysIn (now (cells .entry)) (now (floats .entry))) (clockIn (now (sram .entry))) ⌝ }
 {
-    answered(event_time(own, cells, floats, sram, times))
+    answered(event_time(slots, cells, floats, sram, starts))
 }

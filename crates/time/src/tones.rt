@@ -22,19 +22,19 @@ fn event_number(refusal: Refusal) -> u8
 
 // The oldest event is taken.
 pub fn take_event(
-    at: &mut [f64; 256],
+    onsets: &mut [f64; 256],
     frequencies: &mut [f64; 256],
     duties: &mut [f64; 256],
     cells: &mut Cells,
 ) -> Waited
-    ensures { λ r. ⌜ ((f : List Float) → (took (now (at .exit)) (now (frequencies .exit)) (now (duties .exit))
+    ensures { λ r. ⌜ ((f : List Float) → (took (now (onsets .exit)) (now (frequencies .exit)) (now (duties .exit))
         (asked (partsIn (now (cells .exit)) f) (r .refusal)) (r .event)
-        ≡ tookOf (partsIn (now (cells .entry)) f) (takeOf (queueOf (now (at .entry)) (now (frequencies .entry))
+        ≡ tookOf (partsIn (now (cells .entry)) f) (takeOf (queueOf (now (onsets .entry)) (now (frequencies .entry))
         (now (duties .entry)) (ringIn (now (cells .entry))))))
         × Answered (r .refusal) (now (cells .entry)) f (now (cells .exit)) f) ⌝ }
 {
     let ring = state::rests::ring_of(cells);
-    let oldest = timer::events::take_from(at, frequencies, duties, ring);
+    let oldest = timer::events::take_from(onsets, frequencies, duties, ring);
     let refusal = oldest.refusal;
     let event = oldest.event;
     let n = event_number(refusal);

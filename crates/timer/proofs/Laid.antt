@@ -12,7 +12,8 @@ use borrow.Author.Tests.{lt-ltb, le-ltb, ltb-true, ltb-false}
 use Rattle.timer.specs.declared.Event.{Event}
 use Rattle.timer.specs.declared.Queue.{Queue}
 use Rattle.timer.specs.declared.Bulk.{Bulk}
-use Rattle.timer.specs.Events.{eventOf, waitingFrom, waiting, fitOf, laid, LayOutcome, layOutcome, layOf}
+use Rattle.timer.specs.Events.{eventOf, waitingFrom, waiting, fitOf, laid}
+use Rattle.timer.specs.Inner.{LayOutcome, layOutcome, layOf}
 use Rattle.timer.specs.Events.{dropOf, bulkOutcome, bulkOf}
 
 -- ---- as many as fit

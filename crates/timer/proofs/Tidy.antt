@@ -33,7 +33,7 @@ empty-tidy = record {
 pub empty-canonical : Canonical emptyQueue
 unfolding emptyQueue
 empty-canonical = record {
-  times = empty-tidy;
+  onsets = empty-tidy;
   frequencies = empty-tidy;
   duties = empty-tidy;
   most = omega arith;
@@ -55,7 +55,7 @@ last-tidy ring l x tidy room = record {
 
 last-canonical : (q : Queue) (e : Event) → Canonical q → q .ring .count < 256 → Canonical (withLast q e)
 last-canonical q e good room = record {
-  times = last-tidy (q .ring) (q .times) (e .time) (good .times) room;
+  onsets = last-tidy (q .ring) (q .onsets) (e .time) (good .onsets) room;
   frequencies = last-tidy (q .ring) (q .frequencies) (e .frequency) (good .frequencies) room;
   duties = last-tidy (q .ring) (q .duties) (e .duty) (good .duties) room;
   most = omega arith;
@@ -127,7 +127,7 @@ cleared-tidy ring n l false h most tidy =
 
 pub without-canonical : (q : Queue) (n : ℕ) → Canonical q → Canonical (without q n)
 without-canonical q n good = record {
-  times = cleared-tidy (q .ring) n (q .times) (ltb n (q .ring .count)) refl (good .most) (good .times);
+  onsets = cleared-tidy (q .ring) n (q .onsets) (ltb n (q .ring .count)) refl (good .most) (good .onsets);
   frequencies = cleared-tidy (q .ring) n (q .frequencies) (ltb n (q .ring .count)) refl (good .most)
       (good .frequencies);
   duties = cleared-tidy (q .ring) n (q .duties) (ltb n (q .ring .count)) refl (good .most) (good .duties);
@@ -192,12 +192,12 @@ waiting-is q i less = event-is q 0 (q .ring .count) i less ∙ rw (zero-add i)
 
 queue-is : {ts us fs gs ds es : List Float} {r s : Ring} → ts ≡ us → fs ≡ gs → ds ≡ es → r ≡ s
     → queueOf ts fs ds r ≡ queueOf us gs es s
-queue-is times frequencies duties ring = rw (times, frequencies, duties, ring)
+queue-is onsets frequencies duties ring = rw (onsets, frequencies, duties, ring)
 
 same-ring : (p q : Queue) → Canonical p → Canonical q → p .ring ≡ q .ring → waiting p ≡ waiting q → p ≡ q
 same-ring p q good other ring wait =
     queue-is
-    (array-is (p .ring) (p .times) (q .times) (good .times) (rw (← ring) at other .times)
+    (array-is (p .ring) (p .onsets) (q .onsets) (good .onsets) (rw (← ring) at other .onsets)
     (λ i less. ap (λ (e : Event). e .time) (same i less)))
     (array-is (p .ring) (p .frequencies) (q .frequencies) (good .frequencies) (rw (← ring) at other .frequencies)
     (λ i less. ap (λ (e : Event). e .frequency) (same i less)))

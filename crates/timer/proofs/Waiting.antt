@@ -37,14 +37,14 @@ waiting-count q = from-length q 0 (q .ring .count)
 -- the arrays with n places given back, and the ring that starts after them
 abbrev moved : Queue → ℕ → Queue
 moved q n =
-    queueOf (cleared (q .ring) n (q .times)) (cleared (q .ring) n (q .frequencies)) (cleared (q .ring) n (q .duties))
+    queueOf (cleared (q .ring) n (q .onsets)) (cleared (q .ring) n (q .frequencies)) (cleared (q .ring) n (q .duties))
     (ringOf (placeOf (q .ring) n) (q .ring .count - n))
 
 event-moves : (q : Queue) (n i : ℕ) → n + i < 256 → eventOf (moved q n) i ≡ eventOf q (n + i)
 event-moves q n i small =
     ap (eventAt (moved q n)) (place-moves (q .ring) n i (q .ring .count - n))
     ∙ rw (
-      cleared-stays (q .ring) n (n + i) (q .times) (omega arith) small,
+      cleared-stays (q .ring) n (n + i) (q .onsets) (omega arith) small,
       cleared-stays (q .ring) n (n + i) (q .frequencies) (omega arith) small,
       cleared-stays (q .ring) n (n + i) (q .duties) (omega arith) small,
     )
@@ -88,7 +88,7 @@ event-stays q e i less small =
     let apart : placeOf (q .ring) i ≢ placeOf (q .ring) (q .ring .count) =
     λ same. place-apart (q .ring) i (q .ring .count) less small (sym same) in
     rw (
-      getD-set-other (q .times) (placeOf (q .ring) (q .ring .count)) (placeOf (q .ring) i) (e .time) nan apart,
+      getD-set-other (q .onsets) (placeOf (q .ring) (q .ring .count)) (placeOf (q .ring) i) (e .time) nan apart,
       getD-set-other (q .frequencies) (placeOf (q .ring) (q .ring .count)) (placeOf (q .ring) i) (e .frequency) nan
           apart,
       getD-set-other (q .duties) (placeOf (q .ring) (q .ring .count)) (placeOf (q .ring) i) (e .duty) nan apart,
@@ -98,7 +98,7 @@ event-last : (q : Queue) (e : Event) → Canonical q → eventOf (withLast q e) 
 event-last q e good =
     let last : ℕ = placeOf (q .ring) (q .ring .count) in
     rw (
-      getD-set-same (q .times) last (e .time) nan (omega (arith, good .times .size)),
+      getD-set-same (q .onsets) last (e .time) nan (omega (arith, good .onsets .size)),
       getD-set-same (q .frequencies) last (e .frequency) nan (omega (arith, good .frequencies .size)),
       getD-set-same (q .duties) last (e .duty) nan (omega (arith, good .duties .size)),
     )

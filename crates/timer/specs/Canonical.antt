@@ -15,7 +15,7 @@ pub record Tidy (ring : Ring) (l : List Float) : Type 0 where
   pub free : (i : ℕ) → ring .count ≤ i → i < 256 → getD l (placeOf ring i) nan ≡ nought
 
 pub record Canonical (q : Queue) : Type 0 where
-  pub times : Tidy (q .ring) (q .times)
+  pub onsets : Tidy (q .ring) (q .onsets)
   pub frequencies : Tidy (q .ring) (q .frequencies)
   pub duties : Tidy (q .ring) (q .duties)
   pub most : q .ring .count ≤ 256

@@ -41,8 +41,8 @@ skipped ring n = cond (ltb n (ring .count)) (ringOf (placeOf ring n) (ring .coun
 -- ---- the queue
 
 abbrev pub queueOf : List Float → List Float → List Float → Ring → Queue
-queueOf times frequencies duties ring = record {
-  times = times;
+queueOf onsets frequencies duties ring = record {
+  onsets = onsets;
   frequencies = frequencies;
   duties = duties;
   ring =
@@ -56,7 +56,7 @@ emptyQueue = queueOf (replicate 256 nought) (replicate 256 nought) (replicate 25
 -- the event at a place
 abbrev pub eventAt : Queue → ℕ → Event
 eventAt q place = record {
-  time = getD (q .times) place nan;
+  time = getD (q .onsets) place nan;
   frequency = getD (q .frequencies) place nan;
   duty = getD (q .duties) place nan;
 }
@@ -87,7 +87,7 @@ putOutcome refusal q = record { refusal = numberOf refusal; queue = q }
 -- an event at the place after the youngest
 abbrev pub withLast : Queue → Event → Queue
 withLast q e =
-    queueOf (set (q .times) (placeOf (q .ring) (q .ring .count)) (e .time))
+    queueOf (set (q .onsets) (placeOf (q .ring) (q .ring .count)) (e .time))
     (set (q .frequencies) (placeOf (q .ring) (q .ring .count)) (e .frequency))
     (set (q .duties) (placeOf (q .ring) (q .ring .count)) (e .duty))
     (ringOf (q .ring .head) (q .ring .count + 1))
@@ -119,7 +119,7 @@ cleared ring (suc n) l = set (cleared ring n l) (placeOf ring n) nought
 -- the queue with its n oldest events gone
 abbrev pub without : Queue → ℕ → Queue
 without q n =
-    queueOf (cleared (q .ring) n (q .times)) (cleared (q .ring) n (q .frequencies)) (cleared (q .ring) n (q .duties))
+    queueOf (cleared (q .ring) n (q .onsets)) (cleared (q .ring) n (q .frequencies)) (cleared (q .ring) n (q .duties))
     (skipped (q .ring) n)
 
 -- zeros and nothing changed where none waits
@@ -138,20 +138,9 @@ laid [] ys = ys
 laid (x ∷ xs) [] = []
 laid (x ∷ xs) (y ∷ ys) = x ∷ laid xs ys
 
--- how many, and the later records
-pub record LayOutcome : Type 0 where
-  pub count : ℕ
-  pub records : List Event
-
-abbrev pub layOutcome : ℕ → List Event → LayOutcome
-layOutcome n ys = record { count = n; records = ys }
-
-abbrev pub layOf : Queue → List Event → LayOutcome
-layOf q ys = layOutcome (fitOf (q .ring .count) (length ys)) (laid (waiting q) ys)
-
 -- the answer over lent arrays, with the arrays
 abbrev pub batched : Batch → List Float → List Float → List Float → Bulk
-batched r times frequencies duties = record { count = r .count; queue = queueOf times frequencies duties (r .ring) }
+batched r onsets frequencies duties = record { count = r .count; queue = queueOf onsets frequencies duties (r .ring) }
 
 -- how many and the later queue, and the later records
 pub record BulkOutcome : Type 0 where

@@ -6,3 +6,4 @@ pub mod Table
 pub mod Events
 pub mod Canonical
 pub mod Story
+pub mod Inner

@@ -3,7 +3,8 @@
 ghost use mathlib.Core.Path.{_≡_};
 ghost use Rattle.timer.specs.Events.{nothing, placeOf, skipped, queueOf, emptyQueue, eventOf, without, fullOf};
 ghost use Rattle.timer.specs.Events.{fitOf};
-ghost use Rattle.timer.specs.Events.{putOutcome, putOf, takeOutcome, takeOf, layOutcome, layOf, dropOf};
+ghost use Rattle.timer.specs.Events.{putOutcome, putOf, takeOutcome, takeOf, dropOf};
+ghost use Rattle.timer.specs.Inner.{layOutcome, layOf};
 ghost use Rattle.timer.specs.Events.{batched, bulkOutcome, bulkOf};
 use crate::Added;
 use crate::Batch;
@@ -57,15 +58,15 @@ pub fn full(ring: Ring) -> bool
 
 // One event more, the youngest. Three numbers are stored, and nothing is moved.
 pub fn put_in(
-    times: &mut [f64; 256],
+    onsets: &mut [f64; 256],
     frequencies: &mut [f64; 256],
     duties: &mut [f64; 256],
     ring: Ring,
     event: Event,
 ) -> Added
-    ensures { λ r. ⌜ putOutcome (r .refusal) (queueOf (now (times .exit)) (now (frequencies .exit))
+    ensures { λ r. ⌜ putOutcome (r .refusal) (queueOf (now (onsets .exit)) (now (frequencies .exit))
         (now (duties .exit)) (r .ring))
-        ≡ putOf (queueOf (now (times .entry)) (now (frequencies .entry)) (now (duties .entry)) ring) event ⌝ }
+        ≡ putOf (queueOf (now (onsets .entry)) (now (frequencies .entry)) (now (duties .entry)) ring) event ⌝ }
 {
     let count = ring.count;
     if count >= 256 {
@@ -75,7 +76,7 @@ pub fn put_in(
         };
     }
     let at = place(ring, count);
-    times[at] = event.time;
+    onsets[at] = event.time;
     frequencies[at] = event.frequency;
     duties[at] = event.duty;
     Added {
@@ -88,18 +89,18 @@ pub fn put_in(
 }
 
 fn event_in<'a>(
-    times: &'a [f64; 256],
+    onsets: &'a [f64; 256],
     frequencies: &'a [f64; 256],
     duties: &'a [f64; 256],
     ring: Ring,
     i: usize,
 ) -> Event
-    ensures { λ r. ⌜ r ≡ eventOf (queueOf (now (times .entry)) (now (frequencies .entry)) (now (duties .entry)) ring)
+    ensures { λ r. ⌜ r ≡ eventOf (queueOf (now (onsets .entry)) (now (frequencies .entry)) (now (duties .entry)) ring)
         i ⌝ }
 {
     let at = place(ring, i);
     Event {
-        time: times[at],
+        time: onsets[at],
         frequency: frequencies[at],
         duty: duties[at],
     }
@@ -107,19 +108,19 @@ fn event_in<'a>(
 
 // The places of the n oldest events are given back.
 fn drop_from(
-    times: &mut [f64; 256],
+    onsets: &mut [f64; 256],
     frequencies: &mut [f64; 256],
     duties: &mut [f64; 256],
     ring: Ring,
     n: usize,
 ) -> Ring
-    ensures { λ r. ⌜ queueOf (now (times .exit)) (now (frequencies .exit)) (now (duties .exit)) r
-        ≡ without (queueOf (now (times .entry)) (now (frequencies .entry)) (now (duties .entry)) ring) n ⌝ }
+    ensures { λ r. ⌜ queueOf (now (onsets .exit)) (now (frequencies .exit)) (now (duties .exit)) r
+        ≡ without (queueOf (now (onsets .entry)) (now (frequencies .entry)) (now (duties .entry)) ring) n ⌝ }
 {
     let mut i = 0;
     while i < n {
         let at = place(ring, i);
-        times[at] = 0.0;
+        onsets[at] = 0.0;
         frequencies[at] = 0.0;
         duties[at] = 0.0;
         i += 1;
@@ -129,14 +130,14 @@ fn drop_from(
 
 // The oldest event. Its place is given back.
 pub fn take_from(
-    times: &mut [f64; 256],
+    onsets: &mut [f64; 256],
     frequencies: &mut [f64; 256],
     duties: &mut [f64; 256],
     ring: Ring,
 ) -> Oldest
-    ensures { λ r. ⌜ takeOutcome (r .refusal) (r .event) (queueOf (now (times .exit)) (now (frequencies .exit))
+    ensures { λ r. ⌜ takeOutcome (r .refusal) (r .event) (queueOf (now (onsets .exit)) (now (frequencies .exit))
         (now (duties .exit)) (r .ring))
-        ≡ takeOf (queueOf (now (times .entry)) (now (frequencies .entry)) (now (duties .entry)) ring) ⌝ }
+        ≡ takeOf (queueOf (now (onsets .entry)) (now (frequencies .entry)) (now (duties .entry)) ring) ⌝ }
 {
     if ring.count == 0 {
         return Oldest {
@@ -145,11 +146,11 @@ pub fn take_from(
             ring,
         };
     }
-    let event = event_in(times, frequencies, duties, ring, 0);
+    let event = event_in(onsets, frequencies, duties, ring, 0);
     Oldest {
         refusal: Refusal::Done,
         event,
-        ring: drop_from(times, frequencies, duties, ring, 1),
+        ring: drop_from(onsets, frequencies, duties, ring, 1),
     }
 }
 
@@ -167,20 +168,20 @@ fn fit_in(ring: Ring, room: usize) -> usize
 // As many waiting events as there are records, oldest first, and their number; later records stay. No place is given
 // back yet.
 fn lay_into<'a, 'b>(
-    times: &'a [f64; 256],
+    onsets: &'a [f64; 256],
     frequencies: &'a [f64; 256],
     duties: &'a [f64; 256],
     ring: Ring,
     records: &'b mut [Event],
 ) -> usize
     ensures { λ r. ⌜ layOutcome r (now (records .exit))
-        ≡ layOf (queueOf (now (times .entry)) (now (frequencies .entry)) (now (duties .entry)) ring)
+        ≡ layOf (queueOf (now (onsets .entry)) (now (frequencies .entry)) (now (duties .entry)) ring)
         (now (records .entry)) ⌝ }
 {
     let count = fit_in(ring, records.len());
     let mut i = 0;
     while i < count {
-        records[i] = event_in(times, frequencies, duties, ring, i);
+        records[i] = event_in(onsets, frequencies, duties, ring, i);
         i += 1;
     }
     count
@@ -188,46 +189,46 @@ fn lay_into<'a, 'b>(
 
 // `take_into` is proved by hand, as records are structs behind a reference; what needs none of them is done apart.
 fn drop_batch(
-    times: &mut [f64; 256],
+    onsets: &mut [f64; 256],
     frequencies: &mut [f64; 256],
     duties: &mut [f64; 256],
     ring: Ring,
     count: usize,
 ) -> Batch
-    ensures { λ r. ⌜ batched r (now (times .exit)) (now (frequencies .exit)) (now (duties .exit))
-        ≡ dropOf (queueOf (now (times .entry)) (now (frequencies .entry)) (now (duties .entry)) ring) count ⌝ }
+    ensures { λ r. ⌜ batched r (now (onsets .exit)) (now (frequencies .exit)) (now (duties .exit))
+        ≡ dropOf (queueOf (now (onsets .entry)) (now (frequencies .entry)) (now (duties .entry)) ring) count ⌝ }
 {
-    let rest = drop_from(times, frequencies, duties, ring, count);
+    let rest = drop_from(onsets, frequencies, duties, ring, count);
     Batch { count, ring: rest }
 }
 
 // The bulk taker: as many events as there are records, oldest first. Their number is the answer, and none waiting is
 // no refusal.
 pub fn take_into(
-    times: &mut [f64; 256],
+    onsets: &mut [f64; 256],
     frequencies: &mut [f64; 256],
     duties: &mut [f64; 256],
     ring: Ring,
     records: &mut [Event],
 ) -> Batch
-    ensures { λ r. ⌜ bulkOutcome (batched r (now (times .exit)) (now (frequencies .exit)) (now (duties .exit)))
+    ensures { λ r. ⌜ bulkOutcome (batched r (now (onsets .exit)) (now (frequencies .exit)) (now (duties .exit)))
         (now (records .exit))
-        ≡ bulkOf (queueOf (now (times .entry)) (now (frequencies .entry)) (now (duties .entry)) ring)
+        ≡ bulkOf (queueOf (now (onsets .entry)) (now (frequencies .entry)) (now (duties .entry)) ring)
         (now (records .entry)) ⌝ }
 {
-    let count = lay_into(times, frequencies, duties, ring, records);
-    drop_batch(times, frequencies, duties, ring, count)
+    let count = lay_into(onsets, frequencies, duties, ring, records);
+    drop_batch(onsets, frequencies, duties, ring, count)
 }
 
 // No event waits, whatever the arrays held.
 pub fn empty_in(
-    times: &mut [f64; 256],
+    onsets: &mut [f64; 256],
     frequencies: &mut [f64; 256],
     duties: &mut [f64; 256],
 ) -> Ring
-    ensures { λ r. ⌜ queueOf (now (times .exit)) (now (frequencies .exit)) (now (duties .exit)) r ≡ emptyQueue ⌝ }
+    ensures { λ r. ⌜ queueOf (now (onsets .exit)) (now (frequencies .exit)) (now (duties .exit)) r ≡ emptyQueue ⌝ }
 {
-    *times = [0.0; 256];
+    *onsets = [0.0; 256];
     *frequencies = [0.0; 256];
     *duties = [0.0; 256];
     Ring { head: 0, count: 0 }
@@ -238,12 +239,12 @@ pub fn empty_in(
 pub fn empty() -> Queue
     ensures { λ r. ⌜ r ≡ emptyQueue ⌝ }
 {
-    let times = [0.0; 256];
+    let onsets = [0.0; 256];
     let frequencies = [0.0; 256];
     let duties = [0.0; 256];
     let ring = Ring { head: 0, count: 0 };
     Queue {
-        times,
+        onsets,
         frequencies,
         duties,
         ring,
@@ -253,14 +254,20 @@ pub fn empty() -> Queue
 pub fn put(queue: Queue, event: Event) -> Stored
     ensures { λ r. ⌜ putOutcome (r .refusal) (r .queue) ≡ putOf queue event ⌝ }
 {
-    let mut times = queue.times;
+    let mut onsets = queue.onsets;
     let mut frequencies = queue.frequencies;
     let mut duties = queue.duties;
-    let r = put_in(&mut times, &mut frequencies, &mut duties, queue.ring, event);
+    let r = put_in(
+        &mut onsets,
+        &mut frequencies,
+        &mut duties,
+        queue.ring,
+        event,
+    );
     let refusal = r.refusal;
     let ring = r.ring;
     let queue = Queue {
-        times,
+        onsets,
         frequencies,
         duties,
         ring,
@@ -271,15 +278,15 @@ pub fn put(queue: Queue, event: Event) -> Stored
 pub fn take(queue: Queue) -> Taken
     ensures { λ r. ⌜ takeOutcome (r .refusal) (r .event) (r .queue) ≡ takeOf queue ⌝ }
 {
-    let mut times = queue.times;
+    let mut onsets = queue.onsets;
     let mut frequencies = queue.frequencies;
     let mut duties = queue.duties;
-    let r = take_from(&mut times, &mut frequencies, &mut duties, queue.ring);
+    let r = take_from(&mut onsets, &mut frequencies, &mut duties, queue.ring);
     let refusal = r.refusal;
     let event = r.event;
     let ring = r.ring;
     let queue = Queue {
-        times,
+        onsets,
         frequencies,
         duties,
         ring,
@@ -294,12 +301,18 @@ pub fn take(queue: Queue) -> Taken
 fn drop_oldest(queue: Queue, count: usize) -> Bulk
     ensures { λ r. ⌜ r ≡ dropOf queue count ⌝ }
 {
-    let mut times = queue.times;
+    let mut onsets = queue.onsets;
     let mut frequencies = queue.frequencies;
     let mut duties = queue.duties;
-    let ring = drop_from(&mut times, &mut frequencies, &mut duties, queue.ring, count);
+    let ring = drop_from(
+        &mut onsets,
+        &mut frequencies,
+        &mut duties,
+        queue.ring,
+        count,
+    );
     let queue = Queue {
-        times,
+        onsets,
         frequencies,
         duties,
         ring,
@@ -311,9 +324,9 @@ fn drop_oldest(queue: Queue, count: usize) -> Bulk
 pub fn take_events(queue: Queue, records: &mut [Event]) -> Bulk
     ensures { λ r. ⌜ bulkOutcome r (now (records .exit)) ≡ bulkOf queue (now (records .entry)) ⌝ }
 {
-    let times = queue.times;
+    let onsets = queue.onsets;
     let frequencies = queue.frequencies;
     let duties = queue.duties;
-    let count = lay_into(&times, &frequencies, &duties, queue.ring, records);
+    let count = lay_into(&onsets, &frequencies, &duties, queue.ring, records);
     drop_oldest(queue, count)
 }

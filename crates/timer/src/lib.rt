@@ -48,7 +48,7 @@ pub struct Ring {
 
 // The waiting events: an event has one place in the three arrays, since an array of structs cannot be lent.
 pub struct Queue {
-    pub times: [f64; 256],
+    pub onsets: [f64; 256],
     pub frequencies: [f64; 256],
     pub duties: [f64; 256],
     pub ring: Ring,

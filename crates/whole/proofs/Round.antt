@@ -13,7 +13,7 @@ use lib.IntN.{ℤ, pos}
 use lib.Dec.{T, ltb, eqb, leb→le, lit<, lit≤}
 use lib.Pow.{pow-pos, pow-add, pow-lt}
 use lib.Ieee.{Float, nan, inf, fin, binary64, up, down, odd, units, round, add, sub, mul, div, le, ofInt, toUnsigned}
-use lib.Ieee.Fits.{round-is, down-pos, and-l, and-r}
+use lib.Ieee.Fits.{round-is, down-pos, and-r}
 use lib.Ieee.Exact.{HasValue, round-exact}
 use lib.Ieee.Positive.{first-pos}
 use lib.Ieee.Order.{round-mono, kept, drop}
@@ -227,20 +227,11 @@ up-to-at-most n (inf s) h = absurd h
 up-to-at-most n (fin true m e) h = absurd h
 up-to-at-most n (fin false m e) h = leb→le (m * up e) (n * down e) h
 
-down-to-at-least : (n : ℕ) (x : Float) → T (downTo n x) → AtLeast x n
-down-to-at-least n nan h = absurd h
-down-to-at-least n (inf s) h = absurd h
-down-to-at-least n (fin true m e) h = absurd h
-down-to-at-least n (fin false m e) h = leb→le (down e) (m * up e * n) h
-
 pub good-at-most : (x : Float) → T (goodTime x) → AtMost x (2 ^ 21)
 good-at-most x h = up-to-at-most (2 ^ 21) x h
 
 pub turbo-at-most : (x : Float) → T (goodTurbo x) → AtMost x (2 ^ 10)
 turbo-at-most x h = up-to-at-most (2 ^ 10) x (and-r (downTo 1024 x) (upTo 1024 x) h)
-
-pub turbo-at-least : (x : Float) → T (goodTurbo x) → AtLeast x (2 ^ 10)
-turbo-at-least x h = down-to-at-least (2 ^ 10) x (and-l (downTo 1024 x) (upTo 1024 x) h)
 
 -- ---- division by 2.0, 256.0 and the like
 pub div-pow : (x : Float) (j k : ℕ) → k < 1024 → AtMost x (2 ^ (k + j))

@@ -5,7 +5,8 @@ use mathlib.Core.List.{List}
 use Prim.Native.Nat.{ℕ}
 use lib.ListN.{length}
 use borrow.Author.Tests.{not-true, not-false}
-use Rattle.flash.specs.Board.{Board, board, outcome, withCs, goodSize, acceptedOutcome, refusing, giving}
+use Rattle.flash.specs.Board.{Board, board, outcome, withCs, goodSize, acceptedOutcome}
+use Rattle.flash.specs.Inner.{refusing, giving}
 use Rattle.flash.specs.Buf.{blank}
 use Rattle.flash.specs.Finish.{stateAfter, arrayAfter}
 use Rattle.flash.specs.Flash.{selected, selectBoard, begun, deselectAct}

@@ -6,7 +6,8 @@ use Prim.Native.Nat.{ℕ, _<_, _≤_}
 use native.Mathlib.Omega.{arith}
 use lib.ListN.{length}
 use borrow.Author.Tests.{not-true, not-false}
-use Rattle.flash.specs.Board.{Board, board, outcome, goodSize, refusing, giving, Sized}
+use Rattle.flash.specs.Board.{Board, board, outcome, goodSize, Sized}
+use Rattle.flash.specs.Inner.{refusing, giving}
 use Rattle.flash.specs.Buf.{gathered}
 use Rattle.flash.specs.Flash.{transferred, replied, sentChip}
 use Rattle.flash.specs.declared.Reply.{Reply}

@@ -1,6 +1,6 @@
 use borrow.Author.Needs.{needs}
 use mathlib.Core.Path.{sym, _∙_}
-use Rattle.registers.proofs.Cases.{other-never, other-held, other-absent}
+use Rattle.registers.proofs.Cases.{other-never, other-present, other-absent}
 use Rattle.registers.proofs.find_other.Statement.{statement}
 use Rattle.registers.proofs.find_other.Tie as tie
 
@@ -10,7 +10,7 @@ returns c = other-never _ _ (sym (c .before .unstored .ensures) ∙ c .if1 .take
 returns-2 : tie.Need-returns-2
 returns-2 c =
     let c3 = c .before .before .before in
-    other-held _ _ _ (c .before .before .place .ensures .0) (sym (c3 .before .unstored .ensures) ∙ c3 .if1 .left)
+    other-present _ _ _ (c .before .before .place .ensures .0) (sym (c3 .before .unstored .ensures) ∙ c3 .if1 .left)
     (c .if2 .taken)
 
 returns-3 : tie.Need-returns-3

@@ -10,7 +10,7 @@ returns c =
     let c5 = c2 .before .before .before in
     let c8 = c5 .before .before .before in
     let a = (c8 .args) in
-    select-stored (a .own .now) (a .chip) (a .page .now) (a .ram .now) (a .new) (c5 .own-insert .ensures) refl
+    select-stored (a .slots .now) (a .chip) (a .page .now) (a .ram .now) (a .new) (c5 .own-insert .ensures) refl
     (c2 .flash-select .ensures)
 
 pub select-write-spec : {M : Type 1} → statement M

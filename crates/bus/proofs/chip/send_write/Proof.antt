@@ -9,7 +9,7 @@ returns c =
     let c3 = c1 .before .before in
     let c6 = c3 .before .before .before in
     let a = (c6 .args) in
-    send-stored (a .own .now) (a .chip) (a .page .now) (a .ram .now) (a .new) (c3 .own-insert .ensures)
+    send-stored (a .slots .now) (a .chip) (a .page .now) (a .ram .now) (a .new) (c3 .own-insert .ensures)
     (c1 .low .ensures) (c .flash-xfer .ensures)
 
 pub send-write-spec : {M : Type 1} → statement M

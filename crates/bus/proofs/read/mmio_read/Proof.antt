@@ -16,7 +16,7 @@ returns c =
     let c4 = c3 .before in
     let c6 = c4 .before .before in
     let a = (c6 .args) in
-    let r = registersOf (a .own .now) (a .addresses .now) (a .values .now) in
+    let r = registersOf (a .slots .now) (a .addresses .now) (a .values .now) in
     let d = partsIn (a .cells .now) (a .floats .now) .devices in
     reg-own r (a .sram .now) d (a .addr) (a .size) (c4 .slot .ensures) (c3 .if1 .taken) (c
     .before .own-value .ensures) (c .cut .ensures)
@@ -34,7 +34,7 @@ returns-2 c =
     let c4 = c3 .before in
     let c6 = c4 .before .before in
     let a = (c6 .args) in
-    let r = registersOf (a .own .now) (a .addresses .now) (a .values .now) in
+    let r = registersOf (a .slots .now) (a .addresses .now) (a .values .now) in
     let d = partsIn (a .cells .now) (a .floats .now) .devices in
     let m = slot-most (wordAddress (a .addr)) in
     let none : slotOf (wordAddress (a .addr)) ≡ 76 = omega (arith, (c4 .slot .ensures), (c3 .if1 .left)) in

@@ -1,7 +1,7 @@
 use mathlib.Core.Path.{sym, _∙_}
 use Rattle.registers.specs.Words.{registersOf}
 use Rattle.state.specs.Bank.{partsIn}
-use Rattle.bus.proofs.Values.{other-field, other-held}
+use Rattle.bus.proofs.Values.{other-field, other-present}
 use borrow.Author.Needs.{needs}
 use Rattle.bus.proofs.read.other_value.Statement.{statement}
 use Rattle.bus.proofs.read.other_value.Tie as tie
@@ -16,7 +16,7 @@ returns c =
     let c3 = c2 .before in
     let c4 = c3 .before in
     let a = (c4 .args) in
-    let r = registersOf (a .own .now) (a .addresses .now) (a .values .now) in
+    let r = registersOf (a .slots .now) (a .addresses .now) (a .values .now) in
     let d = partsIn (a .cells .now) (a .floats .now) .devices in
     other-field r d 0 (a .word) (c4 .pre)
     (c3 .day-word .ensures) (c2 .if1 .taken) (c .before .field-of .ensures)
@@ -28,9 +28,9 @@ returns-2 c =
     let c3 = c2 .before in
     let c4 = c3 .before in
     let a = (c4 .args) in
-    let r = registersOf (a .own .now) (a .addresses .now) (a .values .now) in
+    let r = registersOf (a .slots .now) (a .addresses .now) (a .values .now) in
     let d = partsIn (a .cells .now) (a .floats .now) .devices in
-    other-held r d 0 (a .word) (c4 .pre) (c3 .day-word .ensures)
+    other-present r d 0 (a .word) (c4 .pre) (c3 .day-word .ensures)
     (c2 .if1 .left) (c .before .find-other .ensures) (c .word-in .ensures)
 
 pub other-value-spec : {M : Type 1} → statement M

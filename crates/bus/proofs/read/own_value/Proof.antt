@@ -25,11 +25,11 @@ returns c =
     let c8 = c5 .before .before .before in
     let a = (c8 .args) in
     let d = partsIn (a .cells .now) (a .floats .now) .devices in
-    read-as (a .own .now) d (clockIn (a .sram .now)) (a .s)
+    read-as (a .slots .now) d (clockIn (a .sram .now)) (a .s)
     (c8 .pre)
     (c5 .slot-get .ensures) (Acts _)
     (sym (c2 .port .given .1) ∙ (c4 .port-at .ensures))
-    (ap (given (a .own .now)) (c .acting-value .ensures))
+    (ap (given (a .slots .now)) (c .acting-value .ensures))
 
 view-of-requires : tie.Need-view-of-requires
 view-of-requires c κs =
@@ -49,7 +49,7 @@ returns-2 c =
     let c9 = c6 .before .before .before in
     let a = (c9 .args) in
     let d = partsIn (a .cells .now) (a .floats .now) .devices in
-    read-as (a .own .now) d (clockIn (a .sram .now)) (a .s)
+    read-as (a .slots .now) d (clockIn (a .sram .now)) (a .s)
     (c9 .pre)
     (c6 .slot-get .ensures) (Shows _)
     (sym (c3 .port2 .given .1) ∙
@@ -58,67 +58,37 @@ returns-2 c =
 returns-3 : tie.Need-returns-3
 returns-3 c =
     let c2 = c .before .before in
-    let c3 = c2 .before in
-    let c6 = c3 .before .before .before in
-    let a = (c6 .args) in
-    let d = partsIn (a .cells .now) (a .floats .now) .devices in
-    read-as (a .own .now) d (clockIn (a .sram .now)) (a .s) (c6 .pre)
-    (c3 .slot-get .ensures) Select
+    read-as _ _ _ _ (c2 .before .before .before .before .pre) (c2 .before .slot-get .ensures) Select
     (sym (c .enum-told .given .1) ∙ (c2 .port-at .ensures)) refl
 
 returns-4 : tie.Need-returns-4
 returns-4 c =
     let c2 = c .before .before in
-    let c3 = c2 .before in
-    let c6 = c3 .before .before .before in
-    let a = (c6 .args) in
-    let d = partsIn (a .cells .now) (a .floats .now) .devices in
-    read-as (a .own .now) d (clockIn (a .sram .now)) (a .s) (c6 .pre)
-    (c3 .slot-get .ensures) Send
+    read-as _ _ _ _ (c2 .before .before .before .before .pre) (c2 .before .slot-get .ensures) Send
     (sym (c .enum-told2 .given .1) ∙ (c2 .port-at .ensures)) refl
 
 returns-5 : tie.Need-returns-5
 returns-5 c =
     let c2 = c .before .before in
-    let c3 = c2 .before in
-    let c6 = c3 .before .before .before in
-    let a = (c6 .args) in
-    let d = partsIn (a .cells .now) (a .floats .now) .devices in
-    read-as (a .own .now) d (clockIn (a .sram .now)) (a .s) (c6 .pre)
-    (c3 .slot-get .ensures) LcdControl
+    read-as _ _ _ _ (c2 .before .before .before .before .pre) (c2 .before .slot-get .ensures) LcdControl
     (sym (c .enum-told3 .given .1) ∙ (c2 .port-at .ensures)) refl
 
 returns-6 : tie.Need-returns-6
 returns-6 c =
     let c2 = c .before .before in
-    let c3 = c2 .before in
-    let c6 = c3 .before .before .before in
-    let a = (c6 .args) in
-    let d = partsIn (a .cells .now) (a .floats .now) .devices in
-    read-as (a .own .now) d (clockIn (a .sram .now)) (a .s) (c6 .pre)
-    (c3 .slot-get .ensures) RtcCommand
+    read-as _ _ _ _ (c2 .before .before .before .before .pre) (c2 .before .slot-get .ensures) RtcCommand
     (sym (c .enum-told4 .given .1) ∙ (c2 .port-at .ensures)) refl
 
 returns-7 : tie.Need-returns-7
 returns-7 c =
     let c2 = c .before .before in
-    let c3 = c2 .before in
-    let c6 = c3 .before .before .before in
-    let a = (c6 .args) in
-    let d = partsIn (a .cells .now) (a .floats .now) .devices in
-    read-as (a .own .now) d (clockIn (a .sram .now)) (a .s) (c6 .pre)
-    (c3 .slot-get .ensures) Holds
+    read-as _ _ _ _ (c2 .before .before .before .before .pre) (c2 .before .slot-get .ensures) Holds
     (sym (c .enum-told5 .given .1) ∙ (c2 .port-at .ensures)) refl
 
 returns-8 : tie.Need-returns-8
 returns-8 c =
     let c2 = c .before .before in
-    let c3 = c2 .before in
-    let c6 = c3 .before .before .before in
-    let a = (c6 .args) in
-    let d = partsIn (a .cells .now) (a .floats .now) .devices in
-    read-as (a .own .now) d (clockIn (a .sram .now)) (a .s) (c6 .pre)
-    (c3 .slot-get .ensures) Other
+    read-as _ _ _ _ (c2 .before .before .before .before .pre) (c2 .before .slot-get .ensures) Other
     (sym (c .enum-told6 .given .1) ∙ (c2 .port-at .ensures)) refl
 
 pub own-value-spec : {M : Type 1} → statement M

@@ -11,7 +11,7 @@ returns c =
     let c4 = c2 .before .before in
     let c8 = c4 .before .before .before .before in
     let a = (c8 .args) in
-    let r = registersOf (a .own .now) (a .addresses .now) (a .values .now) in
+    let r = registersOf (a .slots .now) (a .addresses .now) (a .values .now) in
     let d = partsIn (a .cells .now) (a .floats .now) .devices in
     read-ram r (a .ram .now) (a .sram .now) (a .gpio .now) d (a .addr) (a .size) (c4 .locate .ensures)
     (c2 .place .given .1) (c .get .ensures)
@@ -22,7 +22,7 @@ returns-2 c =
     let c4 = c2 .before .before in
     let c8 = c4 .before .before .before .before in
     let a = (c8 .args) in
-    let r = registersOf (a .own .now) (a .addresses .now) (a .values .now) in
+    let r = registersOf (a .slots .now) (a .addresses .now) (a .values .now) in
     let d = partsIn (a .cells .now) (a .floats .now) .devices in
     read-sram r (a .ram .now) (a .sram .now) (a .gpio .now) d (a .addr) (a .size) (c4 .locate .ensures)
     (c2 .place2 .given .1) (c .get2 .ensures)
@@ -33,7 +33,7 @@ returns-3 c =
     let c4 = c2 .before .before in
     let c8 = c4 .before .before .before .before in
     let a = (c8 .args) in
-    let r = registersOf (a .own .now) (a .addresses .now) (a .values .now) in
+    let r = registersOf (a .slots .now) (a .addresses .now) (a .values .now) in
     let d = partsIn (a .cells .now) (a .floats .now) .devices in
     read-gpio r (a .ram .now) (a .sram .now) (a .gpio .now) d (a .addr) (a .size) (c4 .locate .ensures)
     (c2 .place3 .given .1) (c .get3 .ensures)
@@ -44,7 +44,7 @@ returns-4 c =
     let c5 = c2 .before .before .before in
     let c9 = c5 .before .before .before .before in
     let a = (c9 .args) in
-    let r = registersOf (a .own .now) (a .addresses .now) (a .values .now) in
+    let r = registersOf (a .slots .now) (a .addresses .now) (a .values .now) in
     let d = partsIn (a .cells .now) (a .floats .now) .devices in
     read-size r (a .ram .now) (a .sram .now) (a .gpio .now) d (a .addr) (a .size) (c5 .locate .ensures)
     (c2 .good-size .ensures) (c .before .if1 .taken) (c .bad-size .ensures)
@@ -57,7 +57,7 @@ returns-5 c =
     let c6 = c4 .before .before in
     let c10 = c6 .before .before .before .before in
     let a = (c10 .args) in
-    let r = registersOf (a .own .now) (a .addresses .now) (a .values .now) in
+    let r = registersOf (a .slots .now) (a .addresses .now) (a .values .now) in
     let d = partsIn (a .cells .now) (a .floats .now) .devices in
     read-register r (a .ram .now) (a .sram .now) (a .gpio .now) d (a .addr) (a .size) (c6 .locate .ensures)
     (c3 .good-size .ensures) (c2 .if1 .left) (c4 .enum-told .given .1) (c .mmio-read .ensures)
@@ -68,7 +68,7 @@ returns-6 c =
     let c5 = c2 .before .before .before in
     let c9 = c5 .before .before .before .before in
     let a = (c9 .args) in
-    let r = registersOf (a .own .now) (a .addresses .now) (a .values .now) in
+    let r = registersOf (a .slots .now) (a .addresses .now) (a .values .now) in
     let d = partsIn (a .cells .now) (a .floats .now) .devices in
     read-size r (a .ram .now) (a .sram .now) (a .gpio .now) d (a .addr) (a .size) (c5 .locate .ensures)
     (c2 .good-size2 .ensures) (c .before .if2 .taken) (c .bad-size2 .ensures)
@@ -79,7 +79,7 @@ returns-7 c =
     let c4 = c2 .before .before in
     let c8 = c4 .before .before .before .before in
     let a = (c8 .args) in
-    let r = registersOf (a .own .now) (a .addresses .now) (a .values .now) in
+    let r = registersOf (a .slots .now) (a .addresses .now) (a .values .now) in
     let d = partsIn (a .cells .now) (a .floats .now) .devices in
     read-stray r (a .ram .now) (a .sram .now) (a .gpio .now) d (a .addr) (a .size) (c4 .locate .ensures) (c
     .before .good-size2 .ensures) (c .if2 .left) (c2 .enum-told2 .given .1)

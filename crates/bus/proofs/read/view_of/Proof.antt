@@ -19,7 +19,7 @@ returns c =
     let c6 = c3 .before .before .before in
     let a = (c6 .args) in
     let d = partsIn (a .cells .now) (a .floats .now) .devices in
-    view-counter (a .s) ((c6 .pre) .0) (a .own .now) d
+    view-counter (a .s) ((c6 .pre) .0) (a .slots .now) d
     (clockIn (a .sram .now)) (a .old) ((c6 .pre) .1)
     (c3 .enum-told .given .1) (c2 .sysclk-var .ensures)
     (c .counter-read .ensures)

@@ -1,4 +1,4 @@
-use Rattle.bus.proofs.Cases.{command-ran}
+use Rattle.bus.proofs.Cases.{command-done}
 use borrow.Author.Needs.{needs}
 use Rattle.bus.proofs.rtc.command_write.Statement.{statement}
 use Rattle.bus.proofs.rtc.command_write.Tie as tie
@@ -10,7 +10,7 @@ returns c =
     let c6 = c4 .before .before in
     let c8 = c6 .before .before in
     let a = (c8 .args) in
-    command-ran (a .own .now) _ (a .game) (a .new) (c6 .own-insert .ensures)
+    command-done (a .slots .now) _ (a .game) (a .new) (c6 .own-insert .ensures)
     (c4 .own-reg .ensures) (c2 .own-reg2 .ensures) (c .rtc-command .ensures)
 
 pub command-write-spec : {M : Type 1} → statement M

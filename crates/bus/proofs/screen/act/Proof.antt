@@ -19,7 +19,7 @@ returns c =
     let c7 = c6 .before in
     let c13 = c7 .before .before .before .before .before .before in
     let a = (c13 .args) in
-    let r = registersOf (a .own .now) (a .addresses .now) (a .values .now) in
+    let r = registersOf (a .slots .now) (a .addresses .now) (a .values .now) in
     let s = screen (panelIn (a .cells .now)) (a .fb .now) in
     let q = panel-put _ (c .put-panel .ensures) in (
       act-command r (a .ram .now) (a .sram .now) (a .gpio .now) s (a .val) (c7 .own-reg .ensures) (c6 .match .keys1)
@@ -36,7 +36,7 @@ returns-2 c =
     let c6 = c5 .before in
     let c12 = c6 .before .before .before .before .before .before in
     let a = (c12 .args) in
-    let r = registersOf (a .own .now) (a .addresses .now) (a .values .now) in
+    let r = registersOf (a .slots .now) (a .addresses .now) (a .values .now) in
     let s = screen (panelIn (a .cells .now)) (a .fb .now) in
     let d = (c2 .feed .ensures) in (
       act-data r (a .ram .now) (a .sram .now) (a .gpio .now) s (a .val) (c6 .own-reg .ensures) (c5 .match .keys2)
@@ -50,7 +50,7 @@ returns-3 c =
     let c6 = c2 .before .before .before .before in
     let c13 = c6 .before .before .before .before .before .before .before in
     let a = (c13 .args) in
-    let r = registersOf (a .own .now) (a .addresses .now) (a .values .now) in
+    let r = registersOf (a .slots .now) (a .addresses .now) (a .values .now) in
     let s = screen (panelIn (a .cells .now)) (a .fb .now) in
     let d = (c2 .lcd-dma .ensures) in
     (act-dma r (a .ram .now) (a .sram .now) (a .gpio .now) s (a .val) (c6 .match .keys3) (d .0), d .1)
@@ -59,7 +59,7 @@ returns-4 : tie.Need-returns-4
 returns-4 c =
     let c7 = c .before .before .before .before .before .before .before in
     let a = (c7 .args) in
-    let r = registersOf (a .own .now) (a .addresses .now) (a .values .now) in
+    let r = registersOf (a .slots .now) (a .addresses .now) (a .values .now) in
     let s = screen (panelIn (a .cells .now)) (a .fb .now) in (
       act-none r (a .ram .now) (a .sram .now) (a .gpio .now) s (a .val) (c .match .rest .0 .0 .1)
           (c .match .rest .0 .1) (c .match .rest .1),

@@ -1,4 +1,5 @@
-use Rattle.bus.proofs.Cases.{dma-none, dma-done, block-bytes}
+use Rattle.block.proofs.Cases.{block-bytes}
+use Rattle.bus.proofs.Cases.{dma-none, dma-done}
 use Rattle.bus.proofs.Drawn.{panel-put, panel-same}
 use Rattle.panel.specs.declared.Panel.{Panel}
 use Rattle.panel.specs.Lcd.{counted}
@@ -15,7 +16,7 @@ returns c =
     let c1 = c .before in
     let c7 = c1 .before .before .before .before .before .before in
     let a = (c7 .args) in
-    let r = registersOf (a .own .now) (a .addresses .now) (a .values .now) in
+    let r = registersOf (a .slots .now) (a .addresses .now) (a .values .now) in
     let s = screen (panelIn (a .cells .now)) (a .fb .now) in (
       dma-none r (a .ram .now) (a .sram .now) (a .gpio .now) s (c1 .own-reg .ensures) (c .if1 .taken),
       panel-same (a .cells .now),
@@ -32,7 +33,7 @@ returns-2 c =
     let c15 = c14 .before in
     let c21 = c15 .before .before .before .before .before .before in
     let a = (c21 .args) in
-    let r = registersOf (a .own .now) (a .addresses .now) (a .values .now) in
+    let r = registersOf (a .slots .now) (a .addresses .now) (a .values .now) in
     let s = screen (panelIn (a .cells .now)) (a .fb .now) in
     let q = panel-put _ (c .put-panel .ensures) in (
       dma-done r (a .ram .now) (a .sram .now) (a .gpio .now) s (c15 .own-reg .ensures) (c14 .if1 .left)

@@ -13,7 +13,7 @@ returns c =
     let c1 = c .before in
     let c7 = c1 .before .before .before .before .before .before in
     let a = (c7 .args) in
-    let r = registersOf (a .own .now) (a .addresses .now) (a .values .now) in
+    let r = registersOf (a .slots .now) (a .addresses .now) (a .values .now) in
     let s = screen (panelIn (a .cells .now)) (a .fb .now) in (
       control-idle r (a .ram .now) (a .sram .now) (a .gpio .now) s (a .val) (c1 .own-insert .ensures)
           (has-not (a .val) 1 (c .if1 .taken)),
@@ -27,7 +27,7 @@ returns-2 c =
     let c9 = c8 .before in
     let c15 = c9 .before .before .before .before .before .before in
     let a = (c15 .args) in
-    let r = registersOf (a .own .now) (a .addresses .now) (a .values .now) in
+    let r = registersOf (a .slots .now) (a .addresses .now) (a .values .now) in
     let s = screen (panelIn (a .cells .now)) (a .fb .now) in
     let d = (c4 .act .ensures) in (
       control-act r (a .ram .now) (a .sram .now) (a .gpio .now) s (a .val) (c9 .own-insert .ensures)

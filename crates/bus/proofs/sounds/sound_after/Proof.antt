@@ -1,6 +1,7 @@
 use native.Mathlib.Omega.{arith}
 use mathlib.Core.Path.{_≡_, refl}
 use lib.Dec.{eqb}
+use Rattle.map.specs.Numbers.{SOUND-CONTROL, SOUND-RELOAD, SOUND-COMPARE}
 use Rattle.registers.specs.Ports.{wordsFrom, namedWords, namedRows, ownWords, slotWord}
 use Rattle.bus.specs.Sounds.{soundOf}
 use Rattle.bus.proofs.Slots.{slot-is}
@@ -18,9 +19,9 @@ returns c =
     let c6 = c5 .before in
     let c7 = c6 .before in
     let s = (c7 .args .s) in
-    let p : eqb (slotWord s) 0xC0020080 ≡ eqb s 32 = slot-is s (c7 .pre) 32 0xC0020080 (omega arith) refl in
-    let q : eqb (slotWord s) 0xC0020088 ≡ eqb s 34 = slot-is s (c7 .pre) 34 0xC0020088 (omega arith) refl in
-    let o : eqb (slotWord s) 0xC002008C ≡ eqb s 35 = slot-is s (c7 .pre) 35 0xC002008C (omega arith) refl in
+    let p : eqb (slotWord s) SOUND-CONTROL ≡ eqb s 32 = slot-is s (c7 .pre) 32 SOUND-CONTROL (omega arith) refl in
+    let q : eqb (slotWord s) SOUND-RELOAD ≡ eqb s 34 = slot-is s (c7 .pre) 34 SOUND-RELOAD (omega arith) refl in
+    let o : eqb (slotWord s) SOUND-COMPARE ≡ eqb s 35 = slot-is s (c7 .pre) 35 SOUND-COMPARE (omega arith) refl in
     rw (
       p,
       q,

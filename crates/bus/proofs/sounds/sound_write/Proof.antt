@@ -14,7 +14,7 @@ returns c =
     let c7 = c5 .before .before in
     let a = (c7 .args) in
     let x = partsIn (a .cells .now) (a .floats .now) in (
-      sound-full (a .own .now) x (a .clock) (a .full) (slotWord (a .s)) (a .stored) (c5 .tone-of .ensures)
+      sound-full (a .slots .now) x (a .clock) (a .full) (slotWord (a .s)) (a .stored) (c5 .tone-of .ensures)
           (c3 .sound-after .ensures) (c .before .enum-told .given .1) (c .refused .ensures),
       rest-none (quiet
           (c .refused .ensures)),
@@ -28,9 +28,9 @@ returns-2 c =
     let c9 = c7 .before .before in
     let a = (c9 .args) in
     let x = partsIn (a .cells .now) (a .floats .now) in (
-      sound-same (a .own .now) x (a .clock) (a .full) (slotWord (a .s)) (a .stored) (c7 .tone-of .ensures)
+      sound-same (a .slots .now) x (a .clock) (a .full) (slotWord (a .s)) (a .stored) (c7 .tone-of .ensures)
           (c5 .sound-after .ensures) (c3 .enum-told2 .given .1) ((c .before .slot-set .ensures) ∙ slot-stored (a .s)
-          (c9 .pre) (a .own .now) (a .stored)) (c .accepted .ensures),
+          (c9 .pre) (a .slots .now) (a .stored)) (c .accepted .ensures),
       rest-none (quiet (c .accepted .ensures)),
     )
 
@@ -44,9 +44,9 @@ returns-3 c =
     let a = (c11 .args) in
     let x = partsIn (a .cells .now) (a .floats .now) in
     let p = (c .put-tone .ensures) (a .cells .now) in (
-      sound-change (a .own .now) x (a .clock) (a .full) (slotWord (a .s)) (a .stored) (c9 .tone-of .ensures)
+      sound-change (a .slots .now) x (a .clock) (a .full) (slotWord (a .s)) (a .stored) (c9 .tone-of .ensures)
           (c7 .sound-after .ensures) (c5 .sounded .given .1) ((c2 .slot-set2 .ensures) ∙ slot-stored (a .s) (c11 .pre)
-          (a .own .now) (a .stored)) (p .parts),
+          (a .slots .now) (a .stored)) (p .parts),
       rest-put refl (only-put (p .parts)) (p .packed),
     )
 

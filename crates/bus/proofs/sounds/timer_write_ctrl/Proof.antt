@@ -19,7 +19,7 @@ returns c =
     let c13 = c10 .before .before .before in
     let a = (c13 .args) in
     let x = partsIn (a .cells .now) (a .floats .now) in (
-      timer-refused (a .own .now) x (a .clock) (a .full) (a .s / 8) (slotWord (a .s)) (a .old) (a .new)
+      timer-refused (a .slots .now) x (a .clock) (a .full) (a .s / 8) (slotWord (a .s)) (a .old) (a .new)
           (c10 .timer-of .ensures) (c8 .times-of .ensures) (c7 .write-ctrl .ensures) (c6 .if1 .taken)
           (c2 .sound-write .ensures .0) (c .if2 .taken),
       (c2 .sound-write .ensures .1),
@@ -38,7 +38,7 @@ returns-2 c =
     let x = partsIn (a .cells .now) (a .floats .now) in
     let y = (c5 .sound-write .ensures) in
     let p = (c .put-timer .ensures) in (
-      timer-sounds (a .own .now) x (a .clock) (a .full) (a .s / 8) (slotWord (a .s)) (a .old) (a .new)
+      timer-sounds (a .slots .now) x (a .clock) (a .full) (a .s / 8) (slotWord (a .s)) (a .old) (a .new)
           (c13 .timer-of .ensures) (c11 .times-of .ensures) (c10 .write-ctrl .ensures) (c9 .if1 .taken) (y .0)
           (c3 .if2 .left) (devices-put (partsIn (a .cells .now) _) (p .parts)),
       rest-put (c3 .if2 .left) (only-then
@@ -56,9 +56,9 @@ returns-3 c =
     let a = (c13 .args) in
     let x = partsIn (a .cells .now) (a .floats .now) in
     let p = (c .before .put-timer2 .ensures) in (
-      timer-plain (a .own .now) x (a .clock) (a .full) (a .s / 8) (slotWord (a .s)) (a .old) (a .new)
+      timer-plain (a .slots .now) x (a .clock) (a .full) (a .s / 8) (slotWord (a .s)) (a .old) (a .new)
           (c10 .timer-of .ensures) (c8 .times-of .ensures) (c7 .write-ctrl .ensures) (c6 .if1 .left)
-          ((c4 .slot-set .ensures) ∙ slot-stored (a .s) (c13 .pre) (a .own .now) _) (p .parts) (c .accepted .ensures),
+          ((c4 .slot-set .ensures) ∙ slot-stored (a .s) (c13 .pre) (a .slots .now) _) (p .parts) (c .accepted .ensures),
       rest-put (done-number (c .accepted .ensures)) (only-put (p .parts)) (p .packed),
     )
 

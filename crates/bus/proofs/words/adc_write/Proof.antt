@@ -14,7 +14,7 @@ returns c =
     let a = (c9 .args) in
     let x = partsIn (a .cells .now) (a .floats .now) in
     let p = (c .put-converting .ensures) (a .floats .now) in (
-      adc-done (a .own .now) x (a .old) (a .new) (c7 .converting-of .ensures) (c5 .own-reg .ensures)
+      adc-done (a .slots .now) x (a .old) (a .new) (c7 .converting-of .ensures) (c5 .own-reg .ensures)
           (c4 .adc-write-ctrl .ensures) (c2 .own-insert .ensures) (p .parts),
       only-put (p .parts),
       p .packed,

@@ -10,7 +10,7 @@ returns c =
     let c6 = c4 .before .before in
     let c8 = c6 .before .before in
     let a = (c8 .args) in
-    spi-done (a .own .now) (a .new) (c6 .own-insert .ensures)
+    spi-done (a .slots .now) (a .new) (c6 .own-insert .ensures)
     (c4 .own-insert2 .ensures) (c2 .own-reg .ensures) (c .own-insert3 .ensures)
 
 pub spi-sent-spec : {M : Type 1} → statement M

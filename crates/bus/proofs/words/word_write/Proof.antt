@@ -19,7 +19,7 @@ returns c =
     let c8 = c5 .before .before .before in
     let a = (c8 .args) in
     let x = partsIn (a .cells .now) (a .floats .now) in (
-      word-control (a .own .now) x (clockIn (a .sram .now)) (a .full) (a .s) (a .old) (a .new) (a .part)
+      word-control (a .slots .now) x (clockIn (a .sram .now)) (a .full) (a .s) (a .old) (a .new) (a .part)
           ((c8 .pre) .0)
           ((c8 .pre) .1)
           (c5 .enum-told .given .1)
@@ -45,7 +45,7 @@ returns-3 c =
     let c8 = c5 .before .before .before in
     let a = (c8 .args) in
     let x = partsIn (a .cells .now) (a .floats .now) in (
-      word-sounds (a .own .now) x (clockIn (a .sram .now)) (a .full) (a .s) (a .old) (a .new) (a .part)
+      word-sounds (a .slots .now) x (clockIn (a .sram .now)) (a .full) (a .s) (a .old) (a .new) (a .part)
           ((c8 .pre) .0)
           (c5 .enum-told3 .given .1)
           (c4 .sysclk-var2 .ensures) ((c .sound-write .ensures) .0),
@@ -59,7 +59,7 @@ returns-4 c =
     let a = (c5 .args) in
     let x = partsIn (a .cells .now) (a .floats .now) in
     let p = (c .store-word .ensures) in (
-      word-lcd (a .own .now) x (clockIn (a .sram .now)) (a .full) (a .s) (a .old) (a .new) (a .part)
+      word-lcd (a .slots .now) x (clockIn (a .sram .now)) (a .full) (a .s) (a .old) (a .new) (a .part)
           ((c5 .pre) .0) (p .1) (c2 .enum-told4 .given .1) (p .0),
       rest-none (quiet (p .1)),
     )
@@ -71,7 +71,7 @@ returns-5 c =
     let a = (c5 .args) in
     let x = partsIn (a .cells .now) (a .floats .now) in
     let p = (c .store-word2 .ensures) in (
-      word-tick (a .own .now) x (clockIn (a .sram .now)) (a .full) (a .s) (a .old) (a .new) (a .part)
+      word-tick (a .slots .now) x (clockIn (a .sram .now)) (a .full) (a .s) (a .old) (a .new) (a .part)
           ((c5 .pre) .0) (p .1) (c2 .enum-told5 .given .1) (p .0),
       rest-none (quiet (p .1)),
     )
@@ -83,7 +83,7 @@ returns-6 c =
     let a = (c8 .args) in
     let x = partsIn (a .cells .now) (a .floats .now) in
     let p = (c .before .adc-write .ensures) in (
-      word-adc (a .own .now) x (clockIn (a .sram .now)) (a .full) (a .s) (a .old) (a .new) (a .part)
+      word-adc (a .slots .now) x (clockIn (a .sram .now)) (a .full) (a .s) (a .old) (a .new) (a .part)
           ((c8 .pre) .0) (c .accepted2 .ensures)
           (c5 .enum-told6 .given .1) (p .0),
       rest-put (done-number (c .accepted2 .ensures)) (p .1) (p .2),
@@ -98,7 +98,7 @@ returns-7 c =
     let x = partsIn (a .cells .now) (a .floats .now) in
     let p = (c2 .power .ensures) in
     let q = (c .store-word3 .ensures) in (
-      word-power (a .own .now) x (clockIn (a .sram .now)) (a .full) (a .s) (a .old) (a .new) (a .part)
+      word-power (a .slots .now) x (clockIn (a .sram .now)) (a .full) (a .s) (a .old) (a .new) (a .part)
           ((c8 .pre) .0) (q .1)
           (c5 .enum-told7 .given .1) (q .0) (p .0),
       rest-put (done-number (q .1)) (only-put (p .0)) (p .1),
@@ -110,7 +110,7 @@ returns-8 c =
     let c6 = c3 .before .before .before in
     let a = (c6 .args) in
     let x = partsIn (a .cells .now) (a .floats .now) in (
-      word-spi (a .own .now) x (clockIn (a .sram .now)) (a .full) (a .s) (a .old) (a .new) (a .part)
+      word-spi (a .slots .now) x (clockIn (a .sram .now)) (a .full) (a .s) (a .old) (a .new) (a .part)
           ((c6 .pre) .0) (c .accepted3 .ensures)
           (c3 .enum-told8 .given .1) (c .before .spi-sent .ensures),
       rest-none (quiet (c .accepted3 .ensures)),

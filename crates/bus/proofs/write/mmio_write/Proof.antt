@@ -21,7 +21,7 @@ returns c =
     let c19 = c18 .before in
     let c24 = c19 .before .before .before .before .before in
     let a = (c24 .args) in
-    let r = registersOf (a .own .now) (a .addresses .now) (a .values .now) in
+    let r = registersOf (a .slots .now) (a .addresses .now) (a .values .now) in
     let x = partsIn (a .cells .now) (a .floats .now) in
     let w = world r (a .rtc .now) (a .page .now) (a .ram .now) (a .sram .now) (a .gpio .now) (a .fb .now)
     (x .devices) in (
@@ -44,7 +44,7 @@ returns-2 c =
     let c7 = c6 .before in
     let c12 = c7 .before .before .before .before .before in
     let a = (c12 .args) in
-    let r = registersOf (a .own .now) (a .addresses .now) (a .values .now) in
+    let r = registersOf (a .slots .now) (a .addresses .now) (a .values .now) in
     let x = partsIn (a .cells .now) (a .floats .now) in
     let w = world r (a .rtc .now) (a .page .now) (a .ram .now) (a .sram .now) (a .gpio .now) (a .fb .now)
     (x .devices) in

@@ -17,7 +17,7 @@ returns c =
     let a = (c11 .args) in
     let x = partsIn (a .cells .now) (a .floats .now) in
     let p = (c .put-ring .ensures) (a .floats .now) in
-    let n = noted-put (a .at .now) (a .frequencies .now) (a .duties .now) x (c10 .if1 .taken) (c8 .ring-of .ensures)
+    let n = noted-put (a .onsets .now) (a .frequencies .now) (a .duties .now) x (c10 .if1 .taken) (c8 .ring-of .ensures)
     (c7 .times-of .ensures) (c6 .tone-of .ensures)
     (c2 .put-in .ensures) (p .parts)
     in
@@ -27,7 +27,7 @@ returns-2 : tie.Need-returns-2
 returns-2 c =
     let a = (c .before .args) in
     let x = partsIn (a .cells .now) (a .floats .now) in
-    let n = noted-none (a .at .now) (a .frequencies .now) (a .duties .now) x (c .if1 .left) in
+    let n = noted-none (a .onsets .now) (a .frequencies .now) (a .duties .now) x (c .if1 .left) in
     (n .0, n .1, λ k. k, λ h. refl)
 
 pub note-spec : {M : Type 1} → statement M

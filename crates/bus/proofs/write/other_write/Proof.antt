@@ -2,7 +2,7 @@ use mathlib.Core.Path.{sym, _∙_}
 use Rattle.registers.specs.Words.{registersOf}
 use Rattle.state.specs.Bank.{partsIn}
 use Rattle.bus.proofs.BankedWords.{only-put, done-number, quiet, rest-put, rest-none}
-use Rattle.bus.proofs.BankedWrites.{other-day, other-none, other-put-held, other-put-absent, other-own}
+use Rattle.bus.proofs.BankedWrites.{other-day, other-none, other-put-present, other-put-absent, other-own}
 use borrow.Author.Needs.{needs}
 use Rattle.bus.proofs.write.other_write.Statement.{statement}
 use Rattle.bus.proofs.write.other_write.Tie as tie
@@ -21,7 +21,7 @@ returns c =
     let c7 = c6 .before in
     let c8 = c7 .before in
     let a = (c8 .args) in
-    let r = registersOf (a .own .now) (a .addresses .now) (a .values .now) in
+    let r = registersOf (a .slots .now) (a .addresses .now) (a .values .now) in
     let x = partsIn (a .cells .now) (a .floats .now) in
     let p = (c .before .tod-write .ensures) in (
       other-day r x (a .word) (c8 .pre)
@@ -38,7 +38,7 @@ returns-2 c =
     let c6 = c5 .before in
     let c7 = c6 .before in
     let a = (c7 .args) in
-    let r = registersOf (a .own .now) (a .addresses .now) (a .values .now) in
+    let r = registersOf (a .slots .now) (a .addresses .now) (a .values .now) in
     let x = partsIn (a .cells .now) (a .floats .now) in
     absurd (other-own r x (a .word) (c7 .pre)
     (c6 .day-word .ensures) (a .addr) (a .size) (a .value)
@@ -52,7 +52,7 @@ returns-3 c =
     let c6 = c5 .before in
     let c7 = c6 .before in
     let a = (c7 .args) in
-    let r = registersOf (a .own .now) (a .addresses .now) (a .values .now) in
+    let r = registersOf (a .slots .now) (a .addresses .now) (a .values .now) in
     let x = partsIn (a .cells .now) (a .floats .now) in (
       other-none r x (a .word) (c7 .pre)
           (c6 .day-word .ensures) (a .addr) (a .size) (a .value)
@@ -71,12 +71,12 @@ returns-4 c =
     let c13 = c12 .before in
     let c14 = c13 .before in
     let a = (c14 .args) in
-    let r = registersOf (a .own .now) (a .addresses .now) (a .values .now) in
+    let r = registersOf (a .slots .now) (a .addresses .now) (a .values .now) in
     let x = partsIn (a .cells .now) (a .floats .now) in (
-      other-put-held r x (a .word)
+      other-put-present r x (a .word)
           (c14 .pre) (c13 .day-word .ensures) (a .addr) (a .size) (a .value) (c12 .if1 .left)
           (c10 .find-other .ensures) _ (c .accepted4 .ensures) (c8 .spot .given .1) (c5 .place-get .ensures)
-          (c2 .merged2 .ensures) (c .before .put-held .ensures),
+          (c2 .merged2 .ensures) (c .before .put-present .ensures),
       rest-none (quiet (c .accepted4 .ensures)),
     )
 
@@ -89,7 +89,7 @@ returns-5 c =
     let c11 = c10 .before in
     let c12 = c11 .before in
     let a = (c12 .args) in
-    let r = registersOf (a .own .now) (a .addresses .now) (a .values .now) in
+    let r = registersOf (a .slots .now) (a .addresses .now) (a .values .now) in
     let x = partsIn (a .cells .now) (a .floats .now) in (
       other-put-absent r x (a .word)
           (c12 .pre)

@@ -19,7 +19,7 @@ returns c =
     let c13 = c11 .before .before in
     let c18 = c13 .before .before .before .before .before in
     let a = (c18 .args) in
-    let r = registersOf (a .own .now) (a .addresses .now) (a .values .now) in
+    let r = registersOf (a .slots .now) (a .addresses .now) (a .values .now) in
     let x = partsIn (a .cells .now) (a .floats .now) in
     let p = (c .before .put-chip .ensures) (a .floats .now) in (
       port-select r (a .rtc .now) (a .page .now) (a .ram .now) (a .sram .now) (a .gpio .now) (a .fb .now) x (a .full)
@@ -37,7 +37,7 @@ returns-2 c =
     let c11 = c9 .before .before in
     let c16 = c11 .before .before .before .before .before in
     let a = (c16 .args) in
-    let r = registersOf (a .own .now) (a .addresses .now) (a .values .now) in
+    let r = registersOf (a .slots .now) (a .addresses .now) (a .values .now) in
     let x = partsIn (a .cells .now) (a .floats .now) in
     let p = (c .before .put-sent .ensures) (a .floats .now) in (
       port-send r (a .rtc .now) (a .page .now) (a .ram .now) (a .sram .now) (a .gpio .now) (a .fb .now) x (a .full)
@@ -54,7 +54,7 @@ returns-3 c =
     let c12 = c10 .before .before in
     let c17 = c12 .before .before .before .before .before in
     let a = (c17 .args) in
-    let r = registersOf (a .own .now) (a .addresses .now) (a .values .now) in
+    let r = registersOf (a .slots .now) (a .addresses .now) (a .values .now) in
     let x = partsIn (a .cells .now) (a .floats .now) in
     let d = (c3 .lcd-write-ctrl .ensures) in
     let p = d .1 .parts (a .floats .now) in (
@@ -73,7 +73,7 @@ returns-4 c =
     let c14 = c12 .before .before in
     let c19 = c14 .before .before .before .before .before in
     let a = (c19 .args) in
-    let r = registersOf (a .own .now) (a .addresses .now) (a .values .now) in
+    let r = registersOf (a .slots .now) (a .addresses .now) (a .values .now) in
     let x = partsIn (a .cells .now) (a .floats .now) in
     let p = (c .before .put-latch .ensures) in (
       port-rtc r (a .rtc .now) (a .page .now) (a .ram .now) (a .sram .now) (a .gpio .now) (a .fb .now) x (a .full)
@@ -100,7 +100,7 @@ returns-5 c =
     let c7 = c5 .before .before in
     let c12 = c7 .before .before .before .before .before in
     let a = (c12 .args) in
-    let r = registersOf (a .own .now) (a .addresses .now) (a .values .now) in
+    let r = registersOf (a .slots .now) (a .addresses .now) (a .values .now) in
     let x = partsIn (a .cells .now) (a .floats .now) in (
       port-acts (world r (a .rtc .now) (a .page .now) (a .ram .now) (a .sram .now) (a .gpio .now) (a .fb .now)
           (x .devices)) (a .full) (slotWord (a .s)) (a .old) (a .new) (a .part) _
@@ -111,51 +111,30 @@ returns-5 c =
 
 returns-6 : tie.Need-returns-6
 returns-6 c =
-    let c2 = c .before .before in
-    let c4 = c2 .before .before in
-    let c9 = c4 .before .before .before .before .before in
-    let a = (c9 .args) in
-    let r = registersOf (a .own .now) (a .addresses .now) (a .values .now) in
-    let x = partsIn (a .cells .now) (a .floats .now) in (
-      port-holds (world r (a .rtc .now) (a .page .now) (a .ram .now) (a .sram .now) (a .gpio .now) (a .fb .now)
-          (x .devices)) (a .full) (a .s) (a .old) (a .new) (a .part) (Shows _)
-          (c9 .pre)
-          (port-slot (a .s) (c9 .pre) ∙ sym
-          (c4 .port-at .ensures) ∙ (c2 .enum-told5 .given .1)) tt
+    let c4 = c .before .before .before .before in
+    let c9 = c4 .before .before .before .before .before in (
+      port-holds _ _ _ _ _ _ (Shows _) (c9 .pre)
+          (port-slot _ (c9 .pre) ∙ sym (c4 .port-at .ensures) ∙ (c .before .before .enum-told5 .given .1)) tt
           (c .store-word .ensures),
       rest-none (quiet ((c .store-word .ensures) .1)),
     )
 
 returns-7 : tie.Need-returns-7
 returns-7 c =
-    let c2 = c .before .before in
-    let c4 = c2 .before .before in
-    let c9 = c4 .before .before .before .before .before in
-    let a = (c9 .args) in
-    let r = registersOf (a .own .now) (a .addresses .now) (a .values .now) in
-    let x = partsIn (a .cells .now) (a .floats .now) in (
-      port-holds (world r (a .rtc .now) (a .page .now) (a .ram .now) (a .sram .now) (a .gpio .now) (a .fb .now)
-          (x .devices)) (a .full) (a .s) (a .old) (a .new) (a .part) Holds
-          (c9 .pre)
-          (port-slot (a .s) (c9 .pre) ∙ sym
-          (c4 .port-at .ensures) ∙ (c2 .enum-told6 .given .1)) tt
+    let c4 = c .before .before .before .before in
+    let c9 = c4 .before .before .before .before .before in (
+      port-holds _ _ _ _ _ _ Holds (c9 .pre)
+          (port-slot _ (c9 .pre) ∙ sym (c4 .port-at .ensures) ∙ (c .before .before .enum-told6 .given .1)) tt
           (c .store-word2 .ensures),
       rest-none (quiet ((c .store-word2 .ensures) .1)),
     )
 
 returns-8 : tie.Need-returns-8
 returns-8 c =
-    let c2 = c .before .before in
-    let c4 = c2 .before .before in
-    let c9 = c4 .before .before .before .before .before in
-    let a = (c9 .args) in
-    let r = registersOf (a .own .now) (a .addresses .now) (a .values .now) in
-    let x = partsIn (a .cells .now) (a .floats .now) in (
-      port-holds (world r (a .rtc .now) (a .page .now) (a .ram .now) (a .sram .now) (a .gpio .now) (a .fb .now)
-          (x .devices)) (a .full) (a .s) (a .old) (a .new) (a .part) Other
-          (c9 .pre)
-          (port-slot (a .s) (c9 .pre) ∙ sym
-          (c4 .port-at .ensures) ∙ (c2 .enum-told7 .given .1)) tt
+    let c4 = c .before .before .before .before in
+    let c9 = c4 .before .before .before .before .before in (
+      port-holds _ _ _ _ _ _ Other (c9 .pre)
+          (port-slot _ (c9 .pre) ∙ sym (c4 .port-at .ensures) ∙ (c .before .before .enum-told7 .given .1)) tt
           (c .store-word3 .ensures),
       rest-none (quiet ((c .store-word3 .ensures) .1)),
     )

@@ -13,7 +13,7 @@ returns c =
     let c7 = c5 .before .before in
     let c12 = c7 .before .before .before .before .before in
     let a = (c12 .args) in
-    let r = registersOf (a .own .now) (a .addresses .now) (a .values .now) in
+    let r = registersOf (a .slots .now) (a .addresses .now) (a .values .now) in
     let x = partsIn (a .cells .now) (a .floats .now) in (
       write-ram r (a .rtc .now) (a .page .now) (a .ram .now) (a .sram .now) (a .gpio .now) (a .fb .now)
           (x .devices) (a .full) (a .addr) (a .size) (a .value) (c7 .locate .ensures) (c2 .put .ensures .1)
@@ -28,7 +28,7 @@ returns-2 c =
     let c7 = c5 .before .before in
     let c12 = c7 .before .before .before .before .before in
     let a = (c12 .args) in
-    let r = registersOf (a .own .now) (a .addresses .now) (a .values .now) in
+    let r = registersOf (a .slots .now) (a .addresses .now) (a .values .now) in
     let x = partsIn (a .cells .now) (a .floats .now) in (
       write-sram r (a .rtc .now) (a .page .now) (a .ram .now) (a .sram .now) (a .gpio .now) (a .fb .now)
           (x .devices) (a .full) (a .addr) (a .size) (a .value) (c7 .locate .ensures) (c2 .put2 .ensures .1)
@@ -43,7 +43,7 @@ returns-3 c =
     let c7 = c5 .before .before in
     let c12 = c7 .before .before .before .before .before in
     let a = (c12 .args) in
-    let r = registersOf (a .own .now) (a .addresses .now) (a .values .now) in
+    let r = registersOf (a .slots .now) (a .addresses .now) (a .values .now) in
     let x = partsIn (a .cells .now) (a .floats .now) in (
       write-gpio r (a .rtc .now) (a .page .now) (a .ram .now) (a .sram .now) (a .gpio .now) (a .fb .now)
           (x .devices) (a .full) (a .addr) (a .size) (a .value) (c7 .locate .ensures) (c2 .put3 .ensures .1)
@@ -57,7 +57,7 @@ returns-4 c =
     let c5 = c2 .before .before .before in
     let c10 = c5 .before .before .before .before .before in
     let a = (c10 .args) in
-    let r = registersOf (a .own .now) (a .addresses .now) (a .values .now) in
+    let r = registersOf (a .slots .now) (a .addresses .now) (a .values .now) in
     let x = partsIn (a .cells .now) (a .floats .now) in (
       write-size r (a .rtc .now) (a .page .now) (a .ram .now) (a .sram .now) (a .gpio .now) (a .fb .now)
           (x .devices) (a .full) (a .addr) (a .size) (a .value) (c5 .locate .ensures) (c2 .good-size .ensures) (c
@@ -75,7 +75,7 @@ returns-5 c =
     let c20 = c18 .before .before in
     let c25 = c20 .before .before .before .before .before in
     let a = (c25 .args) in
-    let r = registersOf (a .own .now) (a .addresses .now) (a .values .now) in
+    let r = registersOf (a .slots .now) (a .addresses .now) (a .values .now) in
     let x = partsIn (a .cells .now) (a .floats .now) in (
       write-register r (a .rtc .now) (a .page .now) (a .ram .now) (a .sram .now) (a .gpio .now) (a .fb .now)
           (x .devices) (a .full) (a .addr) (a .size) (a .value) (c20 .locate .ensures) (c17 .good-size .ensures)
@@ -89,7 +89,7 @@ returns-6 c =
     let c5 = c2 .before .before .before in
     let c10 = c5 .before .before .before .before .before in
     let a = (c10 .args) in
-    let r = registersOf (a .own .now) (a .addresses .now) (a .values .now) in
+    let r = registersOf (a .slots .now) (a .addresses .now) (a .values .now) in
     let x = partsIn (a .cells .now) (a .floats .now) in (
       write-size r (a .rtc .now) (a .page .now) (a .ram .now) (a .sram .now) (a .gpio .now) (a .fb .now)
           (x .devices) (a .full) (a .addr) (a .size) (a .value) (c5 .locate .ensures) (c2 .good-size2 .ensures) (c
@@ -104,7 +104,7 @@ returns-7 c =
     let c5 = c3 .before .before in
     let c10 = c5 .before .before .before .before .before in
     let a = (c10 .args) in
-    let r = registersOf (a .own .now) (a .addresses .now) (a .values .now) in
+    let r = registersOf (a .slots .now) (a .addresses .now) (a .values .now) in
     let x = partsIn (a .cells .now) (a .floats .now) in (
       write-stray r (a .rtc .now) (a .page .now) (a .ram .now) (a .sram .now) (a .gpio .now) (a .fb .now)
           (x .devices) (a .full) (a .addr) (a .size) (a .value) (c5 .locate .ensures) (c2 .good-size2 .ensures) (c

@@ -12,9 +12,9 @@ returns c =
     let c27 = c26 .before in
     let c33 = c27 .before .before .before .before .before .before in
     let a = (c33 .args) in
-    let r = registersOf (a .own .now) (a .addresses .now) (a .values .now) in
+    let r = registersOf (a .slots .now) (a .addresses .now) (a .values .now) in
     write-noted r (a .rtc .now) (a .page .now) (a .ram .now) (a .sram .now) (a .gpio .now) (a .fb .now)
-    (a .cells .now) (a .floats .now) (a .at .now) (a .frequencies .now) (a .duties .now) (a .addr) (a .size)
+    (a .cells .now) (a .floats .now) (a .onsets .now) (a .frequencies .now) (a .duties .now) (a .addr) (a .size)
     (a .value)
     (c27 .ring-of .ensures) (c26 .full .ensures) (c14 .slow-write .ensures) (c .note .ensures)
 

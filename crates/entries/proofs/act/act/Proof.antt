@@ -3,7 +3,8 @@ use Rattle.entries.proofs.Turns.{turn-advance, turn-next, turn-pending,
 use Rattle.entries.proofs.Turns.{answer-laid, not-laid}
 use Rattle.system.proofs.Banks.{read-done, write-done, advance-done, next-done, pending-done, turbo-done, live-done}
 use Rattle.system.proofs.Banks.{hold-done, take-done}
-use Rattle.system.specs.Bank.{partsOf, machineOf}
+use Rattle.system.specs.Bank.{machineOf}
+use Rattle.system.specs.Inner.{partsOf}
 use Rattle.state.specs.Bank.{partsIn}
 use lib.Ieee.{binary64, ofBits}
 use lib.Dec.{eqb}
@@ -23,8 +24,8 @@ returns c =
     let c21 = c15 .before .before .before .before .before .before in
     let a = (c21 .args) in
     let x = partsIn (a .cells .now) (a .floats .now) in
-    let m = machineOf (a .own .now) (a .addresses .now) (a .values .now) (a .rtc .now) (a .page .now)
-    (a .at .now) (a .frequencies .now) (a .duties .now) (a .times .now) (a .codes .now) x (a .ram .now)
+    let m = machineOf (a .slots .now) (a .addresses .now) (a .values .now) (a .rtc .now) (a .page .now)
+    (a .onsets .now) (a .frequencies .now) (a .duties .now) (a .starts .now) (a .codes .now) x (a .ram .now)
     (a .sram .now) (a .gpio .now) (a .fb .now) in
     let i : x ≡ partsOf (m .system) = refl in
     answer-laid m (a .e) (a .out .now) (a .to) 1 (c15 .match .keys1) refl
@@ -42,19 +43,19 @@ returns-2 c =
     let c35 = c29 .before .before .before .before .before .before in
     let a = (c35 .args) in
     let x = partsIn (a .cells .now) (a .floats .now) in
-    let m = machineOf (a .own .now) (a .addresses .now) (a .values .now) (a .rtc .now) (a .page .now)
-    (a .at .now) (a .frequencies .now) (a .duties .now) (a .times .now) (a .codes .now) x (a .ram .now)
+    let m = machineOf (a .slots .now) (a .addresses .now) (a .values .now) (a .rtc .now) (a .page .now)
+    (a .onsets .now) (a .frequencies .now) (a .duties .now) (a .starts .now) (a .codes .now) x (a .ram .now)
     (a .sram .now) (a .gpio .now) (a .fb .now) in
     let i : x ≡ partsOf (m .system) = refl in
     let w = (c13 .write .last) in
     let y = partsIn (w .1 .1 .1 .1 .1 .1 .1 .1 .0) (w .1 .1 .1 .1 .1 .1 .1 .1 .1 .0) in
     let m₁ = machineOf (w .0) (w .1 .0) (w .1 .1 .0) (w .1 .1 .1 .0) (w .1 .1 .1 .1 .0) (w .1 .1 .1 .1 .1 .0)
-    (w .1 .1 .1 .1 .1 .1 .0) (w .1 .1 .1 .1 .1 .1 .1 .0) (a .times .now) (a .codes .now) y
+    (w .1 .1 .1 .1 .1 .1 .0) (w .1 .1 .1 .1 .1 .1 .1 .0) (a .starts .now) (a .codes .now) y
     (w .1 .1 .1 .1 .1 .1 .1 .1 .1 .1 .0) (w .1 .1 .1 .1 .1 .1 .1 .1 .1 .1 .1 .0)
     (w .1 .1 .1 .1 .1 .1 .1 .1 .1 .1 .1 .1 .0) (w .1 .1 .1 .1 .1 .1 .1 .1 .1 .1 .1 .1 .1 .0) in
     answer-laid m (a .e) (a .out .now) (a .to) 2 {m₁ = m₁} (c29 .match .keys2) refl (turn-write m (a .e)
     (c29 .match .keys2) {m₁ = m₁} (write-done m (a .e .address) (a .e .size) (a .e .value % 2 ^ 32)
-    {r = m₁ .system .registers} {c = m₁ .system .rtc} {p = m₁ .system .page} {ram = m₁ .ram} {sram = m₁ .sram}
+    {r = m₁ .system .registers} {rtc = m₁ .system .rtc} {page = m₁ .system .page} {ram = m₁ .ram} {sram = m₁ .sram}
     {gpio = m₁ .gpio} {fb = m₁ .fb} {d = y .devices} {k = y .keys} {q = m₁ .system .queue} i
     (c13 .write .ensures .0) (c13 .write .ensures .1)) (c3 .refused .ensures)) (c2 .lay2 .ensures)
 
@@ -67,8 +68,8 @@ returns-3 c =
     let c21 = c15 .before .before .before .before .before .before in
     let a = (c21 .args) in
     let x = partsIn (a .cells .now) (a .floats .now) in
-    let m = machineOf (a .own .now) (a .addresses .now) (a .values .now) (a .rtc .now) (a .page .now)
-    (a .at .now) (a .frequencies .now) (a .duties .now) (a .times .now) (a .codes .now) x (a .ram .now)
+    let m = machineOf (a .slots .now) (a .addresses .now) (a .values .now) (a .rtc .now) (a .page .now)
+    (a .onsets .now) (a .frequencies .now) (a .duties .now) (a .starts .now) (a .codes .now) x (a .ram .now)
     (a .sram .now) (a .gpio .now) (a .fb .now) in
     let i : x ≡ partsOf (m .system) = refl in
     answer-laid m (a .e) (a .out .now) (a .to) 3 (c15 .match .keys3) refl (turn-advance m (a .e) (c15 .match .keys3)
@@ -86,8 +87,8 @@ returns-4 c =
     let c18 = c12 .before .before .before .before .before .before in
     let a = (c18 .args) in
     let x = partsIn (a .cells .now) (a .floats .now) in
-    let m = machineOf (a .own .now) (a .addresses .now) (a .values .now) (a .rtc .now) (a .page .now)
-    (a .at .now) (a .frequencies .now) (a .duties .now) (a .times .now) (a .codes .now) x (a .ram .now)
+    let m = machineOf (a .slots .now) (a .addresses .now) (a .values .now) (a .rtc .now) (a .page .now)
+    (a .onsets .now) (a .frequencies .now) (a .duties .now) (a .starts .now) (a .codes .now) x (a .ram .now)
     (a .sram .now) (a .gpio .now) (a .fb .now) in
     let i : x ≡ partsOf (m .system) = refl in
     answer-laid m (a .e) (a .out .now) (a .to) 4 (c12 .match .keys4) refl
@@ -103,8 +104,8 @@ returns-5 c =
     let c14 = c8 .before .before .before .before .before .before in
     let a = (c14 .args) in
     let x = partsIn (a .cells .now) (a .floats .now) in
-    let m = machineOf (a .own .now) (a .addresses .now) (a .values .now) (a .rtc .now) (a .page .now)
-    (a .at .now) (a .frequencies .now) (a .duties .now) (a .times .now) (a .codes .now) x (a .ram .now)
+    let m = machineOf (a .slots .now) (a .addresses .now) (a .values .now) (a .rtc .now) (a .page .now)
+    (a .onsets .now) (a .frequencies .now) (a .duties .now) (a .starts .now) (a .codes .now) x (a .ram .now)
     (a .sram .now) (a .gpio .now) (a .fb .now) in
     let i : x ≡ partsOf (m .system) = refl in
     answer-laid m (a .e) (a .out .now) (a .to) 5 (c8 .match .keys5) refl (turn-pending m (a .e) (c8 .match .keys5)
@@ -120,8 +121,8 @@ returns-6 c =
     let c13 = c7 .before .before .before .before .before .before in
     let a = (c13 .args) in
     let x = partsIn (a .cells .now) (a .floats .now) in
-    let m = machineOf (a .own .now) (a .addresses .now) (a .values .now) (a .rtc .now) (a .page .now)
-    (a .at .now) (a .frequencies .now) (a .duties .now) (a .times .now) (a .codes .now) x (a .ram .now)
+    let m = machineOf (a .slots .now) (a .addresses .now) (a .values .now) (a .rtc .now) (a .page .now)
+    (a .onsets .now) (a .frequencies .now) (a .duties .now) (a .starts .now) (a .codes .now) x (a .ram .now)
     (a .sram .now) (a .gpio .now) (a .fb .now) in
     let i : x ≡ partsOf (m .system) = refl in
     answer-laid m (a .e) (a .out .now) (a .to) 6 (c7 .match .keys6) refl (turn-turbo m (a .e) (c7 .match .keys6)
@@ -138,8 +139,8 @@ returns-7 c =
     let c15 = c9 .before .before .before .before .before .before in
     let a = (c15 .args) in
     let x = partsIn (a .cells .now) (a .floats .now) in
-    let m = machineOf (a .own .now) (a .addresses .now) (a .values .now) (a .rtc .now) (a .page .now)
-    (a .at .now) (a .frequencies .now) (a .duties .now) (a .times .now) (a .codes .now) x (a .ram .now)
+    let m = machineOf (a .slots .now) (a .addresses .now) (a .values .now) (a .rtc .now) (a .page .now)
+    (a .onsets .now) (a .frequencies .now) (a .duties .now) (a .starts .now) (a .codes .now) x (a .ram .now)
     (a .sram .now) (a .gpio .now) (a .fb .now) in
     let i : x ≡ partsOf (m .system) = refl in
     answer-laid m (a .e) (a .out .now) (a .to) 7 (c9 .match .keys7) refl
@@ -156,8 +157,8 @@ returns-8 c =
     let c14 = c8 .before .before .before .before .before .before in
     let a = (c14 .args) in
     let x = partsIn (a .cells .now) (a .floats .now) in
-    let m = machineOf (a .own .now) (a .addresses .now) (a .values .now) (a .rtc .now) (a .page .now)
-    (a .at .now) (a .frequencies .now) (a .duties .now) (a .times .now) (a .codes .now) x (a .ram .now)
+    let m = machineOf (a .slots .now) (a .addresses .now) (a .values .now) (a .rtc .now) (a .page .now)
+    (a .onsets .now) (a .frequencies .now) (a .duties .now) (a .starts .now) (a .codes .now) x (a .ram .now)
     (a .sram .now) (a .gpio .now) (a .fb .now) in
     let i : x ≡ partsOf (m .system) = refl in
     answer-laid m (a .e) (a .out .now) (a .to) 8 (c8 .match .keys8) refl
@@ -174,8 +175,8 @@ returns-9 c =
     let c16 = c10 .before .before .before .before .before .before in
     let a = (c16 .args) in
     let x = partsIn (a .cells .now) (a .floats .now) in
-    let m = machineOf (a .own .now) (a .addresses .now) (a .values .now) (a .rtc .now) (a .page .now)
-    (a .at .now) (a .frequencies .now) (a .duties .now) (a .times .now) (a .codes .now) x (a .ram .now)
+    let m = machineOf (a .slots .now) (a .addresses .now) (a .values .now) (a .rtc .now) (a .page .now)
+    (a .onsets .now) (a .frequencies .now) (a .duties .now) (a .starts .now) (a .codes .now) x (a .ram .now)
     (a .sram .now) (a .gpio .now) (a .fb .now) in
     let i : x ≡ partsOf (m .system) = refl in
     answer-laid m (a .e) (a .out .now) (a .to) 9 (c10 .match .keys9) refl
@@ -190,8 +191,8 @@ returns-10 c =
     let c12 = c6 .before .before .before .before .before .before in
     let a = (c12 .args) in
     let x = partsIn (a .cells .now) (a .floats .now) in
-    let m = machineOf (a .own .now) (a .addresses .now) (a .values .now) (a .rtc .now) (a .page .now)
-    (a .at .now) (a .frequencies .now) (a .duties .now) (a .times .now) (a .codes .now) x (a .ram .now)
+    let m = machineOf (a .slots .now) (a .addresses .now) (a .values .now) (a .rtc .now) (a .page .now)
+    (a .onsets .now) (a .frequencies .now) (a .duties .now) (a .starts .now) (a .codes .now) x (a .ram .now)
     (a .sram .now) (a .gpio .now) (a .fb .now) in
     let i : x ≡ partsOf (m .system) = refl in
     answer-laid m (a .e) (a .out .now) (a .to) 10 (c6 .match .keys10) refl (turn-counters m (a .e) (c6 .match .keys10)
@@ -207,8 +208,8 @@ returns-11 c =
     let c13 = c7 .before .before .before .before .before .before in
     let a = (c13 .args) in
     let x = partsIn (a .cells .now) (a .floats .now) in
-    let m = machineOf (a .own .now) (a .addresses .now) (a .values .now) (a .rtc .now) (a .page .now)
-    (a .at .now) (a .frequencies .now) (a .duties .now) (a .times .now) (a .codes .now) x (a .ram .now)
+    let m = machineOf (a .slots .now) (a .addresses .now) (a .values .now) (a .rtc .now) (a .page .now)
+    (a .onsets .now) (a .frequencies .now) (a .duties .now) (a .starts .now) (a .codes .now) x (a .ram .now)
     (a .sram .now) (a .gpio .now) (a .fb .now) in
     let i : x ≡ partsOf (m .system) = refl in
     answer-laid m (a .e) (a .out .now) (a .to) 11 (c7 .match .keys11) refl (turn-pixel m (a .e) (c7 .match .keys11)
@@ -237,8 +238,8 @@ returns-12 c =
     let c36 = c30 .before .before .before .before .before .before in
     let a = (c36 .args) in
     let x = partsIn (a .cells .now) (a .floats .now) in
-    let m = machineOf (a .own .now) (a .addresses .now) (a .values .now) (a .rtc .now) (a .page .now)
-    (a .at .now) (a .frequencies .now) (a .duties .now) (a .times .now) (a .codes .now) x (a .ram .now)
+    let m = machineOf (a .slots .now) (a .addresses .now) (a .values .now) (a .rtc .now) (a .page .now)
+    (a .onsets .now) (a .frequencies .now) (a .duties .now) (a .starts .now) (a .codes .now) x (a .ram .now)
     (a .sram .now) (a .gpio .now) (a .fb .now) in
     let w = (c13 .wipe-all .last) in
     let m₁ = machineOf (w .0) (w .1 .0) (w .1 .1 .0) (w .1 .1 .1 .0) (w .1 .1 .1 .1 .0) (w .1 .1 .1 .1 .1 .0)
@@ -253,8 +254,8 @@ returns-12 c =
 returns-13 : tie.Need-returns-13
 returns-13 c =
     let a = (c .before .before .before .before .before .before .before .before .before .before .before .args) in
-    not-laid (machineOf (a .own .now) (a .addresses .now) (a .values .now) (a .rtc .now) (a .page .now)
-    (a .at .now) (a .frequencies .now) (a .duties .now) (a .times .now) (a .codes .now)
+    not-laid (machineOf (a .slots .now) (a .addresses .now) (a .values .now) (a .rtc .now) (a .page .now)
+    (a .onsets .now) (a .frequencies .now) (a .duties .now) (a .starts .now) (a .codes .now)
     (partsIn (a .cells .now) (a .floats .now)) (a .ram .now) (a .sram .now) (a .gpio .now) (a .fb .now))
     (a .e) (a .out .now) (a .to) _ (c .before .before .before .before .before .match .rest)
     (c .before .before .before .refused7 .ensures) (c .before .before .lay13 .ensures)

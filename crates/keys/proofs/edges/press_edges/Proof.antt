@@ -8,10 +8,10 @@ use Rattle.keys.proofs.edges.press_edges.Statement.{statement}
 use Rattle.keys.proofs.edges.press_edges.Tie as tie
 
 abbrev Inv-loop : tie.InvT-loop
-Inv-loop times count time t n r₀ i₀ r i = (i ≤ n) × (n ≤ 64) × (r ≡ edgesFrom times time t i)
+Inv-loop starts count time t n r₀ i₀ r i = (i ≤ n) × (n ≤ 64) × (r ≡ edgesFrom starts time t i)
 
 abbrev μ-loop : tie.MeasureT-loop
-μ-loop times count time t n r₀ i₀ r i = n - i
+μ-loop starts count time t n r₀ i₀ r i = n - i
 
 loop-holds : tie.Need-loop-holds Inv-loop μ-loop
 loop-holds c = (

@@ -8,12 +8,12 @@ use Rattle.keys.proofs.live.also_each.Statement.{statement}
 use Rattle.keys.proofs.live.also_each.Tie as tie
 
 abbrev Inv-loop : tie.InvT-loop
-Inv-loop times codes from to time held₀ i₀ held i =
+Inv-loop starts codes from to time held₀ i₀ held i =
     (i ≤ to)
-    × ((h : Held) → held₀ ≡ heldFrom times codes h time from → held ≡ heldFrom times codes h time i)
+    × ((h : Held) → held₀ ≡ heldFrom starts codes h time from → held ≡ heldFrom starts codes h time i)
 
 abbrev μ-loop : tie.MeasureT-loop
-μ-loop times codes from to time held₀ i₀ held i = to - i
+μ-loop starts codes from to time held₀ i₀ held i = to - i
 
 loop-holds : tie.Need-loop-holds Inv-loop μ-loop
 loop-holds c = (search needs, λ h e. e)

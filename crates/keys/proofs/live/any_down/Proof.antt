@@ -8,10 +8,10 @@ use Rattle.keys.proofs.live.any_down.Statement.{statement}
 use Rattle.keys.proofs.live.any_down.Tie as tie
 
 abbrev Inv-loop : tie.InvT-loop
-Inv-loop times from time on₀ i₀ on i = (i ≤ 8) × (on ≡ false → Up times time from i)
+Inv-loop starts from time on₀ i₀ on i = (i ≤ 8) × (on ≡ false → Up starts time from i)
 
 abbrev μ-loop : tie.MeasureT-loop
-μ-loop times from time on₀ i₀ on i = 8 - i
+μ-loop starts from time on₀ i₀ on i = 8 - i
 
 loop-holds : tie.Need-loop-holds Inv-loop μ-loop
 loop-holds c = (search needs, λ e j l. absurd (omega arith))
@@ -20,7 +20,7 @@ loop-again : tie.Need-loop-again Inv-loop μ-loop
 loop-again c =
     let a = c .before .before .before .before .args in
     let s = c .before .before .before .loop in
-    (search needs, up-more (a .times .now) (a .time) (a .from) _ _ _ (c .down .ensures) (s .inv .1))
+    (search needs, up-more (a .starts .now) (a .time) (a .from) _ _ _ (c .down .ensures) (s .inv .1))
 
 returns : tie.Need-returns Inv-loop μ-loop
 returns c e j l = (c .before .loop .inv .1) e j (omega arith)

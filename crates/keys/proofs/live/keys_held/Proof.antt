@@ -8,10 +8,10 @@ use Rattle.keys.proofs.live.keys_held.Statement.{statement}
 use Rattle.keys.proofs.live.keys_held.Tie as tie
 
 abbrev Inv-loop : tie.InvT-loop
-Inv-loop times codes time n held₀ i₀ held i = (i ≤ n) × (n ≤ 64) × (held ≡ heldFrom times codes held₀ time i)
+Inv-loop starts codes time n held₀ i₀ held i = (i ≤ n) × (n ≤ 64) × (held ≡ heldFrom starts codes held₀ time i)
 
 abbrev μ-loop : tie.MeasureT-loop
-μ-loop times codes time n held₀ i₀ held i = n - i
+μ-loop starts codes time n held₀ i₀ held i = n - i
 
 loop-holds : tie.Need-loop-holds Inv-loop μ-loop
 loop-holds c = (

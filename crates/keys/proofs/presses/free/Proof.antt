@@ -8,10 +8,10 @@ use Rattle.keys.proofs.presses.free.Statement.{statement}
 use Rattle.keys.proofs.presses.free.Tie as tie
 
 abbrev Inv-loop : tie.InvT-loop
-Inv-loop times count time n i₀ i = (i ≤ n) × (n ≤ 64) × (freeOf times count time ≡ freeFrom (n - i) i times time)
+Inv-loop starts count time n i₀ i = (i ≤ n) × (n ≤ 64) × (freeOf starts count time ≡ freeFrom (n - i) i starts time)
 
 abbrev μ-loop : tie.MeasureT-loop
-μ-loop times count time n i₀ i = n - i
+μ-loop starts count time n i₀ i = n - i
 
 loop-holds : tie.Need-loop-holds Inv-loop μ-loop
 loop-holds c = (

@@ -2,7 +2,8 @@ use native.Mathlib.Omega.{arith}
 use mathlib.Core.Path.{_≡_, refl, ap, _∙_}
 use mathlib.Core.Bool.{_&&_}
 use Prim.Native.Nat.{suc, _+_, _-_, _*_, _≤_}
-use Rattle.runner.specs.Format.{stepBytes, Kinds, kindsFrom}
+use Rattle.runner.specs.Format.{stepBytes, kindsFrom}
+use Rattle.runner.specs.Inner.{Kinds}
 use Rattle.runner.proofs.Runs.{one-kind, more-kinds, no-kinds}
 use Rattle.runner.proofs.format.few_kinds.Statement.{statement}
 use Rattle.runner.proofs.format.few_kinds.Tie as tie

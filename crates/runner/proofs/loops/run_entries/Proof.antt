@@ -15,8 +15,8 @@ use Rattle.runner.proofs.loops.run_entries.Statement.{statement}
 use Rattle.runner.proofs.loops.run_entries.Tie as tie
 
 abbrev Inv-loop : tie.InvT-loop
-Inv-loop own₀ addresses₀ values₀ rtc₀ page₀ at₀ frequencies₀ duties₀ times₀ codes₀ cells₀ floats₀ ram₀ sram₀
-    gpio₀ fb₀ script p k out₀ from₀ to₀ left₀ own addresses values rtc page at frequencies duties times codes
+Inv-loop slots₀ addresses₀ values₀ rtc₀ page₀ onsets₀ frequencies₀ duties₀ starts₀ codes₀ cells₀ floats₀ ram₀ sram₀
+    gpio₀ fb₀ script p k out₀ from₀ to₀ left₀ slots addresses values rtc page onsets frequencies duties starts codes
     cells floats ram sram gpio fb out from to left = (left ≤ k)
     × (from + stepBytes * left ≡ behindPresses p + stepBytes * k)
     × (to + answerBytes * left ≡ 4 + answerBytes * (p + k))
@@ -25,15 +25,16 @@ Inv-loop own₀ addresses₀ values₀ rtc₀ page₀ at₀ frequencies₀ dutie
     × (length gpio ≡ length gpio₀)
     × (length fb ≡ length fb₀)
     × (length out ≡ length out₀)
-    × (afterEntries (runState (machineOf own addresses values rtc page at frequencies duties times codes (partsIn cells
+    × (afterEntries (runState (machineOf slots addresses values rtc page onsets frequencies duties starts codes
+    (partsIn cells
     floats)
-    ram sram gpio fb) out) to (entriesFrom script p left (p + (k - left))) ≡ afterEntries (runState (machineOf own₀
-    addresses₀ values₀ rtc₀ page₀ at₀ frequencies₀ duties₀ times₀ codes₀ (partsIn cells₀ floats₀) ram₀ sram₀ gpio₀
+    ram sram gpio fb) out) to (entriesFrom script p left (p + (k - left))) ≡ afterEntries (runState (machineOf slots₀
+    addresses₀ values₀ rtc₀ page₀ onsets₀ frequencies₀ duties₀ starts₀ codes₀ (partsIn cells₀ floats₀) ram₀ sram₀ gpio₀
     fb₀) out₀) (4 + answerBytes * p) (entriesFrom script p k p))
 
 abbrev μ-loop : tie.MeasureT-loop
-μ-loop own₀ addresses₀ values₀ rtc₀ page₀ at₀ frequencies₀ duties₀ times₀ codes₀ cells₀ floats₀ ram₀ sram₀ gpio₀
-    fb₀ script p k out₀ from₀ to₀ left₀ own addresses values rtc page at frequencies duties times codes cells
+μ-loop slots₀ addresses₀ values₀ rtc₀ page₀ onsets₀ frequencies₀ duties₀ starts₀ codes₀ cells₀ floats₀ ram₀ sram₀ gpio₀
+    fb₀ script p k out₀ from₀ to₀ left₀ slots addresses values rtc page onsets frequencies duties starts codes cells
     floats ram sram gpio fb out from to left = left
 
 run-presses-requires : tie.Need-run-presses-requires Inv-loop μ-loop
@@ -157,8 +158,8 @@ loop-again c =
     let t = (c29 .loop-test .taken) in
     let e = (c28 .step-at .ensures) in
     let y = (c10 .act .kept .1 .1 .1 .1 .1 .1 .1 .1 .1 .1 .1 .1) in
-    let m = machineOf (l .own) (l .addresses) (l .values) (l .rtc) (l .page) (l .at) (l .frequencies) (l .duties)
-    (l .times) (l .codes) (partsIn (l .cells) (l .floats)) (l .ram) (l .sram) (l .gpio) (l .fb) in
+    let m = machineOf (l .slots) (l .addresses) (l .values) (l .rtc) (l .page) (l .onsets) (l .frequencies) (l .duties)
+    (l .starts) (l .codes) (partsIn (l .cells) (l .floats)) (l .ram) (l .sram) (l .gpio) (l .fb) in
     let w = (c10 .act .last) in
     let m₁ = machineOf (w .0) (w .1 .0) (w .1 .1 .0) (w .1 .1 .1 .0) (w .1 .1 .1 .1 .0)
     (w .1 .1 .1 .1 .1 .0) (w .1 .1 .1 .1 .1 .1 .0) (w .1 .1 .1 .1 .1 .1 .1 .0) (w .1 .1 .1 .1 .1 .1 .1 .1 .0)
@@ -213,8 +214,8 @@ returns c =
     in
     let a = (c16 .args) in
     both-run (a .script .now) (a .p) (a .k) _ (step-end _ _ _ _ _ _ (c .loop-test .left) (c
-    .before .loop .inv .8)) ((c4 .run-presses .ensures) (a .own .now) (a .addresses .now) (a .values .now)
-    (a .rtc .now) (a .page .now) (a .at .now) (a .frequencies .now) (a .duties .now) (a .ram .now) (a .sram .now)
+    .before .loop .inv .8)) ((c4 .run-presses .ensures) (a .slots .now) (a .addresses .now) (a .values .now)
+    (a .rtc .now) (a .page .now) (a .onsets .now) (a .frequencies .now) (a .duties .now) (a .ram .now) (a .sram .now)
     (a .gpio .now) (a .fb .now) (a .p + a .k) (omega arith))
 
 pub run-entries-spec : {M : Type 1} → statement M

@@ -11,7 +11,8 @@ use Rattle.runner.specs.Script.{afterEntries}
 use Rattle.runner.specs.Format.{pressBytes, entriesFrom}
 use Rattle.entries.specs.Answers.{answerBytes}
 use Rattle.state.specs.Bank.{partsIn}
-use Rattle.system.specs.Bank.{partsOf, machineOf}
+use Rattle.system.specs.Bank.{machineOf}
+use Rattle.system.specs.Inner.{partsOf}
 use Rattle.system.proofs.Banks.{press-done}
 use Rattle.entries.proofs.Turns.{turn-press, entry-laid}
 use Rattle.entries.proofs.Laying.{laid-room, front-long, laid-front}
@@ -20,20 +21,21 @@ use Rattle.runner.proofs.loops.run_presses.Statement.{statement}
 use Rattle.runner.proofs.loops.run_presses.Tie as tie
 
 abbrev Inv-loop : tie.InvT-loop
-Inv-loop times₀ codes₀ cells₀ floats script p out₀ from₀ to₀ left₀ times codes cells out from to left = (left ≤
+Inv-loop starts₀ codes₀ cells₀ floats script p out₀ from₀ to₀ left₀ starts codes cells out from to left = (left ≤
     p) × (from + pressBytes * left ≡ 4 + pressBytes * p) × (to + answerBytes * left ≡ 4 + answerBytes * p)
     × (length out ≡ length out₀)
-    × ((own addresses values rtc page : List ℕ) (at frequencies duties : List Float) (ram sram gpio fb : List ℕ)
+    × ((slots addresses values rtc page : List ℕ) (onsets frequencies duties : List Float) (ram sram gpio fb : List ℕ)
     (n : ℕ) → p ≤ n
-    → afterEntries (runState (machineOf own addresses values rtc page at frequencies duties times codes (partsIn cells
+    → afterEntries (runState (machineOf slots addresses values rtc page onsets frequencies duties starts codes
+    (partsIn cells
     floats) ram sram gpio fb) out) to
     (entriesFrom script p (n - (p - left)) (p - left))
-    ≡ afterEntries (runState (machineOf own addresses values rtc page at frequencies duties times₀ codes₀
+    ≡ afterEntries (runState (machineOf slots addresses values rtc page onsets frequencies duties starts₀ codes₀
     (partsIn cells₀
     floats) ram sram gpio fb) out₀) 4 (entriesFrom script p n 0))
 
 abbrev μ-loop : tie.MeasureT-loop
-μ-loop times₀ codes₀ cells₀ floats script p out₀ from₀ to₀ left₀ times codes cells out from to left = left
+μ-loop starts₀ codes₀ cells₀ floats script p out₀ from₀ to₀ left₀ starts codes cells out from to left = left
 
 loop-holds : tie.Need-loop-holds Inv-loop μ-loop
 loop-holds c = (
@@ -41,7 +43,7 @@ loop-holds c = (
   refl,
   refl,
   refl,
-  λ own addresses values rtc page at frequencies duties ram sram gpio fb n h.
+  λ slots addresses values rtc page onsets frequencies duties ram sram gpio fb n h.
       press-start _ _ _ _,
 )
 
@@ -120,9 +122,9 @@ loop-again c =
       omega (arith, t, i .1),
       omega (arith, t, i .2),
       (c .before .out .given .1) ∙ i .3,
-      λ own addresses values rtc page at frequencies duties ram sram gpio fb n h.
+      λ slots addresses values rtc page onsets frequencies duties ram sram gpio fb n h.
           let x = partsIn (l .cells) (a .floats .now) in
-          let m = machineOf own addresses values rtc page at frequencies duties (l .times) (l .codes) x
+          let m = machineOf slots addresses values rtc page onsets frequencies duties (l .starts) (l .codes) x
           ram sram gpio fb in
           let j : x ≡ partsOf (m .system) = refl in
           press-next (a .script .now) (a .p) (l .left) (l .from) (l .to) (runState m (l .out)) t n (i .0) h (i .1) f
@@ -130,7 +132,7 @@ loop-again c =
           (press-done (m .system) (e .address) (ofBits binary64 (e .value)) j pressed) refusal)
           (laid-front (l .out) _ (l .to) answer room (laid ∙ laid-room (take (l .to + answerBytes) (l .out)) (l .to)
           answer (front-long (l .out) _ room))))
-          ∙ i .4 own addresses values rtc page at frequencies duties ram sram gpio fb n h,
+          ∙ i .4 slots addresses values rtc page onsets frequencies duties ram sram gpio fb n h,
     )
 
 same-length : tie.Need-same-length Inv-loop μ-loop
@@ -138,8 +140,8 @@ same-length c = (c .before .loop .inv .3)
 
 returns : tie.Need-returns Inv-loop μ-loop
 returns c =
-    λ own addresses values rtc page at frequencies duties ram sram gpio fb n h. press-end _ _ n _ _ _
-    (c .loop-test .left) (c .before .loop .inv .2) ((c .before .loop .inv .4) own addresses values rtc page at
+    λ slots addresses values rtc page onsets frequencies duties ram sram gpio fb n h. press-end _ _ n _ _ _
+    (c .loop-test .left) (c .before .loop .inv .2) ((c .before .loop .inv .4) slots addresses values rtc page onsets
     frequencies duties ram sram gpio fb n h)
 
 pub run-presses-spec : {M : Type 1} → statement M

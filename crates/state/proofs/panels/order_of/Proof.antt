@@ -5,7 +5,7 @@ use Rattle.state.proofs.panels.order_of.Tie as tie
 
 returns : tie.Need-returns
 unfolding panelIn
-returns c = (c .held-of .ensures)
+returns c = (c .maybe-of .ensures)
 
 pub order-of-spec : {M : Type 1} → statement M
 order-of-spec =

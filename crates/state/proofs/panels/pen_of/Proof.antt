@@ -10,7 +10,7 @@ returns c =
     let c3 = c1 .before .before in
     let c5 = c3 .before .before in
     rw (
-      (c5 .held-of .ensures),
+      (c5 .maybe-of .ensures),
       (c3 .half .ensures),
       (c1 .half2 .ensures),
     )

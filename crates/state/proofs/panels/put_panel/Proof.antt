@@ -9,7 +9,7 @@ returns c = λ f. panel-put (c .before .before .before .before .before .before .
     .before .before .before .before .before .before .before .before .before .before .before .cells-long .ensures) f
     (c .before .before .before .before .before .before .before .before .before .before .before .before .before
     .before .before .before .before .args .panel) _ _ _ _ _ (c .before .before .before .before .before .before
-    .before .before .before .before .before .held-number .ensures) (c .before .before .before .before .before
+    .before .before .before .before .before .maybe-number .ensures) (c .before .before .before .before .before
     .before .before .before .before .before .before .before .before .four-long .ensures) (c .before .before .before
     .before .before .before .before .before .before .before .wide .ensures) (c .before .before .before .before
     .before .before .before .before .before .wide2 .ensures) (c .before .before .before .before .before .before

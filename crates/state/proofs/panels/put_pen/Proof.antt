@@ -7,7 +7,7 @@ returns : tie.Need-returns
 returns c =
     let c3 = c .before .before .before in
     let c5 = c3 .before .before in
-    λ f. pen-put (c5 .args .cells .now) (c3 .cells-long .ensures) f (c5 .args .pen) _ (c .held-number .ensures)
+    λ f. pen-put (c5 .args .cells .now) (c3 .cells-long .ensures) f (c5 .args .pen) _ (c .maybe-number .ensures)
     (search needs) (search needs)
 
 pub put-pen-spec : {M : Type 1} → statement M

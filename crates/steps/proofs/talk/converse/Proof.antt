@@ -1,7 +1,8 @@
 use mathlib.Core.Path.{_≡_, refl, _∙_}
 use native.Mathlib.Omega.{arith}
 use lib.ListN.{length}
-use Rattle.steps.specs.Machine.{world, Reaches}
+use Rattle.steps.specs.Machine.{world}
+use Rattle.steps.specs.Inner.{Reaches}
 use Rattle.steps.proofs.Runs.{reaches-none, reaches-more}
 use Rattle.steps.proofs.talk.converse.Statement.{statement}
 use Rattle.steps.proofs.talk.converse.Tie as tie

@@ -11,7 +11,7 @@ returns c =
     let c8 = c7 .before in
     let c18 = c8 .before .before .before .before .before .before .before .before .before .before in
     let a = (c18 .args) in read-done (a .s) (a .ram .now) (a .sram .now) (a .gpio .now) (a .addr) (a .size)
-    ((c7 .put-parts .ensures .2) ∙ (c8 .parts-of .ensures)) (c1 .read .ensures) (c .with-own .ensures)
+    ((c7 .put-parts .ensures .2) ∙ (c8 .parts-of .ensures)) (c1 .read .ensures) (c .with-slots .ensures)
 
 pub read-spec : {M : Type 1} → statement M
 read-spec =

@@ -12,7 +12,7 @@ returns c =
     let c14 = c7 .before .before .before .before .before .before .before in
     let c15 = c14 .before in
     let c25 = c15 .before .before .before .before .before .before .before .before .before .before in
-    let a = (c25 .args) in rw ((c .with-parts .ensures), (c4 .with-own .ensures), (c1 .parts-of2 .ensures))
+    let a = (c25 .args) in rw ((c .with-parts .ensures), (c4 .with-slots .ensures), (c1 .parts-of2 .ensures))
     (advance-done (a .s) (a .sram .now) (a .gpio .now) (a .to) ((c14 .put-parts .ensures .2) ∙
     (c15 .parts-of .ensures)) (c7 .advance .ensures .0))
 

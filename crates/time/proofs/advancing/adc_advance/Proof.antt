@@ -9,7 +9,7 @@ returns c f =
     let c1 = c .before in
     let c3 = c1 .before .before in
     let a = c3 .args in
-    (adc-stays (a .own .now) (partsIn (a .cells .now) f) (c1 .converting-of .ensures) (c .if1 .taken), λ k. k)
+    (adc-stays (a .slots .now) (partsIn (a .cells .now) f) (c1 .converting-of .ensures) (c .if1 .taken), λ k. k)
 
 returns-2 : tie.Need-returns-2
 returns-2 c f =
@@ -22,7 +22,7 @@ returns-2 c f =
     let c14 = c12 .before .before in
     let a = c14 .args in
     let x = partsIn (a .cells .now) f in (
-      adc-went (a .own .now) x (c9 .own-reg .ensures)
+      adc-went (a .slots .now) x (c9 .own-reg .ensures)
           (c7 .own-reg2 .ensures) (c12 .converting-of .ensures) (c6 .adc-advance .ensures) (c4 .own-insert .ensures)
           (c2 .own-insert2 .ensures) (c .put-converting .ensures f .parts),
       (c .put-converting .ensures) f .packed,

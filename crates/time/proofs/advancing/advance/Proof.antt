@@ -12,7 +12,7 @@ returns c =
     let c12 = c8 .before .before .before .before in
     let a = (c12 .args) in
     let x = partsIn (a .cells .now) (a .floats .now) in (
-      goes-by (a .own .now) (a .gpio .now) (a .times .now)
+      goes-by (a .slots .now) (a .gpio .now) (a .starts .now)
           (a .codes .now) x (a .sram .now) (c7 .advance .result) (a .to) (c8 .times-of .ensures)
           (c7 .advance .ensures)
           (c2 .go .ensures .0),

@@ -13,7 +13,7 @@ returns c =
     let c16 = c12 .before .before .before .before in
     let a = (c16 .args) in
     let x = partsIn (a .cells .now) (a .floats .now) in (
-      devices-went (a .own .now) x (a .clock) (a .t)
+      devices-went (a .slots .now) x (a .clock) (a .t)
           (c12 .timers-advance .ensures .0) ((c9 .vsync .ensures) _ .0) ((c6 .adc-advance .ensures) _ .0)
           (c2 .rtc-irq-advance .ensures .0) ((c .put-times .ensures) _ .parts),
       λ k. (c .put-times .ensures) _ .packed

@@ -14,7 +14,7 @@ returns c =
     let c13 = c9 .before .before .before .before in
     let a = (c13 .args) in
     let x = partsIn (a .cells .now) (a .floats .now) in (
-      goes (a .own .now) (a .gpio .now) (a .times .now)
+      goes (a .slots .now) (a .gpio .now) (a .starts .now)
           (a .codes .now) x (a .sram .now) (a .to) _ (c9 .to .given .1) (c7 .sysclk-var .ensures)
           (c2 .move-to .ensures .0),
       done-answered refl (c2 .move-to .ensures .1),
@@ -23,7 +23,7 @@ returns c =
 returns-2 : tie.Need-returns-2
 returns-2 c = let a = (c .before .before .before .before .args) in let x = partsIn (a .cells .now) (a .floats .now)
     in (
-      rests (a .own .now) (a .gpio .now) (a .times .now) (a .codes .now) x (a .sram .now) (a .to)
+      rests (a .slots .now) (a .gpio .now) (a .starts .now) (a .codes .now) x (a .sram .now) (a .to)
           (c .enum-told .given .1),
       none-put,
     )

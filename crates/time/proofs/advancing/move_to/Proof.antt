@@ -13,7 +13,7 @@ returns c =
     let c15 = c10 .before .before .before .before .before in
     let a = (c15 .args) in
     let x = partsIn (a .cells .now) (a .floats .now) in (
-      moved-went (a .own .now) (a .gpio .now) (a .times .now)
+      moved-went (a .slots .now) (a .gpio .now) (a .starts .now)
           (a .codes .now) x (a .clock) (a .t) (c10 .devices-advance .ensures .0) (c7 .keys-of .ensures)
           (c6 .keys-held .ensures) (c4 .sync-gpio .ensures) ((c .put-applied .ensures) _ .parts),
       λ k.

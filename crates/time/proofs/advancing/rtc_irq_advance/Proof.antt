@@ -13,7 +13,7 @@ returns c =
     let a = c9 .args in
     let x = partsIn (a .cells .now) (a .floats .now) in
     let stays =
-    irq-stays (a .own .now) x (a .game) (c7 .own-reg .ensures) (c4 .irq-of .ensures) (c3 .rtc-irq-advance .ensures)
+    irq-stays (a .slots .now) x (a .game) (c7 .own-reg .ensures) (c4 .irq-of .ensures) (c3 .rtc-irq-advance .ensures)
     (c .if1 .taken) in
     (stays, λ k. k)
 
@@ -26,7 +26,7 @@ returns-2 c =
     let c14 = c12 .before .before in
     let a = c14 .args in
     let x = partsIn (a .cells .now) (a .floats .now) in (
-      irq-went (a .own .now) x (a .game) (c12 .own-reg .ensures)
+      irq-went (a .slots .now) x (a .game) (c12 .own-reg .ensures)
           (c9 .irq-of .ensures) (c8 .rtc-irq-advance .ensures) (c3 .own-insert .ensures)
           (c .put-irq .ensures .parts),
       (c .put-irq .ensures .packed),

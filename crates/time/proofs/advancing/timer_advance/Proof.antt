@@ -9,7 +9,7 @@ returns c =
     let c2 = c1 .before in
     let a = c2 .args in
     let stays =
-    timer-stays (a .own .now) (a .cells .now) (a .floats .now) (a .n) (a .time) (a .clock) (c1 .own-reg .ensures)
+    timer-stays (a .slots .now) (a .cells .now) (a .floats .now) (a .n) (a .time) (a .clock) (c1 .own-reg .ensures)
     (c .if1 .taken) in
     (stays, λ k. k)
 
@@ -21,7 +21,7 @@ returns-2 c =
     let c9 = c7 .before .before in
     let c10 = c9 .before in
     let a = c10 .args in (
-      timer-stepped (a .own .now) (a .cells .now) (a .floats .now) (a .n) (a .time) (a .clock)
+      timer-stepped (a .slots .now) (a .cells .now) (a .floats .now) (a .n) (a .time) (a .clock)
           (c9 .own-reg .ensures) (c7 .own-reg2 .ensures) (c4 .timer-of .ensures) (c3 .advance .ensures)
           (c .put-timer .ensures .parts),
       (c .put-timer .ensures .packed),

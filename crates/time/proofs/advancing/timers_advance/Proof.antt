@@ -12,7 +12,7 @@ returns c =
     let c15 = c12 .before .before .before in
     let c18 = c15 .before .before .before in
     let a = (c18 .args) in (
-      timers-stepped (a .own .now) (a .cells .now) (a .floats .now) (a .time) (a .clock)
+      timers-stepped (a .slots .now) (a .cells .now) (a .floats .now) (a .time) (a .clock)
           (c15 .timer-advance .ensures .0) (c12 .timer-advance2 .ensures .0) (c9 .timer-advance3 .ensures .0)
           (c6 .timer-advance4 .ensures .0) (c3 .timer-advance5 .ensures .0) (c .timer-advance6 .ensures .0),
       λ k.

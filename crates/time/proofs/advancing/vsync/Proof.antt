@@ -13,7 +13,7 @@ returns c f =
     let a = c7 .args in
     let x = partsIn (a .cells .now) f in
     let stays =
-    vsync-stays (a .own .now) x (a .time) (c5 .own-reg .ensures) (c3 .vsync-of .ensures) (c2 .vsync .ensures)
+    vsync-stays (a .slots .now) x (a .time) (c5 .own-reg .ensures) (c3 .vsync-of .ensures) (c2 .vsync .ensures)
     (c .if1 .taken) in
     (stays, λ k. k)
 
@@ -26,7 +26,7 @@ returns-2 c f =
     let c11 = c9 .before .before in
     let a = c11 .args in
     let x = partsIn (a .cells .now) f in (
-      vsync-went (a .own .now) x (a .time) (c9 .own-reg .ensures)
+      vsync-went (a .slots .now) x (a .time) (c9 .own-reg .ensures)
           (c7 .vsync-of .ensures) (c6 .vsync .ensures) (c2 .own-insert .ensures) (c .put-vsync .ensures f .parts),
       (c .put-vsync .ensures) f .packed,
     )

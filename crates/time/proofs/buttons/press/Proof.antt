@@ -13,11 +13,11 @@ returns c =
     let c7 = c5 .before .before in
     let c8 = c7 .before in
     let a = (c8 .args) in
-    let same = count-still (a .times .now) (a .codes .now) (a .cells .now) (a .floats .now) (a .key) (a .at) _
+    let same = count-still (a .starts .now) (a .codes .now) (a .cells .now) (a .floats .now) (a .key) (a .at) _
     (c5 .keys-of .ensures) (c2 .press .ensures)
     (λ z. (c .if1 .taken) ((c1 .key-number .ensures) ∙ z))
     in (
-      press-of (a .times .now) (a .codes .now) (a .cells .now) (a .floats .now) (a .key) (a .at)
+      press-of (a .starts .now) (a .codes .now) (a .cells .now) (a .floats .now) (a .key) (a .at)
           (c7 .times-of .ensures) (c5 .keys-of .ensures)
           (c2 .press .ensures) same (c1 .key-number .ensures),
       none-put,
@@ -32,7 +32,7 @@ returns-2 c =
     let c9 = c7 .before .before in
     let c10 = c9 .before in
     let a = (c10 .args) in (
-      press-of (a .times .now) (a .codes .now) (a .cells .now) (a .floats .now) (a .key) (a .at)
+      press-of (a .starts .now) (a .codes .now) (a .cells .now) (a .floats .now) (a .key) (a .at)
           (c9 .times-of .ensures) (c7 .keys-of .ensures)
           (c4 .press .ensures) ((c .put-count .ensures) _ .parts) (c3 .key-number .ensures),
       done-answered (c2 .if1 .left)

@@ -14,11 +14,11 @@ returns c =
     let c7 = c5 .before .before in
     let c8 = c7 .before in
     let a = (c8 .args) in
-    let same = count-still (a .times .now) (a .codes .now) (a .cells .now) (a .floats .now) (a .key) (ofBits
+    let same = count-still (a .starts .now) (a .codes .now) (a .cells .now) (a .floats .now) (a .key) (ofBits
     binary64 (a .bits)) _ (c5 .keys-of .ensures) (c2 .press-bits .ensures)
     (λ z. (c .if1 .taken) ((c1 .key-number .ensures) ∙ z))
     in (
-      press-of (a .times .now) (a .codes .now) (a .cells .now) (a .floats .now) (a .key) (ofBits binary64 (a .bits))
+      press-of (a .starts .now) (a .codes .now) (a .cells .now) (a .floats .now) (a .key) (ofBits binary64 (a .bits))
           (c7 .times-of .ensures) (c5 .keys-of .ensures)
           (c2 .press-bits .ensures) same (c1 .key-number .ensures),
       none-put,
@@ -33,7 +33,7 @@ returns-2 c =
     let c9 = c7 .before .before in
     let c10 = c9 .before in
     let a = (c10 .args) in (
-      press-of (a .times .now) (a .codes .now) (a .cells .now) (a .floats .now) (a .key) (ofBits binary64 (a .bits))
+      press-of (a .starts .now) (a .codes .now) (a .cells .now) (a .floats .now) (a .key) (ofBits binary64 (a .bits))
           (c9 .times-of .ensures) (c7 .keys-of .ensures)
           (c4 .press-bits .ensures) ((c .put-count .ensures) _ .parts) (c3 .key-number .ensures),
       done-answered

@@ -12,11 +12,11 @@ returns c = λ f.
     let c7 = c3 .before .before .before .before in
     let c9 = c7 .before .before in
     let a = (c9 .args) in
-    let same = ring-still (a .at .now) (a .frequencies .now) (a .duties .now) (a .cells .now) f
+    let same = ring-still (a .onsets .now) (a .frequencies .now) (a .duties .now) (a .cells .now) f
     (c7 .ring-of .ensures) (c3 .take-from .ensures)
     (λ z. (c .if1 .taken) ((c1 .event-number .ensures) ∙ z))
     in (
-      take-of (a .at .now) (a .frequencies .now) (a .duties .now) (a .cells .now) f (c7 .ring-of .ensures)
+      take-of (a .onsets .now) (a .frequencies .now) (a .duties .now) (a .cells .now) f (c7 .ring-of .ensures)
           (c3 .take-from .ensures) same
           (c1 .event-number .ensures),
       none-put,
@@ -30,7 +30,7 @@ returns-2 c = λ f.
     let c9 = c5 .before .before .before .before in
     let c11 = c9 .before .before in
     let a = (c11 .args) in (
-      take-of (a .at .now) (a .frequencies .now) (a .duties .now) (a .cells .now) f (c9 .ring-of .ensures)
+      take-of (a .onsets .now) (a .frequencies .now) (a .duties .now) (a .cells .now) f (c9 .ring-of .ensures)
           (c5 .take-from .ensures)
           ((c .put-ring .ensures) f .parts) (c3 .event-number .ensures),
       done-answered (c2 .if1 .left)

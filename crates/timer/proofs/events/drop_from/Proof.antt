@@ -20,12 +20,12 @@ unfolding cleared
 one-more ring i place before now now-is place-is = rw (add-one i, now-is, place-is)
 
 abbrev Inv-loop : tie.InvT-loop
-Inv-loop times₀ frequencies₀ duties₀ ring n i₀ times frequencies duties i =
-    (i ≤ n) × (times ≡ cleared ring i times₀) × (frequencies ≡ cleared ring i frequencies₀) ×
+Inv-loop onsets₀ frequencies₀ duties₀ ring n i₀ onsets frequencies duties i =
+    (i ≤ n) × (onsets ≡ cleared ring i onsets₀) × (frequencies ≡ cleared ring i frequencies₀) ×
     (duties ≡ cleared ring i duties₀)
 
 abbrev μ-loop : tie.MeasureT-loop
-μ-loop times₀ frequencies₀ duties₀ ring n i₀ times frequencies duties i = n - i
+μ-loop onsets₀ frequencies₀ duties₀ ring n i₀ onsets frequencies duties i = n - i
 
 loop-holds : tie.Need-loop-holds Inv-loop μ-loop
 unfolding cleared
@@ -37,7 +37,7 @@ loop-again c =
     let lp = c .before .before .loop in
     let at = c .place .ensures in (
       omega arith,
-      one-more (start .ring) (lp .i) _ (start .times .now) (lp .times) (lp .inv .1) at,
+      one-more (start .ring) (lp .i) _ (start .onsets .now) (lp .onsets) (lp .inv .1) at,
       one-more (start .ring) (lp .i) _ (start .frequencies .now) (lp .frequencies) (lp .inv .2) at,
       one-more (start .ring) (lp .i) _ (start .duties .now) (lp .duties) (lp .inv .3) at,
     )

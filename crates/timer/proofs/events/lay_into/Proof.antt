@@ -58,7 +58,8 @@ use denote.Exit.{yes}
 use Rattle.timer.specs.declared.Event.{Event}
 use Rattle.timer.specs.declared.Ring.{Ring}
 use Rattle.timer.specs.declared.Queue.{Queue}
-use Rattle.timer.specs.Events.{eventOf, fitOf, layOutcome, queueOf}
+use Rattle.timer.specs.Events.{eventOf, fitOf, queueOf}
+use Rattle.timer.specs.Inner.{layOutcome}
 use Rattle.timer.proofs.Arrays.{Floats, slot, Lent, ArrayRef, at-ref, Vals}
 use Rattle.timer.proofs.Laid.{over, over-none, over-length, over-laid, fits}
 use Rattle.timer.proofs.events.fit_in.Symbol.{name as #fit-in}

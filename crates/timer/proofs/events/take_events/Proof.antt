@@ -53,7 +53,8 @@ use Rattle.timer.specs.declared.Event.{Event}
 use Rattle.timer.specs.declared.Ring.{Ring}
 use Rattle.timer.specs.declared.Queue.{Queue}
 use Rattle.timer.specs.declared.Bulk.{Bulk}
-use Rattle.timer.specs.Events.{layOf, layOutcome, dropOf, bulkOf, bulkOutcome}
+use Rattle.timer.specs.Events.{dropOf, bulkOf, bulkOutcome}
+use Rattle.timer.specs.Inner.{layOf, layOutcome}
 use Rattle.timer.proofs.Arrays.{Floats, Lent, ArrayRef, Vals}
 use Rattle.timer.proofs.Laid.{bulk-is}
 use Rattle.timer.proofs.events.lay_into.Symbol.{name as #lay-into}
@@ -145,11 +146,11 @@ module _ {M : Type 1} (𝓤 : URA M) (H : Heap 𝓤) (A : Atoms 𝓤) (W : Given
   Tok = ‵ (flft κ s) ⊛ ‵ ftrue
 
   -- the fields' relations
-  times-held : Is Floats (same (q .times)) (floatsVal (same (q .times)) ∷ [])
+  times-held : Is Floats (same (q .onsets)) (floatsVal (same (q .onsets)) ∷ [])
   times-held = LL.owed Q.the-type Q′.the-laws q (queueVal q ∷ []) known .0
 
-  times-is : Is Floats (q .times) (floatsVal (q .times) ∷ [])
-  times-is = subst (λ (l : List Float). Is Floats l (floatsVal l ∷ [])) (same-is (q .times)) times-held
+  times-is : Is Floats (q .onsets) (floatsVal (q .onsets) ∷ [])
+  times-is = subst (λ (l : List Float). Is Floats l (floatsVal l ∷ [])) (same-is (q .onsets)) times-held
 
   frequencies-held : Is Floats (same (q .frequencies)) (floatsVal (same (q .frequencies)) ∷ [])
   frequencies-held = LL.owed Q.the-type Q′.the-laws q (queueVal q ∷ []) known .1 .0
@@ -192,7 +193,7 @@ module _ {M : Type 1} (𝓤 : URA M) (H : Heap 𝓤) (A : Atoms 𝓤) (W : Given
   -- what `lay_into` is passed: three local arrays, lent for α
   module _ (α l₃ l₄ l₅ : ℕ) (γ₁ γ₂ γ₃ : GName) where
     abbrev x₁ : ArrayRef
-    x₁ = record { ptr = (l₃, 0); name = γ₁; now = q .times }
+    x₁ = record { ptr = (l₃, 0); name = γ₁; now = q .onsets }
 
     abbrev x₂ : ArrayRef
     x₂ = record { ptr = (l₄, 0); name = γ₂; now = q .frequencies }
@@ -248,8 +249,8 @@ module _ {M : Type 1} (𝓤 : URA M) (H : Heap 𝓤) (A : Atoms 𝓤) (W : Given
         pass1 ! (init ! 18 refl (tt, (tt, (record { fits = room .0 }, tt)))) $ pass0 ! $
         assigns ! (of-opd ! (load ! (from ! (fld ! refl (stop !))) (look-in ! 20 (sub ! 0 refl (whole !)))))
         (from ! (stop !))
-        (init ! 16 refl (typed (same (q .times)) times-held)) $
-        rewrite ! 16 (λ (l : List Float). ‵ (fat fullShare floats l₃ 0 (floatsVal l))) (same-is (q .times)) refl $
+        (init ! 16 refl (typed (same (q .onsets)) times-held)) $
+        rewrite ! 16 (λ (l : List Float). ‵ (fat fullShare floats l₃ 0 (floatsVal l))) (same-is (q .onsets)) refl $
         assigns ! (of-opd ! (load ! (from ! (fld ! refl (stop !))) (look-in ! 20 (sub ! 1 refl (whole !)))))
         (from ! (stop !))
         (init ! 14 refl (typed (same (q .frequencies)) frequencies-held)) $
@@ -269,8 +270,9 @@ module _ {M : Type 1} (𝓤 : URA M) (H : Heap 𝓤) (A : Atoms 𝓤) (W : Given
         (init ! 0 refl (tt, (tt, (record { fits = room .0 }, tt)))) $
         -- the three arrays are lent for a lifetime that is made here
         lft-new ! tt (λ α.
-        move ! (17 ∷ []) $ use1 W (‵ (partAt Floats fullShare (q .times) l₃ 0)) (packs 𝓤 H A W (q .times) l₃ times-is) $
-        use1 W (LentOut α (q .times) l₃) (lends-shr 𝓤 H A W Floats (named 0) (α ∷ []) fullShare (q .times) l₃ 0) $
+        move ! (17 ∷ []) $ use1 W (‵ (partAt Floats fullShare (q .onsets) l₃ 0)) (packs 𝓤 H A W
+        (q .onsets) l₃ times-is) $
+        use1 W (LentOut α (q .onsets) l₃) (lends-shr 𝓤 H A W Floats (named 0) (α ∷ []) fullShare (q .onsets) l₃ 0) $
         await ! tt $
         pick ! (λ γ₁. split ! $
         move ! (17 ∷ []) $ use1 W (‵ (partAt Floats fullShare (q .frequencies) l₄ 0))
@@ -314,8 +316,8 @@ module _ {M : Type 1} (𝓤 : URA M) (H : Heap 𝓤) (A : Atoms 𝓤) (W : Given
         (unpacks 𝓤 H A W (q .duties) l₅) $
         move ! (1 ∷ 7 ∷ []) $ lent-back ! tt $ use1 W (‵ (fat fullShare floats l₄ 0 (floatsVal (q .frequencies))))
         (unpacks 𝓤 H A W (q .frequencies) l₄) $
-        move ! (2 ∷ 7 ∷ []) $ lent-back ! tt $ use1 W (‵ (fat fullShare floats l₃ 0 (floatsVal (q .times))))
-        (unpacks 𝓤 H A W (q .times) l₃) $
+        move ! (2 ∷ 7 ∷ []) $ lent-back ! tt $ use1 W (‵ (fat fullShare floats l₃ 0 (floatsVal (q .onsets))))
+        (unpacks 𝓤 H A W (q .onsets) l₃) $
         -- [_3; _4; _5; the records' token; the answer; the last records; true; _11; …]
         move ! (4 ∷ []) $ peeks ! usize (Is usize) (shows 𝓤 H A usize) r (v ∷ []) (λ is. drop ! $
         land ! (from ! (stop !)) (init ! 16 refl (uint-lawful 𝓤 H A W w64 .typed r _ is .0)) $

@@ -19,7 +19,7 @@ one-taken q first rest some = rw (first, rest) (sym (take-some q some))
 returns : tie.Need-returns
 returns c =
     let a = c .before .before .before .args in
-    none-taken (queueOf (a .times .now) (a .frequencies .now) (a .duties .now) (a .ring)) (c .nothing .ensures)
+    none-taken (queueOf (a .onsets .now) (a .frequencies .now) (a .duties .now) (a .ring)) (c .nothing .ensures)
     (c .before .if1 .taken)
 
 returns-2 : tie.Need-returns-2
@@ -27,7 +27,7 @@ returns-2 c =
     let at-event = c .before .before .before .before in
     let at-test = at-event .before .before .before .before in
     let a = at-test .before .before .args in
-    one-taken (queueOf (a .times .now) (a .frequencies .now) (a .duties .now) (a .ring))
+    one-taken (queueOf (a .onsets .now) (a .frequencies .now) (a .duties .now) (a .ring))
     (at-event .event-in .ensures) (c .drop-from .ensures)
     (at-test .if1 .left)
 

@@ -48,7 +48,8 @@ use Rattle.timer.specs.declared.Event.{Event}
 use Rattle.timer.specs.declared.Ring.{Ring}
 use Rattle.timer.specs.declared.Queue.{Queue}
 use Rattle.timer.specs.declared.Batch.{Batch}
-use Rattle.timer.specs.Events.{queueOf, layOf, layOutcome, dropOf, batched, bulkOf, bulkOutcome}
+use Rattle.timer.specs.Events.{queueOf, dropOf, batched, bulkOf, bulkOutcome}
+use Rattle.timer.specs.Inner.{layOf, layOutcome}
 use Rattle.timer.proofs.Arrays.{Floats, slot, Lent, Mine, ArrayRef, at-ref, Vals}
 use Rattle.timer.proofs.Laid.{bulk-is}
 use Rattle.timer.proofs.Shared.{LentShared, lends-shared, shared-back}
