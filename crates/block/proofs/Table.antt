@@ -16,7 +16,7 @@ table-step f zero i j (x ∷ d) e l = let z : j ≡ i = omega arith in ap (λ (n
 table-step f (suc k) i j (x ∷ d) e l = ap (λ (t : List ℕ). f i ∷ t) (table-step f k (suc i) j d (omega arith)
     (le-of-suc-le-suc l))
 
-table-long : (f : ℕ → ℕ) (i n : ℕ) → length (table f i n) ≡ n
+pub table-long : (f : ℕ → ℕ) (i n : ℕ) → length (table f i n) ≡ n
 unfolding table
 table-long f i zero = refl
 table-long f i (suc n) = ap suc (table-long f (suc i) n)

@@ -10,8 +10,8 @@ use lib.Ieee.{Float}
 use borrow.Author.Tests.{eq-eqb, ne-eqb}
 use lib.Bits.{bitAnd, bitXor}
 use lib.ListN.{getD, set}
+use Rattle.map.specs.Numbers.{DONE, ADC-CONTROL, ADC-RESULT, SOUND-FULL}
 use Rattle.registers.specs.Words.{ownAt, ownWith}
-use Rattle.map.specs.Numbers.{ADC-CONTROL, ADC-RESULT}
 use Rattle.registers.specs.declared.Effect.{Effect}
 use Rattle.registers.specs.declared.Effect.the-variants.{TimerControl, Sound, LcdStatus, Tick, AdcControl, Power}
 use Rattle.registers.specs.declared.Effect.the-variants.{SpiSend}
@@ -55,7 +55,7 @@ only-then a b = record { ring = b .ring ∙ a .ring; keys = b .keys ∙ a .keys 
 pub devices-put : (x : Parts) {y : Parts} {d : Devices} → y ≡ devicesPut x d → y .devices ≡ d
 devices-put x e = ap (λ (z : Parts). z .devices) e
 
-pub done-number : {r : WriteAnswer} → r ≡ withoutEvent 0 → r .refusal ≡ 0
+pub done-number : {r : WriteAnswer} → r ≡ withoutEvent DONE → r .refusal ≡ DONE
 done-number h = ap (λ (z : WriteAnswer). z .refusal) h
 
 pub quiet : {r : WriteAnswer} {n : ℕ} → r ≡ withoutEvent n → r .event ≡ false
@@ -63,7 +63,7 @@ quiet h = ap (λ (z : WriteAnswer). z .event) h
 
 -- a part was put, or none
 module _ {r : WriteAnswer} {l : List ℕ} {f : List Float} where
-  pub rest-put : {l′ : List ℕ} {f′ : List Float} → r .refusal ≡ 0 → Only (partsIn l f) (partsIn l′ f′)
+  pub rest-put : {l′ : List ℕ} {f′ : List Float} → r .refusal ≡ DONE → Only (partsIn l f) (partsIn l′ f′)
       → StaysPacked l f l′ f′ → Rest r l f l′ f′
   rest-put h o k = record { only = o; packed = k; still = λ g. absurd (g h) }
 
@@ -78,19 +78,20 @@ module _ (slots : List ℕ) (x : Parts) (clock : ℕ) (full : Bool) (word v : �
   here : s ≡ soundOf slots (x .devices .tone) clock full word v
   here = e ∙ ap (λ (z : Tone). soundOf slots z clock full word v) t
 
-  pub sound-full : {r : WriteAnswer} → s ≡ SoundFull → r ≡ withoutEvent 5
+  pub sound-full : {r : WriteAnswer} → s ≡ SoundFull → r ≡ withoutEvent SOUND-FULL
       → ownOut slots (wroteOf r (x .devices)) ≡ soundWritten slots (x .devices) (x .devices) clock full word v
   unfolding soundWritten
   sound-full h k = rw (k, ← here, h)
 
-  pub sound-same : {slots₁ : List ℕ} {r : WriteAnswer} → s ≡ Same → slots₁ ≡ ownWith slots word v → r ≡ withoutEvent 0
+  pub sound-same : {slots₁ : List ℕ} {r : WriteAnswer} → s ≡ Same → slots₁ ≡ ownWith slots word v
+      → r ≡ withoutEvent DONE
       → ownOut slots₁ (wroteOf r (x .devices)) ≡ soundWritten slots (x .devices) (x .devices) clock full word v
   unfolding soundWritten
   sound-same h i k = rw (k, ← here, h, i)
 
   pub sound-change : {slots₁ : List ℕ} {y : Parts} {to : Tone} → s ≡ Change to → slots₁ ≡ ownWith slots word v
       → y ≡ tonePut x to
-      → ownOut slots₁ (record { refusal = 0; event = true; devices = y .devices }) ≡ soundWritten slots (x .devices)
+      → ownOut slots₁ (record { refusal = DONE; event = true; devices = y .devices }) ≡ soundWritten slots (x .devices)
       (x .devices) clock full word v
   unfolding soundWritten
   sound-change h i j = rw (← here, h, i, j)
@@ -111,7 +112,7 @@ module _ (slots : List ℕ) (d : Devices) (n : ℕ) (t : Timer) (word v : ℕ) w
   refused-first Same h = absurd (h refl)
   refused-first (Change tone) h = absurd (h refl)
 
-  done-first : (x : Sounded) → sounding x slots d d word v .wrote .refusal ≡ 0
+  done-first : (x : Sounded) → sounding x slots d d word v .wrote .refusal ≡ DONE
       → timed (sounding x slots d d word v) ≡ sounding x slots d (timerSet d n t) word v
   done-first SoundFull h = absurd (omega arith)
   done-first Same h = refl
@@ -144,7 +145,7 @@ module _ (slots : List ℕ) (x : Parts) (clock : ℕ) (full : Bool) (n word old 
         rw (← written, eq-eqb _ _ h)
         (k ∙ refused-first slots (x .devices) n (w .timer) word (w .control) sounded (λ z. g (number ∙ z)))
 
-    pub timer-sounds : {next : Devices} → r .refusal ≡ 0 → next ≡ timerSet d 4 (w .timer)
+    pub timer-sounds : {next : Devices} → r .refusal ≡ DONE → next ≡ timerSet d 4 (w .timer)
         → ownOut slots₁ (wroteOf r next) ≡ timerWritten slots (x .devices) clock full n word old new
     unfolding timerWritten soundWritten
     timer-sounds g p =
@@ -153,7 +154,7 @@ module _ (slots : List ℕ) (x : Parts) (clock : ℕ) (full : Bool) (n word old 
         ∙ done-first slots (x .devices) n (w .timer) word (w .control) sounded (sym number ∙ g))
 
   pub timer-plain : {slots₁ : List ℕ} {y : Parts} {r : WriteAnswer} → n ≢ 4 → slots₁ ≡ ownWith slots word (w .control)
-      → y ≡ timerPut x n (w .timer) → r ≡ withoutEvent 0
+      → y ≡ timerPut x n (w .timer) → r ≡ withoutEvent DONE
       → ownOut slots₁ (wroteOf r (y .devices)) ≡ timerWritten slots (x .devices) clock full n word old new
   unfolding timerWritten
   timer-plain h i j k = rw (← written, ne-eqb _ _ h, k, j, i)
@@ -197,7 +198,7 @@ module _ (slots : List ℕ) (x : Parts) (clock : ℕ) (full : Bool) (s old new p
       → y ≡ wordWritten e slots (x .devices) clock full (slotWord s) old new part
   word-sounds k j i = rw (k, ← j) i
 
-  module _ {slots₁ : List ℕ} {r : WriteAnswer} (z : r ≡ withoutEvent 0) where
+  module _ {slots₁ : List ℕ} {r : WriteAnswer} (z : r ≡ withoutEvent DONE) where
     pub word-lcd : e ≡ LcdStatus → slots₁ ≡ set slots s (bitAnd old (bitXor new 0xFFFFFFFF))
         → ownOut slots₁ (wroteOf r (x .devices)) ≡ wordWritten e slots (x .devices) clock full (slotWord s) old new part
     word-lcd k l = rw (k, z, l, slot-stored s h slots (bitAnd old (bitXor new 0xFFFFFFFF)))

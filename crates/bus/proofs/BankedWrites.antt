@@ -7,6 +7,8 @@ use lib.Ieee.{Float}
 use native.Mathlib.Omega.{arith}
 use lib.Dec.{eqb}
 use lib.ListN.{getD, set}
+use Rattle.map.specs.Numbers.{DONE, STRAY-WRITE, BAD-SIZE}
+use Rattle.whole.proofs.Choice.{turned}
 use Rattle.registers.specs.declared.Registers.{Registers}
 use Rattle.registers.specs.declared.Effect.{Effect}
 use Rattle.registers.specs.declared.Effect.the-variants.{DayField}
@@ -57,7 +59,6 @@ use Rattle.bus.specs.Inner.{sizedPut, sizedNumber}
 use Rattle.bus.specs.Write.{writeAt, writeOf, together, notedWrite}
 use Rattle.bus.specs.Bank.{outOf}
 use Rattle.bus.specs.Inner.{Rest, wroteOf, withoutEvent}
-use Rattle.bus.proofs.Cases.{other}
 use Rattle.bus.proofs.Branches.{Stores, by-stores}
 use Rattle.bus.proofs.Slots.{slot-stored, day-unstored}
 use Rattle.bus.proofs.Parts.{sent-alone}
@@ -77,7 +78,8 @@ module _ (r : Registers) (x : Parts) (word : ℕ) (none : slotOf word ≡ 76) wh
   word-as e = rw (← spot-other (r .addresses) word (slotOf word) refl past, ← e)
 
   module _ {b : Bool} (e : b ≡ dayWord word) (a n v : ℕ) where
-    pub other-day : {t : WriteAnswer} {y : Parts} {f new : ℕ} → b ≡ true → t ≡ withoutEvent 0 → new ≡ mergedOf 0 a n v
+    pub other-day : {t : WriteAnswer} {y : Parts} {f new : ℕ} → b ≡ true → t ≡ withoutEvent DONE
+        → new ≡ mergedOf 0 a n v
         → f ≡ fieldOf word → y ≡ devicesPut x (daySet (x .devices) f new)
         → stored r (wroteOf t (y .devices)) ≡ otherWritten r (x .devices) word (mergedOf (wordAt r word) a n v)
     unfolding otherWritten
@@ -91,11 +93,11 @@ module _ (r : Registers) (x : Parts) (word : ℕ) (none : slotOf word ≡ 76) wh
       unfolding otherWritten storedWord
       other-put k = rw (← e, l, word-as h, put-as (mergedOf (wordIn (r .slots) (r .values) y) a n v) h) k
 
-      pub other-none : {t : WriteAnswer} → t ≡ withoutEvent 0 → y ≡ Never
+      pub other-none : {t : WriteAnswer} → t ≡ withoutEvent DONE → y ≡ Never
           → stored r (wroteOf t (x .devices)) ≡ otherWritten r (x .devices) word (mergedOf (wordAt r word) a n v)
       other-none k m = other-put (rw (m, k))
 
-      pub other-put-present : {t : WriteAnswer} {old new : ℕ} {p q : List ℕ} (i : ℕ) → t ≡ withoutEvent 0
+      pub other-put-present : {t : WriteAnswer} {old new : ℕ} {p q : List ℕ} (i : ℕ) → t ≡ withoutEvent DONE
           → y ≡ Present i
           → old ≡ getD (r .values) i 0 → new ≡ mergedOf old a n v
           → others p q ≡ putPresent (othersOf r) i new
@@ -130,7 +132,7 @@ module _ (r : Registers) (rtc page ram sram gpio fb : List ℕ) (x : Parts) (ful
   abbrev before : World
   before = world r rtc page ram sram gpio fb (x .devices)
 
-  module _ {t : WriteAnswer} {y : Parts} {slots₁ : List ℕ} (k : t ≡ withoutEvent 0) where
+  module _ {t : WriteAnswer} {y : Parts} {slots₁ : List ℕ} (k : t ≡ withoutEvent DONE) where
     pub port-select : {f chip : Chip} {page₁ ram₁ : List ℕ} → portOf word ≡ Select → chip ≡ x .devices .flash
         → flashed slots₁ (chipped f page₁ ram₁) ≡ selectWritten (r .slots) chip page ram new → y ≡ flashPut x f
         → outOf (world (registersOf slots₁ (r .addresses) (r .values)) rtc page₁ ram₁ sram gpio fb (y .devices)) t
@@ -194,7 +196,7 @@ module _ (w : World) (full : Bool) (word old new part : ℕ) where
 
 -- one that is only stored, by its slot
 pub port-holds : (w : World) (full : Bool) (s old new part : ℕ) (p : Port) → s < 76 → portOf (slotWord s) ≡ p → Stores p
-    → {slots₁ : List ℕ} {t : WriteAnswer} → (slots₁ ≡ set (w .registers .slots) s new) × (t ≡ withoutEvent 0)
+    → {slots₁ : List ℕ} {t : WriteAnswer} → (slots₁ ≡ set (w .registers .slots) s new) × (t ≡ withoutEvent DONE)
     → outOf (world (registersOf slots₁ (w .registers .addresses) (w .registers .values)) (w .rtc) (w .page) (w .ram)
     (w .sram)
     (w .gpio) (w .fb) (w .devices)) t ≡ portWritten w full (slotWord s) old new part
@@ -264,20 +266,21 @@ module _ (r : Registers) (rtc page ram sram gpio fb : List ℕ) (d : Devices) (f
           (storedAt gpio o n v) gpio)
 
     module _ {good : Bool} (e : good ≡ goodSize n) where
-      pub write-size : {t : WriteAnswer} → not good ≡ true → t ≡ withoutEvent 9
+      pub write-size : {t : WriteAnswer} → not good ≡ true → t ≡ withoutEvent BAD-SIZE
           → outOf there t ≡ writeOf there full a n v
       unfolding writeOf
-      write-size h k = rw (← e, other good true h, k)
+      write-size h k = rw (← e, turned good true h, k)
 
       module _ (h : not good ≡ false) where
         placed : writeOf there full a n v ≡ writeAt q there full a n v
         unfolding writeOf
-        placed = rw (← e, other good false h, ← f)
+        placed = rw (← e, turned good false h, ← f)
 
         pub write-register : {z : Out} → q ≡ Register → z ≡ regWritten there full a n v → z ≡ writeOf there full a n v
         write-register k i = rw (placed, k) i
 
-        pub write-stray : {t : WriteAnswer} → q ≡ Stray → t ≡ withoutEvent 6 → outOf there t ≡ writeOf there full a n v
+        pub write-stray : {t : WriteAnswer} → q ≡ Stray → t ≡ withoutEvent STRAY-WRITE
+            → outOf there t ≡ writeOf there full a n v
         write-stray k i = rw (placed, k, i)
 
 -- ---- the event

@@ -8,6 +8,7 @@ use lib.ListN.{getD}
 use lib.Bits.{bitAnd, bitXor}
 use lib.Dec.{eqb}
 use borrow.Author.Tests.{eqb-true, eqb-false}
+use Rattle.map.specs.Numbers.{DONE}
 use Rattle.whole.proofs.Choice.{by-cond}
 use Rattle.memory.specs.declared.Place.{Place}
 use Rattle.memory.specs.declared.Place.the-variants.{Ram, Sram, Gpio, Register, Stray}
@@ -144,7 +145,7 @@ module _ (P : OwnOut → Type 0) (slots : List ℕ) (d : Devices) (clock : ℕ) 
       → P (ownOut slots (answer 5 d)))
       → (soundOf slots (d .tone) clock full word v ≡ Same → P (ownDone (ownWith slots word v) next))
       → ((tone : Tone) → soundOf slots (d .tone) clock full word v ≡ Change tone
-      → P (ownOut (ownWith slots word v) (record { refusal = 0; event = true; devices = withTone next tone })))
+      → P (ownOut (ownWith slots word v) (record { refusal = DONE; event = true; devices = withTone next tone })))
       → P (soundWritten slots d next clock full word v)
   unfolding soundWritten
   by-sound next word v refused same change = go (soundOf slots (d .tone) clock full word v) refl

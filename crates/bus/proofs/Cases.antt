@@ -9,9 +9,11 @@ use lib.Bits.{bitAnd, bitOr}
 use lib.ListN.{length, getD}
 use lib.Ieee.{Float}
 use borrow.Author.Tests.{eq-eqb, ne-eqb}
+use Rattle.map.specs.Numbers.{BAD-SIZE}
 use Rattle.map.specs.Numbers.{SPI2-SEND, SPI2-STATUS, SPI2-ANSWER, SPI2-IDLE, RTC-ADDRESS, RTC-DATA, RTC-COMMAND}
 use Rattle.map.specs.Numbers.{SPIFC-SELECT, SPIFC-SEND, LCD-CONTROL, LCD-DATA, LCD-STATUS, LCD-DMA}
 use Rattle.whole.specs.Words.{has}
+use Rattle.whole.proofs.Choice.{turned}
 use Rattle.registers.specs.declared.Registers.{Registers}
 use Rattle.registers.specs.Words.{ownAt, ownWith, wordAt}
 use Rattle.registers.specs.Ports.{slotOf, slotWord}
@@ -140,15 +142,6 @@ module _ (r : Registers) (ram sram gpio : List ℕ) (t : Screen) where
         (λ (o : List ℕ). quieted (actResult (record { slots = o; addresses = r .addresses; values = r .values })
         ram sram gpio t val) val) e)
 
--- ---- a test that is turned over
-
-not-not : (b : Bool) → not (not b) ≡ b
-not-not true = refl
-not-not false = refl
-
-pub other : (b c : Bool) → not b ≡ c → b ≡ not c
-other b c h = sym (not-not b) ∙ ap not h
-
 -- ---- reads
 
 module _ (r : Registers) (s : List ℕ) (d : Devices) (a n : ℕ) where
@@ -191,15 +184,15 @@ module _ (r : Registers) (ram sram gpio : List ℕ) (d : Devices) (a n : ℕ) {p
   read-gpio k l = rw (l, ← f, k) (sized-reads (r .slots) (goodSize n) _ _)
 
   module _ {good : Bool} (e : good ≡ goodSize n) where
-    pub read-size : {x : Got} → not good ≡ true → x ≡ record { refusal = 9; value = 0 }
+    pub read-size : {x : Got} → not good ≡ true → x ≡ record { refusal = BAD-SIZE; value = 0 }
         → got (r .slots) x ≡ readOf r ram sram gpio d a n
     unfolding readOf
-    read-size h k = rw (k, ← e, other good true h)
+    read-size h k = rw (k, ← e, turned good true h)
 
     module _ (h : not good ≡ false) where
       located : readOf r ram sram gpio d a n ≡ readAt p r ram sram gpio d a n
       unfolding readOf
-      located = rw (← e, other good false h, ← f)
+      located = rw (← e, turned good false h, ← f)
 
       pub read-register : {slots₁ : List ℕ} {x : ℕ} → p ≡ Register → given slots₁ x ≡ regRead r sram d a n
           → reads (given slots₁ x) ≡ readOf r ram sram gpio d a n

@@ -5,13 +5,12 @@ use mathlib.Core.Bool.{true, false}
 use mathlib.Core.List.{List}
 use mathlib.Core.Logic.{_≢_}
 use borrow.Author.Tests.{ne-eqb}
+use Rattle.map.specs.Numbers.{DONE, BAD-SIZE}
 use Rattle.memory.specs.Access.{goodSize}
 use Rattle.memory.specs.Bytes.{loaded, storedAt}
 use Rattle.bus.specs.declared.WriteAnswer.{WriteAnswer}
 use Rattle.bus.specs.declared.Got.{Got}
-use Rattle.bus.specs.Inner.{withoutEvent}
-use Rattle.bus.specs.Inner.{sizedGot}
-use Rattle.bus.specs.Inner.{sizedPut, sizedNumber}
+use Rattle.bus.specs.Inner.{withoutEvent, sizedGot, sizedPut, sizedNumber}
 
 pub good-one : goodSize 1 ≡ true
 unfolding goodSize
@@ -28,10 +27,10 @@ good-four = refl
 -- k is one of these
 module _ (n k : ℕ) (e : n ≡ k) (g : goodSize k ≡ true) (m : List ℕ) (o : ℕ) where
   pub got-sized : {v : ℕ} → v ≡ loaded m o k
-      → _≡_ {A = Got} (record { refusal = 0; value = v }) (sizedGot n (loaded m o n))
+      → _≡_ {A = Got} (record { refusal = DONE; value = v }) (sizedGot n (loaded m o n))
   got-sized h = rw (e, g, h)
 
-  pub put-sized : (v : ℕ) {l : List ℕ} {t : WriteAnswer} → l ≡ storedAt m o k v → t ≡ withoutEvent 0
+  pub put-sized : (v : ℕ) {l : List ℕ} {t : WriteAnswer} → l ≡ storedAt m o k v → t ≡ withoutEvent DONE
       → (l ≡ sizedPut m o n v) × (t ≡ withoutEvent (sizedNumber n))
   put-sized v h f = (rw (e, g, h), rw (e, g) f)
 
@@ -40,9 +39,9 @@ module _ (n : ℕ) (a : n ≢ 1) (b : n ≢ 2) (c : n ≢ 4) where
   unfolding goodSize
   bad = rw (ne-eqb _ _ a, ne-eqb _ _ b, ne-eqb _ _ c)
 
-  pub got-refused : (v : ℕ) {x : Got} → x ≡ record { refusal = 9; value = 0 } → x ≡ sizedGot n v
+  pub got-refused : (v : ℕ) {x : Got} → x ≡ record { refusal = BAD-SIZE; value = 0 } → x ≡ sizedGot n v
   got-refused v h = rw bad h
 
-  pub put-refused : (m : List ℕ) (o v : ℕ) {t : WriteAnswer} → t ≡ withoutEvent 9
+  pub put-refused : (m : List ℕ) (o v : ℕ) {t : WriteAnswer} → t ≡ withoutEvent BAD-SIZE
       → (m ≡ sizedPut m o n v) × (t ≡ withoutEvent (sizedNumber n))
   put-refused m o v f = (rw bad, rw bad f)

@@ -2,7 +2,7 @@
 -- cite.
 use mathlib.Core.Path.{_≡_, refl, sym, ap, ap₂, _∙_, subst}
 use mathlib.Core.Bool.{Bool, true, false, not}
-use mathlib.Core.List.{List, [], _∷_, _++_, append-assoc}
+use mathlib.Core.List.{List, [], _∷_, _++_, append-assoc, append-nil}
 use Prim.Native.Nat.{ℕ, zero, suc, _+_, _-_, _*_, _%_, _≤_, _<_}
 use native.Mathlib.Nat.{not-suc-le-zero, mod-lt, mod-eq-of-lt, add-mod-mod, mod-mod-of-dvd, dvd-of-mod-eq-zero}
 use native.Mathlib.Omega.{arith}
@@ -11,6 +11,7 @@ use lib.Seq.{getD-drop, getD-set-other}
 use lib.Dec.{eqb, leb, ltb}
 use lib.Bits.{bitAnd, and-mask, and-comm}
 use borrow.Author.Tests.{ne-eqb, eq-eqb, lt-ltb, le-ltb, le-leb, lt-leb, ltb-false, eqb-false}
+use Rattle.whole.proofs.Choice.{by-less}
 use Rattle.flash.specs.Pick.{pick, both}
 use Rattle.flash.specs.Board.{Board, Sized, goodSize}
 use Rattle.flash.specs.Buf.{blank}
@@ -37,12 +38,11 @@ use Rattle.flash.specs.declared.Act.{Act}
 use Rattle.flash.specs.declared.Act.the-variants.{Nothing, Enable, Disable, Program, Erase, EraseAll}
 use Rattle.flash.specs.declared.Block.the-variants.{Sector, Half, Full}
 use Rattle.flash.proofs.Bools.{either-first, both-first}
-use Rattle.flash.proofs.Place.{split}
 use Rattle.flash.proofs.Refine.{act-exact, answer-ahead}
 use Rattle.flash.proofs.Laws.{good-sized, page-in, part-long, size-2, size-256, not-empty}
 use Rattle.flash.proofs.Forget.{after-cs, afterAct}
 use Rattle.flash.proofs.Runs.{after-good, step-view, run-view, answers-view}
-use Rattle.flash.proofs.Long.{step-long}
+use Rattle.flash.proofs.Long.{step-long, run-long}
 use Rattle.flash.proofs.Codes.{Unlisted, by-code}
 
 -- ---- the answers
@@ -57,10 +57,10 @@ answer-at e w m c bs i l = rw (ne-eqb i 0 (λ z. omega arith))
 
 -- an answer that begins after h bytes agrees if it does from there on
 from : (h i : ℕ) (a : Says) (b : ℕ) → (h ≤ i → Agrees a b) → Agrees (pick (ltb i h) unsaid a) b
-from h i a b f = split i h (λ l. rw (lt-ltb i h l) tt) (λ l. rw (le-ltb i h l) (f l))
+from h i a b f = by-less i h (λ l. rw (lt-ltb i h l) tt) (λ l. rw (le-ltb i h l) (f l))
 
 nth-agrees : (l : List ℕ) (j b : ℕ) → (j < length l → b ≡ getD l j 0) → Agrees (nth l j) b
-nth-agrees l j b f = split j (length l) (λ h. rw (lt-ltb j (length l) h) (f h)) (λ h. rw (le-ltb j (length l) h) tt)
+nth-agrees l j b f = by-less j (length l) (λ h. rw (lt-ltb j (length l) h) (f h)) (λ h. rw (le-ltb j (length l) h) tt)
 
 -- the memory from the address on, after h bytes
 memory-agrees : (m : List ℕ) (w : Bool) (b : List ℕ) (h i : ℕ)
@@ -75,8 +75,8 @@ jedec-agrees i u = nth-agrees (0xEF ∷ 0x40 ∷ 0x17 ∷ []) (i - 1) _ λ l. th
   where
     three : i - 1 < 3 → jedec i ≡ getD (0xEF ∷ 0x40 ∷ 0x17 ∷ []) (i - 1) 0
     three l =
-        split i 2 (λ h. let e : i ≡ 1 = omega arith in rw e) λ h₁.
-        split i 3 (λ h. let e : i ≡ 2 = omega arith in rw e) λ h₂.
+        by-less i 2 (λ h. let e : i ≡ 1 = omega arith in rw e) λ h₁.
+        by-less i 3 (λ h. let e : i ≡ 2 = omega arith in rw e) λ h₂.
         let e : i ≡ 3 = omega arith in rw e
 
 -- from an even address the maker comes first, from an odd one the device
@@ -101,13 +101,13 @@ bytes-of a j = pick (eqb ((a + j) % 2) 0) 0xEF 0x16
 
 even : (j : ℕ) → pick (eqb (j % 2) 1) 0x16 0xEF ≡ bytes-of 0 j
 even j =
-    split (j % 2) 1
+    by-less (j % 2) 1
     (λ h. let e : j % 2 ≡ 0 = omega arith in let f : (0 + j) % 2 ≡ 0 = omega arith in rw (e, f))
     (λ h. let e : j % 2 ≡ 1 = omega arith in let f : (0 + j) % 2 ≡ 1 = omega arith in rw (e, f))
 
 odd : (j : ℕ) → pick (eqb (j % 2) 1) 0xEF 0x16 ≡ bytes-of 1 j
 odd j =
-    split (j % 2) 1
+    by-less (j % 2) 1
     (λ h. let e : j % 2 ≡ 0 = omega arith in let f : (1 + j) % 2 ≡ 1 = omega arith in rw (e, f))
     (λ h. let e : j % 2 ≡ 1 = omega arith in let f : (1 + j) % 2 ≡ 0 = omega arith in rw (e, f))
 
@@ -130,9 +130,9 @@ maker-odd Strict b i f h = maker-1 b i h
 maker-agrees : (e : Mode) (a b i : ℕ) → a % 2 ≡ b % 2 → Fair e a
     → Agrees (pick (ltb a 2) (drives (bytes-of a (i - 4))) unsaid) (makerOf e b i)
 maker-agrees e a b i h f =
-    split a 1
+    by-less a 1
     (λ l. let z : a ≡ 0 = omega arith in rw z (maker-0 e b i (omega arith)))
-    (λ l. split a 2
+    (λ l. by-less a 2
     (λ u. let z : a ≡ 1 = omega arith in rw z (maker-odd e b i (subst (Fair e) z f) (omega arith)))
     (λ u. rw (le-ltb a 2 u) tt))
 
@@ -225,8 +225,9 @@ both-true false = refl
 pub just-4 : (w : Bool) (e : Mode) (k : ℕ) → Within e k 4 → mayErase e w k ≡ both w (eqb k 4)
 just-4 false e k h = refl
 just-4 true Rust k h =
-    split k 4 (λ l. rw (lt-leb 4 k l, ne-eqb k 4 (λ z. omega arith))) (λ l. rw (le-leb 4 k l, eq-eqb k 4 (omega arith)))
-just-4 true Strict k h = split k 4 (λ l. rw (lt-leb 4 k l, ne-eqb k 4 (λ z. omega arith))) (λ l. rw (le-leb 4 k l))
+    by-less k 4 (λ l. rw (lt-leb 4 k l, ne-eqb k 4 (λ z. omega arith)))
+    (λ l. rw (le-leb 4 k l, eq-eqb k 4 (omega arith)))
+just-4 true Strict k h = by-less k 4 (λ l. rw (lt-leb 4 k l, ne-eqb k 4 (λ z. omega arith))) (λ l. rw (le-leb 4 k l))
 
 pub just-1 : (w : Bool) (e : Mode) (k : ℕ) → 1 ≤ k → Within e k 1 → mayWipe e w k ≡ both w (eqb k 1)
 just-1 w Rust k l h = rw (eq-eqb k 1 (omega arith))
@@ -417,10 +418,6 @@ module _ (e : Mode) (w : Bool) (m : List ℕ) (s : Sized (length m)) (y : Bytes 
       cons-bytes c l (suc k) = z k
 
 -- ---- a whole instruction, over the list of bytes
-append-nil : (b : List ℕ) → b ++ [] ≡ b
-append-nil [] = refl
-append-nil (x ∷ b) = ap (λ (r : List ℕ). x ∷ r) (append-nil b)
-
 answers-at : (e : Mode) (bs : List ℕ) (s : Sys) (i : ℕ) → i < length bs
     → getD (listAnswers e s (sends bs)) i 0 ≡ answerOf e (s .wel) (exactTrans (s .buf ++ take i bs)) (s .ram)
 answers-at e [] s i h = absurd (not-suc-le-zero h)
@@ -445,10 +442,6 @@ ended-writes e [] s h = rw (h, append-nil (s .buf), act-exact e (s .wel) (length
 ended-writes e (b ∷ bs) s h =
     ended-writes e bs (listAfter e s (byte b)) h
     ∙ ap (λ (l : List ℕ). writesAfter (actOf e (s .wel) (exactTrans l)) (s .writes)) (append-assoc (s .buf) (b ∷ []) bs)
-
-run-long : (xs : List Step) (w : Board) → length (afterSteps w xs .array) ≡ length (w .array)
-run-long [] w = refl
-run-long (x ∷ xs) w = run-long xs (afterStep w x) ∙ step-long w x
 
 -- ---- and over the definition that the contracts cite
 -- what a select of the idle chip begins

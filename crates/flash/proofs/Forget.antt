@@ -8,6 +8,7 @@ use native.Mathlib.Omega.{arith}
 use lib.ListN.{length}
 use lib.Dec.{eqb, leb}
 use borrow.Author.Tests.{ne-eqb}
+use Rattle.whole.proofs.Choice.{by-test}
 use Rattle.flash.specs.Pick.{pick}
 use Rattle.flash.specs.Board.{Board, Outcome, board, withCs, withRx, withTx, goodSize}
 use Rattle.flash.specs.Buf.{fresh, blank, nextPos, pushed}
@@ -40,11 +41,6 @@ answer-good w b e = ap (λ (o : Outcome). o .answer ∷ []) (transfer-done w b e
 answer-bad : (w : Board) (b : ℕ) → goodSize (length (w .array)) ≡ false → stepAnswers w (byte b) ≡ 0 ∷ []
 answer-bad w b e = ap (λ (o : Outcome). o .answer ∷ []) (transfer-refused w b e)
 
--- in either case of a test
-either-way : {P : Type 0} (t : Bool) → (t ≡ true → P) → (t ≡ false → P) → P
-either-way true f g = f refl
-either-way false f g = g refl
-
 -- ---- no step looks at the last answer
 abbrev bare : Chip → Chip
 bare s = withRx s 0
@@ -75,14 +71,14 @@ good-bare w (byte b) g = ap bared (after-byte w b g) ∙ sym (ap bared (after-by
 
 after-bare : (w : Board) (x : Step) → bared (afterStep w x) ≡ bared (afterStep (bared w) x)
 after-bare w x =
-    either-way (goodSize (length (w .array)))
+    by-test (goodSize (length (w .array)))
     (λ g. good-bare w x g)
     (λ g. ap bared (after-bad w x g) ∙ sym (ap bared (after-bad (bared w) x g)))
 
 answer-bare : (w : Board) (x : Step) → stepAnswers w x ≡ stepAnswers (bared w) x
 answer-bare w (cs on) = refl
 answer-bare w (byte b) =
-    either-way (goodSize (length (w .array)))
+    by-test (goodSize (length (w .array)))
     (λ g. answer-good w b g ∙ sym (answer-good (bared w) b g))
     (λ g. answer-bad w b g ∙ sym (answer-bad (bared w) b g))
 
@@ -119,7 +115,7 @@ pub record Begun (x : ℕ) (t : Trans) : Type 0 where
 
 next-pos : (n p : ℕ) → nextPos n p ≡ 0 → ⊥
 next-pos n p h =
-    either-way (leb (4 + n) p) (λ e. let z : _≡_ {A = ℕ} 5 0 = rw e at h in omega arith)
+    by-test (leb (4 + n) p) (λ e. let z : _≡_ {A = ℕ} 5 0 = rw e at h in omega arith)
     (λ e. let z : p + 1 ≡ 0 = rw e at h in omega arith)
 
 push-first : (n b : ℕ) (t : Trans) → t .pos ≡ 0 → Begun b (pushed t n b)
@@ -305,7 +301,7 @@ run-bad w (x ∷ xs) g = ap (λ (z : Board). afterSteps z xs) (after-bad w x g) 
 pub forgets : (w : Board) (xs ys : List ℕ) → w .chip .cs ≡ false → w .chip .wel ≡ false → (Begins 6 xs → ⊥)
     → (Begins 6 ys → ⊥)
     → Forgets (transaction w xs) (transaction w ys)
-forgets w xs ys c e hx hy = either-way (goodSize (length (w .array))) good bad
+forgets w xs ys c e hx hy = by-test (goodSize (length (w .array))) good bad
   where
     good : goodSize (length (w .array)) ≡ true → Forgets (transaction w xs) (transaction w ys)
     good g = same-forgets (transaction w xs) (transaction w ys) w g c (settled w xs g c e hx) (settled w ys g c e hy)

@@ -11,6 +11,7 @@ use lib.Seq.{take-append-seam}
 use lib.Dec.{eqb, leb, ltb}
 use lib.Bits.{bitAnd, bitOr, and-mask, and-high, or-shifted}
 use borrow.Author.Tests.{ne-eqb, lt-ltb, le-ltb, le-leb, lt-leb}
+use Rattle.whole.proofs.Choice.{by-less}
 use Rattle.flash.specs.Pick.{pick, both}
 use Rattle.flash.specs.Board.{Sized}
 use Rattle.flash.specs.Xfer.{jedec, kindOf, readOf, replyTo, answerOf}
@@ -29,7 +30,6 @@ use Rattle.flash.specs.declared.Act.the-variants.{Nothing, Enable, Disab
 use Rattle.flash.specs.declared.Block.{Block}
 use Rattle.flash.specs.declared.Block.the-variants.{Sector, Half, Full}
 use Rattle.flash.proofs.Bools.{both-comm}
-use Rattle.flash.proofs.Place.{split}
 use Rattle.flash.proofs.Laws.{good-sized, page-in, regroup}
 use Rattle.flash.proofs.Page.{program-is}
 use Rattle.flash.proofs.Refine.{answer-exact, answer-ahead, act-exact}
@@ -65,13 +65,13 @@ addr-lt b n s = let h : address b n < n = mod-lt _ (omega arith) in omega arith
 
 -- ---- flash_xfer
 guarded : (k i x y : ℕ) {z : ℕ} → (k ≤ i → x ≡ z) → pick (leb k i) x y ≡ pick (ltb i k) y z
-guarded k i x y f = split i k (λ l. rw (lt-ltb i k l, lt-leb k i l)) (λ l. rw (le-ltb i k l, le-leb k i l) (f l))
+guarded k i x y f = by-less i k (λ l. rw (lt-ltb i k l, lt-leb k i l)) (λ l. rw (le-ltb i k l, le-leb k i l) (f l))
 
 jedec-is : (i : ℕ) → 1 ≤ i → getD (0xEF ∷ 0x40 ∷ 0x17 ∷ []) (i - 1) 0xFF ≡ jedec i
 jedec-is i h =
-    split i 2 (λ l. let e : i ≡ 1 = omega arith in rw e) λ l₂.
-    split i 3 (λ l. let e : i ≡ 2 = omega arith in rw e) λ l₃.
-    split i 4 (λ l. let e : i ≡ 3 = omega arith in rw e) λ l.
+    by-less i 2 (λ l. let e : i ≡ 1 = omega arith in rw e) λ l₂.
+    by-less i 3 (λ l. let e : i ≡ 2 = omega arith in rw e) λ l₃.
+    by-less i 4 (λ l. let e : i ≡ 3 = omega arith in rw e) λ l.
     rw (ne-eqb i 1 (λ e. omega arith), ne-eqb i 2 (λ e. omega arith), ne-eqb i 3 (λ e. omega arith))
     (List·getD-eq-default (0xEF ∷ 0x40 ∷ 0x17 ∷ []) 0xFF (three i l))
   where
@@ -81,7 +81,7 @@ jedec-is i h =
 turns : (j : ℕ) → _≡_ {A = ℕ} (getD (0xEF ∷ 0x16 ∷ []) (bitAnd j 1) 0) (pick (eqb (j % 2) 1) 0x16 0xEF)
 turns j =
     ap (λ (k : ℕ). getD (0xEF ∷ 0x16 ∷ []) k 0) (and-mask j 1)
-    ∙ split (j % 2) 1
+    ∙ by-less (j % 2) 1
     (λ h. let e : j % 2 ≡ 0 = omega arith in rw e)
     (λ h. let e : j % 2 ≡ 1 = omega arith in rw e)
 

@@ -16,7 +16,7 @@ use Rattle.flash.specs.Buf.{addrOf}
 use Rattle.flash.specs.Finish.{ands, patch, blockSize, startOf, arrayAfter}
 use Rattle.flash.specs.Flash.{deselectAct, selectBoard}
 use Rattle.flash.specs.Steps.{Step, cs, byte}
-use Rattle.flash.specs.Run.{afterStep}
+use Rattle.flash.specs.Run.{afterStep, afterSteps}
 use Rattle.flash.proofs.Laws.{good-sized, page-in, block-in, part-long}
 use Rattle.flash.proofs.Cases.{select-done, select-refused, transfer-done, transfer-refused}
 
@@ -24,7 +24,7 @@ patch-long : (m : List ℕ) (a k : ℕ) (p : List ℕ) → a + k ≤ length m �
 patch-long m a k p l e =
     rw (length-append, length-append, length-drop, length-take-le a m (omega arith), e) (omega arith)
 
-ands-long : (m p : List ℕ) → length (ands m p) ≡ length m
+pub ands-long : (m p : List ℕ) → length (ands m p) ≡ length m
 ands-long [] p = refl
 ands-long (x ∷ m) [] = ap suc (ands-long m [])
 ands-long (x ∷ m) (y ∷ p) = ap suc (ands-long m p)
@@ -65,3 +65,7 @@ step-long w (byte b) = go (goodSize (length (w .array))) refl
     go : (t : Bool) → goodSize (length (w .array)) ≡ t → length (afterStep w (byte b) .array) ≡ length (w .array)
     go true e = ap (λ (o : Outcome). length (o .board .array)) (transfer-done w b e)
     go false e = ap (λ (o : Outcome). length (o .board .array)) (transfer-refused w b e)
+
+pub run-long : (xs : List Step) (w : Board) → length (afterSteps w xs .array) ≡ length (w .array)
+run-long [] w = refl
+run-long (x ∷ xs) w = run-long xs (afterStep w x) ∙ step-long w x

@@ -9,6 +9,7 @@ use native.Mathlib.Omega.{arith}
 use lib.ListN.{length}
 use lib.Dec.{eqb}
 use borrow.Author.Tests.{lt-ltb, le-ltb, eqb-false, ltb-false}
+use Rattle.whole.proofs.Choice.{by-less}
 use Rattle.flash.specs.Pick.{pick}
 use Rattle.flash.specs.Board.{Board}
 use Rattle.flash.specs.Xfer.{kindOf, replyTo, answerOf}
@@ -27,7 +28,6 @@ use Rattle.flash.specs.declared.Act.the-variants.{Nothing, Enable, Disab
 use Rattle.flash.specs.declared.Trans.{Trans}
 use Rattle.flash.specs.declared.Block.the-variants.{Sector, Half, Full}
 use Rattle.flash.proofs.Bools.{no-way, either-first}
-use Rattle.flash.proofs.Place.{split}
 use Rattle.flash.proofs.Codes.{is, by-code}
 use Rattle.flash.proofs.Conform.{stateAfterAct, act-cons, mayProgram, mayErase, mayWipe, just-4, just-1, maker-0}
 use Rattle.flash.proofs.Conform.{just-260, ends-whole, writes-whole, replies-whole}
@@ -92,7 +92,7 @@ module _ (w : Bool) (m : List ℕ) (bs : List ℕ) (i : ℕ) where
   unfolding kindOf
   maker-same h =
       let b : ℕ = at (0x90 ∷ bs) 3 in
-      split i 4 (λ k. rw (lt-ltb i 4 k))
+      by-less i 4 (λ k. rw (lt-ltb i 4 k))
       (λ k. rw (le-ltb i 4 k) (maker-0 Strict b i (even-90 bs h) ∙ sym (maker-0 Rust b i (even-90 bs h))))
 
   reply-same : (c : ℕ) → SameReply c

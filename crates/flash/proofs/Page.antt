@@ -9,12 +9,12 @@ use lib.ListN.{length, take, drop, set, getD, replicate, length-set, length-take
 use lib.ListN.{List·getD-eq-default}
 use lib.Seq.{take-set-le, drop-set-lt, drop-set-add, take-set-lt, getD-take, getD-drop, drop-drop}
 use lib.Bits.{bitAnd, and-step, and-shr, and-mask}
+use Rattle.whole.proofs.Choice.{by-less}
 use Rattle.flash.specs.Run.{Bytes}
 use Rattle.flash.specs.Buf.{blank}
 use Rattle.flash.specs.Finish.{ands, patch}
 use Rattle.flash.specs.Rust.{programLoop}
 use Rattle.flash.proofs.Whole.{andsFrom}
-use Rattle.flash.proofs.Place.{split}
 use Rattle.flash.proofs.Laws.{part-long, not-empty}
 
 -- ---- AND
@@ -68,7 +68,7 @@ ands-full (suc n) (x ∷ q) e h =
 -- ---- the program
 part-bytes : (m : List ℕ) (a n : ℕ) → Bytes m → Bytes (take n (drop a m))
 part-bytes m a n h k =
-    split k n
+    by-less k n
     (λ l. rw (getD-take n (drop a m) k 0 l, getD-drop a m k 0) (h (a + k)))
     (λ l.
     let u : length (take n (drop a m)) ≤ k = rw length-take (omega arith) in

@@ -6,18 +6,12 @@ use native.Mathlib.Nat.{mod-lt, mod-self, zero-mod, mod-eq-of-lt, suc-mod, add-m
 use native.Mathlib.Nat.{dvd-of-mod-eq-zero}
 use native.Mathlib.Omega.{arith}
 use lib.Dec.{eqb, leb, ltb}
-use borrow.Author.Tests.{ne-eqb, lt-ltb, le-ltb, le-leb, lt-leb, ltb-true, ltb-false}
+use borrow.Author.Tests.{ne-eqb, lt-ltb, le-ltb, le-leb, lt-leb}
+use Rattle.whole.proofs.Choice.{by-less}
 use Rattle.flash.specs.Pick.{either}
 use Rattle.flash.specs.Board.{Sized}
 use Rattle.flash.specs.Buf.{nextPos}
 use Rattle.flash.proofs.Whole.{place}
-
-pub split : {P : Type 0} (k b : ℕ) → (k < b → P) → (b ≤ k → P) → P
-split {P} k b f g = go (ltb k b) refl
-  where
-    go : (t : Bool) → ltb k b ≡ t → P
-    go true e = f (ltb-true k b e)
-    go false e = g (ltb-false k b e)
 
 pub place-lt : (n k : ℕ) → k < 5 → place n k ≡ k
 place-lt n k h = rw (lt-ltb k 5 h)
@@ -28,32 +22,32 @@ place-ge n k h = rw (le-ltb k 5 h)
 -- the tests of a length up to 5 are those of its position
 pub eqb-place : (n k c : ℕ) → c < 5 → eqb (place n k) c ≡ eqb k c
 eqb-place n k c h =
-    split k 5
+    by-less k 5
     (λ l. rw (place-lt n k l))
     (λ l. rw (place-ge n k l) (ne-eqb (5 + (k - 5) % n) c (λ e. omega arith) ∙ sym (ne-eqb k c (λ e. omega arith))))
 
 pub ltb-place : (n k c : ℕ) → c ≤ 5 → ltb (place n k) c ≡ ltb k c
 ltb-place n k c h =
-    split k 5
+    by-less k 5
     (λ l. rw (place-lt n k l))
     (λ l. rw (place-ge n k l) (le-ltb (5 + (k - 5) % n) c (omega arith) ∙ sym (le-ltb k c (omega arith))))
 
 pub leb-place : (n k c : ℕ) → c ≤ 5 → leb c (place n k) ≡ leb c k
 leb-place n k c h =
-    split k 5
+    by-less k 5
     (λ l. rw (place-lt n k l))
     (λ l. rw (place-ge n k l) (le-leb c (5 + (k - 5) % n) (omega arith) ∙ sym (le-leb c k (omega arith))))
 
 -- the length is past 260
 pub long-place : (n k : ℕ) → Sized n → either (ltb 260 k) (leb 260 (place n k)) ≡ ltb 260 (k + 1)
 long-place n k s =
-    split k 261
+    by-less k 261
     (λ l. rw (le-ltb 260 k (omega arith), exact n k s l) (same k))
     (λ l. rw (lt-ltb 260 k l, lt-ltb 260 (k + 1) (omega arith)))
   where
     exact : (n k : ℕ) → Sized n → k < 261 → place n k ≡ k
     exact n k s l =
-        split k 5 (λ h. place-lt n k h) (λ h. place-ge n k h ∙ rw (mod-eq-of-lt (below n k s l)) (whole k h))
+        by-less k 5 (λ h. place-lt n k h) (λ h. place-ge n k h ∙ rw (mod-eq-of-lt (below n k s l)) (whole k h))
       where
         below : (n k : ℕ) → Sized n → k < 261 → k - 5 < n
         below n k s l = omega arith
@@ -63,12 +57,12 @@ long-place n k s =
 
     same : (k : ℕ) → leb 260 k ≡ ltb 260 (k + 1)
     same k =
-        split k 260 (λ l. lt-leb 260 k l ∙ sym (le-ltb 260 (k + 1) (omega arith)))
+        by-less k 260 (λ l. lt-leb 260 k l ∙ sym (le-ltb 260 (k + 1) (omega arith)))
         (λ l. le-leb 260 k l ∙ sym (lt-ltb 260 (k + 1) (omega arith)))
 
 -- one more byte
 pub next-place : (n k : ℕ) → Sized n → nextPos n (place n k) ≡ place n (k + 1)
-next-place n k s = split k 5 short round
+next-place n k s = by-less k 5 short round
   where
     none : (k : ℕ) → k < 5 → k + 1 - 5 ≡ 0
     none k l = omega arith
@@ -88,13 +82,13 @@ next-place n k s = split k 5 short round
     short : k < 5 → nextPos n (place n k) ≡ place n (k + 1)
     short l =
         rw (place-lt n k l, lt-leb (4 + n) k (omega arith))
-        (split (k + 1) 5 (λ h. sym (place-lt n (k + 1) h))
+        (by-less (k + 1) 5 (λ h. sym (place-lt n (k + 1) h))
         (λ h. sym (place-ge n (k + 1) h ∙ rw (none k l, zero-mod n) (five k l h))))
 
     round : 5 ≤ k → nextPos n (place n k) ≡ place n (k + 1)
     round l =
         rw (place-ge n k l, place-ge n (k + 1) (omega arith), more k l, suc-mod (k - 5) n)
-        (split (suc ((k - 5) % n)) n
+        (by-less (suc ((k - 5) % n)) n
         (λ h. rw (lt-leb (4 + n) (5 + (k - 5) % n) (omega arith), mod-eq-of-lt h) (up ((k - 5) % n)))
         (λ h. rw (
           le-leb (4 + n) (5 + (k - 5) % n) (omega arith),
@@ -105,7 +99,7 @@ next-place n k s = split k 5 short round
 -- how far a position is past the header, modulo what divides the size
 pub far-place : (d n k c : ℕ) → n % d ≡ 0 → c ≤ 5 → c ≤ k → (place n k - c) % d ≡ (k - c) % d
 far-place d n k c h f l =
-    split k 5
+    by-less k 5
     (λ u. rw (place-lt n k u))
     (λ u. rw (
       place-ge n k u,

@@ -12,6 +12,7 @@ use lib.Seq.{length-take-le, getD-take, drop-append-le, getD-append-seam}
 use lib.Dec.{eqb, ltb}
 use lib.Bits.{bitAnd}
 use borrow.Author.Tests.{ne-eqb, eq-eqb, lt-ltb, le-ltb}
+use Rattle.whole.proofs.Choice.{by-less}
 use Rattle.flash.specs.Pick.{pick}
 use Rattle.flash.specs.Board.{Sized, board}
 use Rattle.flash.specs.Buf.{blank, slot, gathered, pushed, addrOf}
@@ -32,7 +33,7 @@ use Rattle.flash.specs.declared.Chip.{Chip}
 use Rattle.flash.specs.declared.Trans.{Trans}
 use Rattle.flash.proofs.Long.{act-long}
 use Rattle.flash.proofs.Laws.{size-2, size-256}
-use Rattle.flash.proofs.Place.{split, eqb-place, ltb-place, leb-place, long-place, next-place, far-place}
+use Rattle.flash.proofs.Place.{eqb-place, ltb-place, leb-place, long-place, next-place, far-place}
 
 -- ---- one more byte
 length-snoc : (b : List ℕ) (x : ℕ) → length (b ++ x ∷ []) ≡ length b + 1
@@ -40,9 +41,9 @@ length-snoc b x = length-append b (x ∷ [])
 
 at-snoc : (b : List ℕ) (x k : ℕ) → pick (eqb (length b) k) x (at b k) ≡ at (b ++ x ∷ []) k
 at-snoc b x k =
-    split k (length b)
+    by-less k (length b)
     (λ l. rw (ne-eqb (length b) k (λ e. omega arith)) (sym (List·getD-append b (x ∷ []) 0 k l)))
-    (λ l. split (length b) k
+    (λ l. by-less (length b) k
     (λ h. rw (ne-eqb (length b) k (λ e. omega arith))
     (List·getD-eq-default b 0 l ∙ sym (List·getD-eq-default (b ++ x ∷ []) 0 (rw length-snoc (omega arith)))))
     (λ h. let e : k ≡ length b = omega arith in rw (e, eq-eqb (length b) (length b) refl)
@@ -92,7 +93,7 @@ page-more n b x s l =
 page-snoc : (n : ℕ) (b : List ℕ) (x : ℕ) → Sized n → gathered (roundedTrans n b) (pageOf b) x ≡ pageOf (b ++ x ∷ [])
 unfolding gathered
 page-snoc n b x s =
-    split (length b) 4
+    by-less (length b) 4
     (λ l. rw (ltb-place n (length b) 4 (omega arith), lt-ltb (length b) 4 l)
     (rw (drop-of-length-le b (le-of-lt l), drop-of-length-le (b ++ x ∷ []) (short b x l))))
     (λ l. rw (ltb-place n (length b) 4 (omega arith), le-ltb (length b) 4 l) (page-more n b x s l))
@@ -158,7 +159,7 @@ jedec-place n i = rw (eqb-place n i 1 (omega arith), eqb-place n i 2 (omega arit
 ltb-pick : (n i c : ℕ) {u v : ℕ} → c ≤ 5 → (c ≤ i → u ≡ v) → pick (ltb (place n i) c) 0xFF u ≡ pick (ltb i c) 0xFF v
 ltb-pick n i c {u} {v} h f =
     ap (λ (t : Bool). pick t 0xFF u) (ltb-place n i c h)
-    ∙ split i c (λ l. rw (lt-ltb i c l)) (λ l. rw (le-ltb i c l) (f l))
+    ∙ by-less i c (λ l. rw (lt-ltb i c l)) (λ l. rw (le-ltb i c l) (f l))
 
 read-exact : (c : ℕ) (b m : List ℕ) → c ≤ 5 → c ≤ length b
     → readOf (roundedTrans (length m) b) (place (length m) (length b) - c) m ≡ readOf (exactTrans b) (length b - c) m
@@ -205,7 +206,7 @@ act-exact e w n b = rw (eqb-place n (length b) 0 (omega arith), guard-exact (ord
 
 -- ---- an answer looks at those bytes of the header alone that are in, so the rest of the list may be there as well
 past : (i c : ℕ) {u v : ℕ} → (c ≤ i → u ≡ v) → pick (ltb i c) 0xFF u ≡ pick (ltb i c) 0xFF v
-past i c f = split i c (λ l. rw (lt-ltb i c l)) (λ l. rw (le-ltb i c l) (f l))
+past i c f = by-less i c (λ l. rw (lt-ltb i c l)) (λ l. rw (le-ltb i c l) (f l))
 
 read-ahead : (b m : List ℕ) (i far : ℕ) (l : Bool) → 4 ≤ i
     → readOf (record {

@@ -4,6 +4,7 @@ use mathlib.Core.Bool.{cond}
 use mathlib.Core.List.{List}
 use Prim.Native.Nat.{ℕ}
 use lib.Dec.{eqb}
+use Rattle.map.specs.Numbers.{DONE}
 use Rattle.whole.proofs.Unique.{unique, same-by-number}
 use Rattle.flash.specs.Board.{Outcome, numberOf, outcome}
 use Rattle.flash.specs.declared.Refusal.{Refusal}
@@ -13,7 +14,7 @@ use Rattle.flash.specs.declared.Reply.{Reply}
 
 -- the refusal of a number
 abbrev refusalOf : ℕ → Refusal
-refusalOf n = cond (eqb n 0) Done BadMemory
+refusalOf n = cond (eqb n DONE) Done BadMemory
 
 -- a refusal is known by its number
 number-tells : (a b : Refusal) → numberOf a ≡ numberOf b → a ≡ b

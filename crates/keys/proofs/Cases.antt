@@ -16,6 +16,7 @@ use Rattle.whole.specs.declared.Checked.{Checked}
 use Rattle.whole.specs.declared.Checked.the-variants.{Good, Bad}
 use Rattle.whole.specs.Limits.{goodTime, timeOf}
 use Rattle.whole.proofs.Numbers.{checked-good, checked-then, checked-bad}
+use Rattle.whole.proofs.Choice.{turned}
 use Rattle.memory.specs.Bytes.{loaded, storedAt}
 use Rattle.keys.specs.declared.Held.{Held}
 use Rattle.keys.specs.declared.Keys.{Keys}
@@ -57,11 +58,6 @@ module _ (starts : List Float) (now : Float) (m i : ℕ) where
   unfolding freeFrom
   from-expired h = rw h
 
--- what a test that is turned over says
-turned : (b : Bool) (x : Bool) → x ≡ not b → b ≡ not x
-turned true x h = rw h
-turned false x h = rw h
-
 module _ (starts : List Float) (count : ℕ) (now : Float) (n : ℕ) where
   pub free-start : n ≡ placesOf count → freeOf starts count now ≡ freeFrom (n - 0) 0 starts now
   unfolding freeOf
@@ -73,10 +69,10 @@ module _ (starts : List Float) (count : ℕ) (now : Float) (n : ℕ) where
     step = let z : n - i ≡ suc (n - (i + 1)) = omega arith in rw z at e
 
     pub free-here : x ≡ true → i ≡ freeOf starts count now
-    free-here t = sym (step ∙ from-expired starts now (n - (i + 1)) i (turned _ x w ∙ ap not t))
+    free-here t = sym (step ∙ from-expired starts now (n - (i + 1)) i (turned _ x (sym w) ∙ ap not t))
 
     pub free-on : x ≡ false → freeOf starts count now ≡ freeFrom (n - (i + 1)) (i + 1) starts now
-    free-on t = step ∙ from-waits starts now (n - (i + 1)) i (turned _ x w ∙ ap not t)
+    free-on t = step ∙ from-waits starts now (n - (i + 1)) i (turned _ x (sym w) ∙ ap not t)
 
   pub free-none : (i : ℕ) → n ≤ i → freeOf starts count now ≡ freeFrom (n - i) i starts now
       → i ≡ freeOf starts count now

@@ -10,6 +10,7 @@ use lib.ListN.{length, getD, set, length-set}
 use lib.Seq.{getD-set-same, getD-set-other}
 use lib.Ieee.{Float, nan}
 use borrow.Author.Tests.{ltb-true, ltb-false, eqb-true, eqb-false}
+use Rattle.map.specs.Numbers.{DONE}
 use Rattle.whole.specs.Limits.{goodTime}
 use Rattle.keys.specs.declared.Held.{Held}
 use Rattle.keys.specs.declared.Keys.{Keys}
@@ -122,13 +123,13 @@ down-in starts codes h now key (suc n) i k l d e = by (le-or-lt (i + 1) n) (λ m
         rw (← z, e) (lands (heldFrom starts codes h now i) (getD starts i nan) now key k d)
 
 pub press-kept : (s : Script) (key : ℕ) (at now : Float) (k : Keys) → 64 ≤ length (s .starts) → 64 ≤ length (s .codes)
-    → pressOf s key at now .refusal ≡ 0
+    → pressOf s key at now .refusal ≡ DONE
     → isDown (heldOf (pressOf s key at now .script .starts) (pressOf s key at now .script .codes)
     (withCount k (pressOf s key at now .script .count)) at) key ≡ true
 unfolding placed heldOf
 press-kept s key at now k a b z =
     press-each s key at now
-    (λ (o : Outcome). o .refusal ≡ 0 → isDown (heldOf (o .script .starts) (o .script .codes)
+    (λ (o : Outcome). o .refusal ≡ DONE → isDown (heldOf (o .script .starts) (o .script .codes)
     (withCount k (o .script .count)) at) key ≡ true)
     (λ z. absurd (let y : ⊥ = omega arith in y)) (λ z. absurd (let y : ⊥ = omega arith in y))
     (λ z. absurd (let y : ⊥ = omega arith in y)) put z

@@ -5,6 +5,7 @@ use mathlib.Core.Bool.{cond}
 use mathlib.Core.List.{List}
 use lib.Dec.{eqb}
 use lib.Ieee.{Float}
+use Rattle.map.specs.Numbers.{DONE, BAD-TIME, BAD-KEY}
 use Rattle.whole.proofs.Unique.{unique, same-by-number}
 use Rattle.keys.specs.declared.Keys.{Keys}
 use Rattle.keys.specs.declared.Refusal.{Refusal}
@@ -17,7 +18,7 @@ use Rattle.keys.specs.Lines.{Lines, lines}
 
 -- the refusal of a number
 abbrev refusalOf : ℕ → Refusal
-refusalOf n = cond (eqb n 0) Done (cond (eqb n 8) BadKey (cond (eqb n 1) BadTime KeysFull))
+refusalOf n = cond (eqb n DONE) Done (cond (eqb n BAD-KEY) BadKey (cond (eqb n BAD-TIME) BadTime KeysFull))
 
 -- a refusal is known by its number
 number-tells : (a b : Refusal) → numberOf a ≡ numberOf b → a ≡ b

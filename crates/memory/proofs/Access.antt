@@ -1,7 +1,7 @@
 -- A register access reads back what it wrote where it lies in its word.
 use Prim.Native.Nat.{ℕ, zero, suc, _+_, _-_, _*_, _/_, _%_, _^_, _≤_}
-use mathlib.Core.Path.{_≡_, refl, _∙_}
-use mathlib.Core.Bool.{true, false, cond}
+use mathlib.Core.Path.{_≡_, refl, sym, _∙_}
+use mathlib.Core.Bool.{true, false, cond, true≢false}
 use native.Mathlib.Nat.{mod-mod}
 use native.Mathlib.Omega.{arith}
 use lib.Dec.{eqb}
@@ -47,15 +47,12 @@ unfolding spanOf
 word-back zero old v h = laid 0 32 old 0xFFFFFFFF (v * 2 ^ 0 % 2 ^ 32) v refl refl (omega arith)
 word-back (suc r) old v h = absurd (let z : ⊥ = omega arith in z)
 
-never : false ≡ true → ⊥
-never e = let z : _≡_ {A = ℕ} 0 1 = cc in omega arith
-
 back : (r n old v : ℕ) → goodSize n ≡ true → r + n ≤ 4 → Back r n old v
 unfolding goodSize
-back r zero old v g h = absurd (never g)
+back r zero old v g h = absurd (true≢false (sym g))
 back r (suc zero) old v g h = byte-back r old v (omega arith)
 back r (suc (suc zero)) old v g h = half-back r old v (omega arith)
-back r (suc (suc (suc zero))) old v g h = absurd (never g)
+back r (suc (suc (suc zero))) old v g h = absurd (true≢false (sym g))
 back r (suc (suc (suc (suc zero)))) old v g h = word-back r old v (omega arith)
 back r (suc (suc (suc (suc (suc n))))) old v g h = absurd (let z : ⊥ = omega arith in z)
 

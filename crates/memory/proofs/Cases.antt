@@ -16,7 +16,7 @@ use Rattle.map.specs.Numbers.{REGISTERS-END}
 use Rattle.whole.proofs.Bits.{lt-or-ge}
 use Rattle.whole.proofs.Words.{either}
 use Rattle.memory.specs.declared.Place.the-variants.{Ram, Sram, Gpio, Register, Stray}
-use Rattle.memory.specs.Places.{within, isRegister, placeOf}
+use Rattle.memory.specs.Places.{within, inRegisters, placeOf}
 use Rattle.memory.specs.Bytes.{le, loaded, bytesOf, storedAt}
 use Rattle.memory.specs.Access.{spanOf, cutOf, shifted, maskOf}
 
@@ -81,7 +81,7 @@ module _ (a : ℕ) where
     )
 
     pub past-sram : SRAM-END ≤ a → Stray ≡ placeOf a
-    unfolding placeOf isRegister
+    unfolding placeOf inRegisters
     past-sram h =
         rw (
           no-ram (λ z. omega arith),
@@ -105,7 +105,7 @@ module _ (a : ℕ) where
         )
 
     pub place-low : GPIO-END ≤ a → Register ≡ placeOf a
-    unfolding placeOf isRegister
+    unfolding placeOf inRegisters
     place-low h =
         rw (
           no-ram (λ z. omega arith),
@@ -116,7 +116,7 @@ module _ (a : ℕ) where
 
   -- 0xD0
   pub place-middle : a / 0x1000000 ≡ 0xD0 → Register ≡ placeOf a
-  unfolding placeOf isRegister
+  unfolding placeOf inRegisters
   place-middle k =
       rw (
         no-ram (λ z. omega arith),
@@ -129,7 +129,7 @@ module _ (a : ℕ) where
   -- 0xFF
   module _ (k : a / 0x1000000 ≡ 0xFF) where
     pub place-high : a < REGISTERS-END → Register ≡ placeOf a
-    unfolding placeOf isRegister
+    unfolding placeOf inRegisters
     place-high h =
         rw (
           no-ram (λ z. omega arith),
@@ -141,7 +141,7 @@ module _ (a : ℕ) where
         )
 
     pub past-high : REGISTERS-END ≤ a → Stray ≡ placeOf a
-    unfolding placeOf isRegister
+    unfolding placeOf inRegisters
     past-high h =
         rw (
           no-ram (λ z. omega arith),
@@ -155,7 +155,7 @@ module _ (a : ℕ) where
   -- any other
   pub place-stray : a / 0x1000000 ≢ 0x20 → a / 0x1000000 ≢ 0xC0 → a / 0x1000000 ≢ 0xD0 → a / 0x1000000 ≢ 0xF8
       → a / 0x1000000 ≢ 0xFF → Stray ≡ placeOf a
-  unfolding placeOf isRegister
+  unfolding placeOf inRegisters
   place-stray r c d f h = rw (no-ram r, no-sram f, no-gpio c, no-low c, no-middle d, no-high h)
 
 -- ---- bytes

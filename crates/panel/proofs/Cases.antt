@@ -6,13 +6,13 @@ use mathlib.Core.Logic.{_≢_}
 use lib.ListN.{length, set}
 use native.Mathlib.Omega.{arith}
 use borrow.Author.Tests.{lt-ltb, le-ltb, eq-eqb, ne-eqb}
+use Rattle.map.specs.Numbers.{DONE, BAD-MEMORY, FRAMEBUFFER-SIZE, SCREEN-BYTES}
 use Rattle.panel.specs.declared.MaybeByte.the-variants.{Nothing, Byte}
 use Rattle.panel.specs.declared.Window.{Window}
 use Rattle.panel.specs.declared.Pen.{Pen}
 use Rattle.panel.specs.declared.Panel.{Panel}
 use Rattle.panel.specs.Lcd.{penAt, withPen, withFrames, begun, counts, commanded, counted, spot, put, nextPen}
-use Rattle.panel.specs.Lcd.{penned, inked, codeOf, aimed, pairAt, argued, fed}
-use Rattle.panel.specs.Lcd.{painted}
+use Rattle.panel.specs.Lcd.{penned, inked, codeOf, aimed, pairAt, argued, fed, painted}
 use Rattle.panel.specs.Colour.{pixelAt, rgbOf}
 use Rattle.panel.specs.Entries.{Screen, screen, Drawing, drawing, dataOf, pixelOf, black, pictureOf}
 
@@ -164,40 +164,45 @@ module _ (p : Panel) (fb : List ℕ) (b : ℕ) where
 
 -- ---- the entries
 module _ (p : Panel) (fb : List ℕ) (b : ℕ) where
-  pub data-done : length fb ≡ 32768 → dataOf p fb b ≡ record { refusal = 0; screen = screen (fed p b) (painted p fb b) }
+  pub data-done : length fb ≡ FRAMEBUFFER-SIZE
+      → dataOf p fb b ≡ record { refusal = DONE; screen = screen (fed p b) (painted p fb b) }
   unfolding dataOf
   data-done e = simp (eq-eqb _ _ e)
 
-  pub data-serves : (q : Panel) (gb : List ℕ) → length fb ≡ 32768 → screen q gb ≡ screen (fed p b) (painted p fb b)
-      → record { refusal = 0; screen = screen q gb } ≡ dataOf p fb b
-  data-serves q gb e d = ap (λ (x : Screen). record { refusal = 0; screen = x }) d ∙ sym (data-done e)
+  pub data-serves : (q : Panel) (gb : List ℕ) → length fb ≡ FRAMEBUFFER-SIZE
+      → screen q gb ≡ screen (fed p b) (painted p fb b)
+      → record { refusal = DONE; screen = screen q gb } ≡ dataOf p fb b
+  data-serves q gb e d = ap (λ (x : Screen). record { refusal = DONE; screen = x }) d ∙ sym (data-done e)
 
-  pub data-refused : length fb ≢ 32768 → dataOf p fb b ≡ record { refusal = 7; screen = screen p fb }
+  pub data-refused : length fb ≢ FRAMEBUFFER-SIZE
+      → dataOf p fb b ≡ record { refusal = BAD-MEMORY; screen = screen p fb }
   unfolding dataOf
   data-refused n = simp (ne-eqb _ _ n)
 
 module _ (fb : List ℕ) (k : ℕ) where
-  pub pixel-done : length fb ≡ 32768 → pixelOf fb k ≡ record { refusal = 0; colours = pixelAt fb k }
+  pub pixel-done : length fb ≡ FRAMEBUFFER-SIZE → pixelOf fb k ≡ record { refusal = DONE; colours = pixelAt fb k }
   unfolding pixelOf
   pixel-done e = rw (eq-eqb _ _ e)
 
-  pub pixel-refused : length fb ≢ 32768 → pixelOf fb k ≡ record { refusal = 7; colours = black }
+  pub pixel-refused : length fb ≢ FRAMEBUFFER-SIZE → pixelOf fb k ≡ record { refusal = BAD-MEMORY; colours = black }
   unfolding pixelOf
   pixel-refused n = rw (ne-eqb _ _ n)
 
 module _ (fb out : List ℕ) where
-  pub picture-done : length fb ≡ 32768 → length out ≡ 49152 → pictureOf fb out ≡ record { refusal = 0; out = rgbOf fb }
+  pub picture-done : length fb ≡ FRAMEBUFFER-SIZE → length out ≡ SCREEN-BYTES
+      → pictureOf fb out ≡ record { refusal = DONE; out = rgbOf fb }
   unfolding pictureOf
   picture-done e f = rw (eq-eqb _ _ e, eq-eqb _ _ f)
 
-  pub picture-serves : (r : List ℕ) → length fb ≡ 32768 → length out ≡ 49152 → r ≡ rgbOf fb
-      → record { refusal = 0; out = r } ≡ pictureOf fb out
-  picture-serves r e f d = ap (λ (l : List ℕ). record { refusal = 0; out = l }) d ∙ sym (picture-done e f)
+  pub picture-serves : (r : List ℕ) → length fb ≡ FRAMEBUFFER-SIZE → length out ≡ SCREEN-BYTES → r ≡ rgbOf fb
+      → record { refusal = DONE; out = r } ≡ pictureOf fb out
+  picture-serves r e f d = ap (λ (l : List ℕ). record { refusal = DONE; out = l }) d ∙ sym (picture-done e f)
 
-  pub picture-no-room : length fb ≡ 32768 → length out ≢ 49152 → pictureOf fb out ≡ record { refusal = 7; out = out }
+  pub picture-no-room : length fb ≡ FRAMEBUFFER-SIZE → length out ≢ SCREEN-BYTES
+      → pictureOf fb out ≡ record { refusal = BAD-MEMORY; out = out }
   unfolding pictureOf
   picture-no-room e n = rw (eq-eqb _ _ e, ne-eqb _ _ n)
 
-  pub picture-refused : length fb ≢ 32768 → pictureOf fb out ≡ record { refusal = 7; out = out }
+  pub picture-refused : length fb ≢ FRAMEBUFFER-SIZE → pictureOf fb out ≡ record { refusal = BAD-MEMORY; out = out }
   unfolding pictureOf
   picture-refused n = rw (ne-eqb _ _ n)

@@ -5,6 +5,7 @@ use mathlib.Core.List.{List, [], _∷_, _++_}
 use lib.Bits.{and-mask}
 use lib.ListN.{length, getD, set}
 use native.Mathlib.Omega.{arith}
+use Rattle.map.specs.Numbers.{FRAMEBUFFER-SIZE, SCREEN-BYTES}
 use Rattle.panel.specs.declared.Colours.{Colours}
 use Rattle.panel.specs.Colour.{parted, fromLe, pushed, rgbOf, coloursAt, pixelAt, tripleAt, over}
 use Rattle.panel.specs.Inner.{triple}
@@ -116,10 +117,11 @@ module _ (fb out : List ℕ) where
   all-shown n e = ap (λ l. over l out) (first-all n fb (omega arith))
 
 -- ---- a screen of the right size
-pub rgb-length : (fb : List ℕ) → length fb ≡ 32768 → length (rgbOf fb) ≡ 49152
+pub rgb-length : (fb : List ℕ) → length fb ≡ FRAMEBUFFER-SIZE → length (rgbOf fb) ≡ SCREEN-BYTES
 rgb-length fb e = sym (ap length (first-all 16384 fb (omega arith))) ∙ first-length 16384 fb (omega arith)
 
-pub whole-shown : (fb out : List ℕ) → length fb ≡ 32768 → length out ≡ 49152 → over (rgbOf fb) out ≡ rgbOf fb
+pub whole-shown : (fb out : List ℕ) → length fb ≡ FRAMEBUFFER-SIZE → length out ≡ SCREEN-BYTES
+    → over (rgbOf fb) out ≡ rgbOf fb
 whole-shown fb out e f = over-whole (rgbOf fb) out (rgb-length fb e ∙ sym f)
 
 -- ---- each pixel's colours stand in the screen
@@ -142,5 +144,6 @@ at-place zero (lo ∷ hi ∷ rest) h = refl
 at-place (suc n) (lo ∷ hi ∷ rest) h =
     triple-next (parted (fromLe lo hi)) (rgbOf rest) n ∙ at-place n rest (omega arith) ∙ sym (further lo hi rest n)
 
-pub in-screen : (fb : List ℕ) (k : ℕ) → length fb ≡ 32768 → tripleAt (rgbOf fb) (k % 16384 * 3) ≡ pixelAt fb k
+pub in-screen : (fb : List ℕ) (k : ℕ) → length fb ≡ FRAMEBUFFER-SIZE
+    → tripleAt (rgbOf fb) (k % 16384 * 3) ≡ pixelAt fb k
 in-screen fb k e = at-place (k % 16384) fb (omega arith)

@@ -4,6 +4,7 @@ use mathlib.Core.Path.{_≡_, refl, ap}
 use mathlib.Core.Bool.{cond}
 use mathlib.Core.List.{List}
 use lib.Dec.{eqb}
+use Rattle.map.specs.Numbers.{DONE}
 use Rattle.whole.proofs.Unique.{unique, same-by-number}
 use Rattle.panel.specs.declared.Panel.{Panel}
 use Rattle.panel.specs.declared.Colours.{Colours}
@@ -15,7 +16,7 @@ use Rattle.panel.specs.Entries.{numberOf, Outcome, outcome, Pixel, pixel
 
 -- the refusal of a number
 abbrev refusalOf : ℕ → Refusal
-refusalOf n = cond (eqb n 0) Done BadMemory
+refusalOf n = cond (eqb n DONE) Done BadMemory
 
 -- a refusal is known by its number
 number-tells : (a b : Refusal) → numberOf a ≡ numberOf b → a ≡ b

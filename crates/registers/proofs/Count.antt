@@ -7,6 +7,7 @@ use mathlib.Core.Logic.{_≢_, _↔_}
 use native.Mathlib.Omega.{arith}
 use lib.ListN.{length, getD, set}
 use borrow.Author.Tests.{eq-eqb, ne-eqb}
+use Rattle.map.specs.Numbers.{DONE, REGISTERS-FULL}
 use Rattle.registers.specs.declared.Registers.{Registers}
 use Rattle.registers.specs.Words.{removed, inserted, othersOf, wordAt, Outcome, putWord}
 use Rattle.registers.specs.Within.{Other, Tidy, counted, nonZero, Full}
@@ -82,9 +83,9 @@ count-inserted (x ∷ xs) (suc n) (suc i) y size upto free =
 -- ---- the room
 
 -- RegistersFull is given exactly where 01 says so
-pub full-exactly : (r : Registers) (a v : ℕ) → Tidy r → (putWord r a v .refusal ≡ 4) ↔ Full r a v
+pub full-exactly : (r : Registers) (a v : ℕ) → Tidy r → (putWord r a v .refusal ≡ REGISTERS-FULL) ↔ Full r a v
 full-exactly r a v tidy =
-    tidy-cases r a v (tidy .others) (λ (p : Outcome). (p .refusal ≡ 4) ↔ Full r a v)
+    tidy-cases r a v (tidy .others) (λ (p : Outcome). (p .refusal ≡ REGISTERS-FULL) ↔ Full r a v)
     (λ less. (λ four. absurd (omega arith), λ full. absurd (omega (arith, full .other .slot))))
     (λ slot never. (λ four. absurd (omega arith), λ full. absurd (true≢false (sym never ∙ full .other .stored))))
     (λ other here z. (λ four. absurd (omega arith), λ full. absurd (full .value z)))
@@ -109,7 +110,7 @@ full-exactly r a v tidy =
         ∙ tidy .others .values
 
 -- with the word that was there, the later count is the former one with the word that is there now
-pub room-counts : (r : Registers) (a v : ℕ) → Tidy r → Other a → putWord r a v .refusal ≡ 0
+pub room-counts : (r : Registers) (a v : ℕ) → Tidy r → Other a → putWord r a v .refusal ≡ DONE
     → nonZero (putWord r a v .registers .values) + counted (wordAt r a) ≡ nonZero (r .values) + counted v
 room-counts r a v tidy other =
     tidy-cases r a v (tidy .others) Counts
@@ -131,9 +132,9 @@ room-counts r a v tidy other =
   where
     Counts : Outcome → Type 0
     Counts p =
-        p .refusal ≡ 0 → nonZero (p .registers .values) + counted (wordAt r a) ≡ nonZero (r .values) + counted v
+        p .refusal ≡ DONE → nonZero (p .registers .values) + counted (wordAt r a) ≡ nonZero (r .values) + counted v
 
-module _ (r : Registers) (a v : ℕ) (tidy : Tidy r) (other : Other a) (done : putWord r a v .refusal ≡ 0) where
+module _ (r : Registers) (a v : ℕ) (tidy : Tidy r) (other : Other a) (done : putWord r a v .refusal ≡ DONE) where
   pub room-taken : wordAt r a ≡ 0 → v ≢ 0 → nonZero (putWord r a v .registers .values) ≡ nonZero (r .values) + 1
   room-taken old new =
       omega (arith, room-counts r a v tidy other done, counted-none (wordAt r a) old, counted-some v new)

@@ -7,6 +7,7 @@ use mathlib.Core.Logic.{_≢_}
 use native.Mathlib.Omega.{arith}
 use lib.ListN.{getD}
 use lib.Seq.{getD-set-other}
+use Rattle.map.specs.Numbers.{DONE}
 use Rattle.registers.specs.declared.Registers.{Registers}
 use Rattle.registers.specs.declared.Spot.{Spot}
 use Rattle.registers.specs.Words.{unstored, removed, registersOf, othersOf}
@@ -14,8 +15,7 @@ use Rattle.registers.specs.Ports.{slotOf}
 use Rattle.registers.specs.Words.{wordIn, wordAt, Outcome, putWord}
 use Rattle.registers.specs.Within.{Other, TidyOthers, Tidy}
 use Rattle.registers.proofs.Own.{by-slot, slot-apart, own-own, own-stays, own-word}
-use Rattle.registers.proofs.Spots.{Here, Gone, by-kind, by-spot, read-never, read-absent}
-use Rattle.registers.proofs.Spots.{placeIn, setIn}
+use Rattle.registers.proofs.Spots.{Here, Gone, by-kind, by-spot, read-never, read-absent, placeIn, setIn}
 use Rattle.registers.proofs.Order.{once, present, word-is, word-absent, by-place}
 use Rattle.registers.proofs.Moving.{givenBack, takenBy, tidy-cases}
 use Rattle.registers.proofs.Tidy.{set-here, tidy-back, tidy-here, taken-at, tidy-taken}
@@ -33,10 +33,10 @@ back-absent r a tidy other here j e =
     past-other p j (once (othersOf r) tidy (past p j) p (some (past p j) stands) (some p here) (stands ∙ sym here))
 
 -- what was put and not refused is read back
-pub get-same : (r : Registers) (a v : ℕ) → Tidy r → unstored a ≡ false → putWord r a v .refusal ≡ 0
+pub get-same : (r : Registers) (a v : ℕ) → Tidy r → unstored a ≡ false → putWord r a v .refusal ≡ DONE
     → wordAt (putWord r a v .registers) a ≡ v
 get-same r a v tidy stored =
-    tidy-cases r a v (tidy .others) (λ (p : Outcome). p .refusal ≡ 0 → wordAt (p .registers) a ≡ v)
+    tidy-cases r a v (tidy .others) (λ (p : Outcome). p .refusal ≡ DONE → wordAt (p .registers) a ≡ v)
     (λ less done. own-word _ a less ∙ own-own (r .slots) a v (tidy .slots) less)
     (λ slot never done. absurd (true≢false (sym never ∙ stored)))
     (λ other here z done.

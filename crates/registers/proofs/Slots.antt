@@ -18,7 +18,7 @@ use Rattle.registers.specs.declared.Port.the-variants.{Select, Send, Lcd
 use Rattle.registers.specs.declared.Port.the-variants.{Other}
 use Rattle.registers.specs.Ports.{portsIn, portAt, dayWord, portOf, timerOf, wordsFrom, namedWords}
 use Rattle.registers.specs.Ports.{namedRows, ownWords, index, slotOf, slotWord}
-use Rattle.whole.proofs.Choice.{by-same}
+use Rattle.whole.proofs.Choice.{by-same, both, turned}
 use Rattle.registers.proofs.Own.{slot-hit, by-slot}
 
 -- the test passes at each number below n
@@ -26,23 +26,12 @@ abbrev pub every : (ℕ → Bool) → ℕ → Bool
 every f zero = true
 every f (suc n) = f n && every f n
 
-first-of : (a b : Bool) → (a && b) ≡ true → a ≡ true
-first-of true b h = refl
-first-of false b h = h
-
-rest-of : (a b : Bool) → (a && b) ≡ true → b ≡ true
-rest-of true b h = h
-rest-of false b h = absurd (not h)
-  where
-    not : false ≡ true → ⊥
-    not e = let z : _≡_ {A = ℕ} 0 1 = cc in omega arith
-
 pub at-each : (f : ℕ → Bool) (n : ℕ) → every f n ≡ true → (k : ℕ) → k < n → f k ≡ true
 at-each f zero h k l = absurd (omega arith)
 at-each f (suc n) h k l =
     by-same k n
-    (λ e. ap f e ∙ first-of (f n) (every f n) h)
-    (λ d. at-each f n (rest-of (f n) (every f n) h) k (omega arith))
+    (λ e. ap f e ∙ both (f n) (every f n) h .0)
+    (λ d. at-each f n (both (f n) (every f n) h .1) k (omega arith))
 
 -- past the last slot stands no port
 pub port-past : (s : ℕ) → 76 ≤ s → Other ≡ portAt s
@@ -67,14 +56,10 @@ no-day : every (λ s. not (dayWord (slotWord s))) 76 ≡ true
 unfolding dayWord ownWords wordsFrom namedWords namedRows
 no-day = refl
 
-turned : (b : Bool) → not b ≡ true → b ≡ false
-turned true h = sym h
-turned false h = refl
-
 pub port-slot : (s : ℕ) → s < 76 → portOf (slotWord s) ≡ portAt s
 unfolding portOf
 port-slot s h =
-    rw (turned (dayWord (slotWord s)) (at-each (λ t. not (dayWord (slotWord t))) 76 no-day s h), slot-back s h)
+    rw (turned (dayWord (slotWord s)) true (at-each (λ t. not (dayWord (slotWord t))) 76 no-day s h), slot-back s h)
 
 -- and one without a slot is the time of day's, or no more than stored
 pub port-none : (a : ℕ) → slotOf a ≡ 76 → portOf a ≡ cond (dayWord a) (Acts DayField) Other

@@ -4,7 +4,7 @@ use mathlib.Core.Path.{_≡_, refl, sym, ap, _∙_}
 use mathlib.Core.Bool.{true, true≢false}
 use native.Mathlib.Omega.{arith}
 use borrow.Author.Tests.{ne-eqb}
-use Rattle.map.specs.Numbers.{RTC-SECONDS, RTC-MINUTES, RTC-HOURS}
+use Rattle.map.specs.Numbers.{REGISTERS-FULL, RTC-SECONDS, RTC-MINUTES, RTC-HOURS}
 use Rattle.registers.specs.declared.Registers.{Registers}
 use Rattle.registers.specs.declared.Refusal.the-variants.{Done}
 use Rattle.registers.specs.Words.{unstored}
@@ -15,9 +15,9 @@ use Rattle.registers.proofs.Spots.{read-never, put-never, put-cases}
 
 -- ---- refused
 
-pub refused-stays : (r : Registers) (a v : ℕ) → putWord r a v .refusal ≡ 4 → putWord r a v .registers ≡ r
+pub refused-stays : (r : Registers) (a v : ℕ) → putWord r a v .refusal ≡ REGISTERS-FULL → putWord r a v .registers ≡ r
 refused-stays r a v =
-    put-cases r a v (λ (p : Outcome). p .refusal ≡ 4 → p .registers ≡ r)
+    put-cases r a v (λ (p : Outcome). p .refusal ≡ REGISTERS-FULL → p .registers ≡ r)
     (λ less four. absurd (omega arith))
     (λ slot never four. refl)
     (λ other here z four. absurd (omega arith))

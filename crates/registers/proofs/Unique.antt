@@ -3,6 +3,7 @@ use mathlib.Core.Path.{_≡_, refl, ap}
 use mathlib.Core.Bool.{cond}
 use Prim.Native.Nat.{ℕ}
 use lib.Dec.{eqb}
+use Rattle.map.specs.Numbers.{DONE}
 use Rattle.whole.proofs.Unique.{unique, same-by-number}
 use Rattle.registers.specs.declared.Refusal.{Refusal}
 use Rattle.registers.specs.declared.Refusal.the-variants.{Done, RegistersFull}
@@ -10,7 +11,7 @@ use Rattle.registers.specs.Words.{numberOf, Others, OtherOutcome, otherO
 
 -- the refusal of a number
 abbrev refusalOf : ℕ → Refusal
-refusalOf n = cond (eqb n 0) Done RegistersFull
+refusalOf n = cond (eqb n DONE) Done RegistersFull
 
 -- a refusal is known by its number
 number-tells : (a b : Refusal) → numberOf a ≡ numberOf b → a ≡ b

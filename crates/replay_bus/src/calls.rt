@@ -40,7 +40,7 @@ pub(crate) fn advance(s: System, sram: &[u8; 65536], gpio: &mut [u8; 4096], bits
     let to = whole::limits::time_of(bits);
     match to {
         Checked::Good(x) => changed(moment::advance(s, sram, gpio, x)),
-        Checked::Bad => step_answer(s, refused(1)),
+        Checked::Bad => step_answer(s, refused(map::BAD_TIME)),
     }
 }
 
@@ -48,13 +48,17 @@ pub(crate) fn turbo(s: System, bits: u64) -> Stepped {
     let to = whole::limits::turbo_of(bits);
     match to {
         Checked::Good(x) => changed(moment::set_turbo(s, x)),
-        Checked::Bad => step_answer(s, refused(2)),
+        Checked::Bad => step_answer(s, refused(map::BAD_TURBO)),
     }
 }
 
 // What a bad time beside this key is refused with: a bad key comes first.
 fn bad_time(key: u32) -> Answer {
-    if key > 2 { refused(8) } else { refused(1) }
+    if key > 2 {
+        refused(map::BAD_KEY)
+    } else {
+        refused(map::BAD_TIME)
+    }
 }
 
 pub(crate) fn hold(s: System, key: u32, bits: u64) -> Stepped {

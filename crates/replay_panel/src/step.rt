@@ -21,7 +21,7 @@ pub struct Stepped {
 pub(crate) fn word_answer(refusal: Refusal, word: u64) -> Answer {
     match refusal {
         Refusal::Done => answered(word, 0, 0),
-        Refusal::BadMemory => refused(7),
+        Refusal::BadMemory => refused(map::BAD_MEMORY),
     }
 }
 

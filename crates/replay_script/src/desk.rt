@@ -56,8 +56,8 @@ fn word(out: &[u8; 32768], at: usize) -> u64
 }
 
 pub(crate) fn answer_at(out: &[u8; 32768], index: u32) -> Answer {
-    let at = 4 + 25 * index as usize;
-    if at + 25 > 32768 {
+    let at = 4 + map::ANSWER_BYTES * index as usize;
+    if at + map::ANSWER_BYTES > 32768 {
         return refused(1);
     }
     Answer {

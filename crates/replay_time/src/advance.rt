@@ -57,7 +57,7 @@ pub(crate) fn advance(machine: Machine, words: &mut [u32; 62], bits: u64) -> Ste
     let moved = clock::pace::advance_bits(machine.time, bits);
     match moved {
         Moved::To(time) => step_done(reached(machine, words, time)),
-        Moved::BadTime => refused(machine, 1),
+        Moved::BadTime => refused(machine, map::BAD_TIME),
     }
 }
 
@@ -69,6 +69,6 @@ pub(crate) fn turbo(machine: Machine, bits: u64) -> Stepped {
             next.time = time;
             step_done(next)
         }
-        Paced::BadTurbo => refused(machine, 2),
+        Paced::BadTurbo => refused(machine, map::BAD_TURBO),
     }
 }

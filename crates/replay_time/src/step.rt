@@ -35,8 +35,8 @@ fn take(machine: Machine) -> Stepped {
                 bits_of(event.duty),
             ),
         ),
-        Refusal::NoEvent => refused(machine, 12),
-        Refusal::SoundFull => refused(machine, 5),
+        Refusal::NoEvent => refused(machine, map::NO_EVENT),
+        Refusal::SoundFull => refused(machine, map::SOUND_FULL),
     }
 }
 

@@ -82,7 +82,7 @@ fn sound_write(machine: Machine, words: &mut [u32; 62], i: usize, value: u32) ->
     let change = sounded(machine, words, i, value);
     match change {
         Sounded::Same => step_done(timer_write(machine, words, i, value)),
-        Sounded::SoundFull => refused(machine, 5),
+        Sounded::SoundFull => refused(machine, map::SOUND_FULL),
         Sounded::Change(tone) => {
             let next = with_tone(machine, tone);
             step_done(timer_write(next, words, i, value))

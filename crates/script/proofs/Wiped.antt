@@ -9,6 +9,7 @@ use lib.Dec.{eqb}
 use lib.ListN.{length}
 use borrow.Author.Tests.{not-false, eqb-true}
 use Rattle.map.specs.Numbers.{RAM-SIZE, SRAM-SIZE, GPIO-SIZE, FRAMEBUFFER-SIZE}
+use Rattle.whole.proofs.Choice.{neither}
 use Rattle.system.specs.System.{Machine}
 use Rattle.system.specs.Steps.{Op, wipe, step, after}
 use Rattle.system.specs.Lengths.{SameLengths}
@@ -22,13 +23,6 @@ use Rattle.script.specs.Fold.{Accepted, start, opsOf, answerAt, fitted}
 use Rattle.script.proofs.Fold.{script-folds, each-answer}
 
 -- ---- the lengths of accepted memories
-
-neither : (a b : Bool) → a || b ≡ false → (a ≡ false) × (b ≡ false)
-neither false b h = (refl, h)
-neither true b h = absurd (true-false h)
-  where
-    true-false : true ≡ false → ⊥
-    true-false z = let y : _≡_ {A = ℕ} 0 1 = cc in omega arith
 
 has-length : (l : List ℕ) (n : ℕ) → not (eqb (length l) n) ≡ false → length l ≡ n
 has-length l n h = eqb-true (length l) n (not-false (eqb (length l) n) h)

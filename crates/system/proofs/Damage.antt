@@ -11,9 +11,8 @@ use Rattle.registers.specs.Ports.{portOf}
 use Rattle.flash.specs.Board.{Board, Outcome, goodSize}
 use Rattle.flash.specs.Flash.{transferred}
 use Rattle.flash.specs.Steps.{Step, cs, byte, sends}
-use Rattle.flash.specs.Run.{afterSteps, answers, transaction, again, Forgets}
-use Rattle.flash.specs.Run.{afterStep as once}
-use Rattle.flash.proofs.Long.{step-long}
+use Rattle.flash.specs.Run.{afterSteps, answers, transaction, again, Forgets, afterStep as once}
+use Rattle.flash.proofs.Long.{step-long, run-long}
 use Rattle.flash.proofs.Cases.{transfer-done}
 use Rattle.flash.proofs.Forget.{run-bad, forgets}
 use Rattle.panel.specs.Entries.{Screen}
@@ -91,10 +90,6 @@ flash-heard (o ∷ os) m h =
     ap₂ (λ (p q : List ℕ). p ++ q) first rest ∙ sym (rxs-join xs (flashCarried (step m o .machine) os) (boardIn m))
 
 -- ---- the flash forgets
-
-run-long : (xs : List Step) (w : Board) → length (afterSteps w xs .array) ≡ length (w .array)
-run-long [] w = refl
-run-long (x ∷ xs) w = run-long xs (once w x) ∙ step-long w x
 
 -- on a refused array nothing happens at all
 rxs-alike : (w : Board) (xs ys : List Step) → Forgets (afterSteps w xs) (afterSteps w ys) → (k : ℕ) (zs : List Step)

@@ -14,7 +14,7 @@ use Rattle.map.specs.Numbers.{SPIFC-SELECT, SPIFC-SEND}
 use Rattle.registers.proofs.Slots.{select-port, send-port}
 use Rattle.whole.specs.Words.{has}
 use Rattle.whole.proofs.Bits.{lt-or-ge}
-use Rattle.memory.specs.Places.{within, isRegister, placeOf}
+use Rattle.memory.specs.Places.{within, inRegisters, placeOf}
 use Rattle.memory.specs.Access.{goodSize, spanOf, cutOf}
 use Rattle.memory.proofs.Access.{cut-merged}
 use Rattle.flash.specs.Steps.{Step, cs, byte, sends, ByteSteps}
@@ -61,12 +61,12 @@ module _ (m : Machine) (n v : ℕ) (g : goodSize n ≡ true) where
   send-low = span-low n _ v (cut-merged _ SPIFC-SEND n v g (size-le n g))
 
   select-carried : flashSteps m (write SPIFC-SELECT n v) ≡ cs (has v 0x40) ∷ []
-  unfolding lands placeOf within isRegister flashWord
+  unfolding lands placeOf within inRegisters flashWord
   select-carried = rw (g, select-port) (ap (λ (b : Bool). cs b ∷ []) (has-low (mergedIn m SPIFC-SELECT n v) ∙ ap
       (λ (k : ℕ). has k 0x40) select-low ∙ sym (has-low v)))
 
   send-carried : flashSteps m (write SPIFC-SEND n v) ≡ byte (v % 256) ∷ []
-  unfolding lands placeOf within isRegister flashWord
+  unfolding lands placeOf within inRegisters flashWord
   send-carried = rw (g, send-port) (ap (λ (k : ℕ). byte k ∷ []) send-low)
 
 -- ---- a whole transaction
@@ -81,13 +81,13 @@ sending-carries n g (b ∷ bs) m h =
     (sending-carries n g bs (step m (write SPIFC-SEND n b) .machine) (h .1))
 
 sending-apart : (n : ℕ) (bs : List ℕ) → Apart (sending n bs)
-unfolding placeOf within isRegister
+unfolding placeOf within inRegisters
 sending-apart n [] = (tt, tt)
 sending-apart n (b ∷ bs) = (tt, sending-apart n bs)
 
 pub driven-carries : (m : Machine) (n : ℕ) (bs : List ℕ) → goodSize n ≡ true → ByteSteps (sends bs)
     → Carries m (driven n bs) (session bs)
-unfolding flashCarried placeOf within isRegister
+unfolding flashCarried placeOf within inRegisters
 driven-carries m n bs g h =
     record {
       apart = (tt, sending-apart n bs);

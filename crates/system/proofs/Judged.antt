@@ -17,5 +17,5 @@ unfolding step writeOf freshSystem writing.writeOf writing.regWritten writing.po
     words.removedTo words.insertedTo words.removed words.inserted words.place words.halving words.halved words.ownAt
     words.ownWith ports.slotOf ports.ownWords ports.wordsFrom ports.namedWords ports.namedRows ports.portAt
     ports.dayWord ports.portOf ports.index words.unstored words.freshRegisters access.goodSize access.mergedOf
-    access.writtenOf access.maskOf access.spanOf access.shifted places.placeOf places.isRegister places.within
+    access.writtenOf access.maskOf access.spanOf access.shifted places.placeOf places.inRegisters places.within
 judged = (refl, (refl, (refl, (refl, tt))))

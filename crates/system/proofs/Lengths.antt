@@ -36,6 +36,7 @@ use Rattle.keys.specs.Lines.{Lines, wanted, syncOf}
 use Rattle.time.specs.Advance as move
 use Rattle.bus.specs.World.{Out}
 use Rattle.bus.specs.Chip.{boardOf, selectedOver, sentOver, selectWritten, sendWritten}
+use Rattle.block.proofs.Table.{table-long}
 use Rattle.block.specs.Block.{Plain, plain, pokedAt, pokedOf, laidFrom, laidOf, table, blockOf}
 use Rattle.bus.specs.Screen.{Copied, copied, fedWord, dmaDone, actResult, controlled}
 use Rattle.bus.specs.Write.{storedWord, wordAddress, regWritten}
@@ -79,11 +80,6 @@ paint-length p fb b =
     either (λ (l : List ℕ). length l ≡ length fb) (eqb (codeOf (p .cmd)) 0x2C) (inked fb (p .pen) b) fb
     (ink-length (p .pen .half) fb (p .pen) b) refl
 
-table-length : (f : ℕ → ℕ) (i n : ℕ) → length (table f i n) ≡ n
-unfolding table
-table-length f i zero = refl
-table-length f i (suc n) = ap suc (table-length f (suc i) n)
-
 fed-length : (t : Screen) (one : Bool) (word : ℕ) → length (fedWord t one word .fb) ≡ length (t .fb)
 unfolding fedWord
 fed-length t true word = paint-length (t .panel) (t .fb) _
@@ -95,7 +91,7 @@ module _ (r : Registers) (ram sram gpio : List ℕ) (t : Screen) where
 
   dma-length : SamePixels (dmaDone r ram sram gpio t)
   unfolding dmaDone blockOf
-  dma-length = either SamePixels (eqb (ownAt (r .slots) LCD-DMA) 0) _ _ refl (table-length _ 0 (length (t .fb)))
+  dma-length = either SamePixels (eqb (ownAt (r .slots) LCD-DMA) 0) _ _ refl (table-long _ 0 (length (t .fb)))
 
   acted-length : (val : ℕ) → SamePixels (actResult r ram sram gpio t val)
   unfolding actResult

@@ -4,6 +4,7 @@ use mathlib.Core.Path.{_≡_, refl, sym, ap, _∙_}
 use mathlib.Core.Bool.{Bool, true, false, cond, not, _||_}
 use lib.Dec.{eqb, leb}
 use lib.Ieee.{Float, binary64, ofBits, lt}
+use Rattle.map.specs.Numbers.{BAD-SIZE}
 use Rattle.whole.specs.Limits.{goodTime, goodTurbo}
 use Rattle.memory.specs.declared.Place.{Place}
 use Rattle.memory.specs.declared.Place.the-variants.{Ram, Sram, Gpio, Register, Stray}
@@ -46,7 +47,7 @@ module _ (m : Machine) where
     where
       by : (b : Bool) (p : Place) → _≡_ {A = ℕ}
           (cond b (readAt p (m .system .registers) (m .ram) (m .sram) (m .gpio) (m .system .devices) a n)
-          (reads.got (m .system .registers .slots) (record { refusal = 9; value = 0 })) .got .refusal) (cond
+          (reads.got (m .system .registers .slots) (record { refusal = BAD-SIZE; value = 0 })) .got .refusal) (cond
           (not b) 9 0)
       by true (Ram o) = refl
       by true (Sram o) = refl

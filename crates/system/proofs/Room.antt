@@ -7,7 +7,7 @@ use native.Mathlib.Omega.{arith}
 use lib.Bits.{bitAnd}
 use lib.Dec.{eqb, lit<}
 use borrow.Author.Tests.{eq-eqb, ne-eqb, eqb-true, eqb-false}
-use Rattle.map.specs.Numbers.{SOUND-TIMER, SOUND-CONTROL, SOUND-RELOAD, SOUND-COMPARE}
+use Rattle.map.specs.Numbers.{DONE, SOUND-TIMER, SOUND-CONTROL, SOUND-RELOAD, SOUND-COMPARE}
 use Rattle.registers.specs.declared.Registers.{Registers}
 use Rattle.registers.specs.declared.Effect.{Effect}
 use Rattle.registers.specs.declared.Effect.the-variants.{TimerControl, DayField, Sound, LcdStatus, Tick, AdcControl}
@@ -18,7 +18,7 @@ use Rattle.registers.specs.Ports.{namedRows, wordsFrom, namedWords, ownWords, i
 use Rattle.registers.specs.Ports.{dayWord, portOf, timerOf}
 use Rattle.registers.specs.Words.{unstored, wordAt, putWord}
 use Rattle.registers.specs.Within.{Tidy, nonZero, Full}
-use Rattle.whole.proofs.Choice.{both, by-test}
+use Rattle.whole.proofs.Choice.{both, by-test, turned}
 use Rattle.registers.proofs.Own.{slot-hit, by-slot}
 use Rattle.registers.proofs.Slots.{every, at-each, port-slot, port-none, port-own, hasSlot, slot-no-day}
 use Rattle.registers.proofs.Count.{full-exactly}
@@ -36,10 +36,6 @@ use Rattle.system.proofs.Unchanged.{StoreNumber, put-number}
 
 -- ---- room for a word
 
-other-way : (b : Bool) → not b ≡ true → b ≡ false
-other-way false h = refl
-other-way true h = absurd (true≢false (sym h))
-
 module _ (r : Registers) (word new : ℕ) where
   room-full : noRoom r word new ≡ true → Full r word new
   unfolding noRoom
@@ -49,9 +45,9 @@ module _ (r : Registers) (word new : ℕ) where
       let c = both _ _ (d .0) in
       let b = both _ _ (c .0) in
       record {
-        value = eqb-false new 0 (other-way (eqb new 0) (b .0));
+        value = eqb-false new 0 (turned (eqb new 0) true (b .0));
         word = eqb-true (wordAt r word) 0 (b .1);
-        other = record { slot = eqb-true (slotOf word) 76 (c .1); stored = other-way (unstored word) (d .1) };
+        other = record { slot = eqb-true (slotOf word) 76 (c .1); stored = turned (unstored word) true (d .1) };
         most = eqb-true (nonZero (r .values)) 256 (e .1);
       }
 
@@ -80,7 +76,7 @@ module _ (r : Registers) (word new : ℕ) where
       (λ t. rw t (exactly .1 (room-full t)))
       (λ f. rw f (by f (put-number r word new)))
     where
-      by : noRoom r word new ≡ false → StoreNumber (putWord r word new .refusal) → putWord r word new .refusal ≡ 0
+      by : noRoom r word new ≡ false → StoreNumber (putWord r word new .refusal) → putWord r word new .refusal ≡ DONE
       by f (inl z) = z
       by f (inr e) = absurd (true≢false (sym (full-room (full-exactly r word new tidy .0 e)) ∙ f))
 

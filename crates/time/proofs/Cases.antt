@@ -1,10 +1,12 @@
 -- The branches of the definitions, as the functions meet them.
 use Prim.Native.Nat.{ℕ}
 use mathlib.Core.Path.{_≡_, refl}
-use mathlib.Core.Bool.{Bool, true, false, _||_, and-false, true≢false}
+use mathlib.Core.Bool.{Bool, true, false, _||_, and-false}
 use mathlib.Core.List.{List}
 use lib.ListN.{getD}
 use lib.Ieee.{Float, binary64, ofBits}
+use Rattle.map.specs.Numbers.{DONE, NO-NEXT-TIME}
+use Rattle.whole.proofs.Choice.{neither}
 use Rattle.timer.specs.declared.Timer.{Timer}
 use Rattle.clock.specs.declared.Times.{Times}
 use Rattle.keys.specs.declared.Keys.{Keys}
@@ -37,19 +39,15 @@ pub timers-ahead : (slots : List ℕ) (ts : List Timer) (clock : ℕ) (so a b c 
 unfolding withTimers
 timers-ahead slots ts clock so a b c d e f g h i j k l = rw (← g, ← h, ← i, ← j, ← k) l
 
-none-of : (x y : Bool) → (x || y) ≡ false → (x ≡ false) × (y ≡ false)
-none-of true y h = absurd (true≢false h)
-none-of false y h = (refl, h)
-
 -- where no timer is pending, none runs and is pending
 pub none-pends : (slots : List ℕ) (ts : List Timer) → timerLine ts ≡ false → anyPends slots ts ≡ false
 unfolding timerLine anyPends pends
 none-pends slots ts h =
-    let a = none-of (pendingAt ts 0) _ h in
-    let b = none-of (pendingAt ts 1) _ (a .1) in
-    let c = none-of (pendingAt ts 2) _ (b .1) in
-    let d = none-of (pendingAt ts 3) _ (c .1) in
-    let e = none-of (pendingAt ts 4) _ (d .1) in
+    let a = neither (pendingAt ts 0) _ h in
+    let b = neither (pendingAt ts 1) _ (a .1) in
+    let c = neither (pendingAt ts 2) _ (b .1) in
+    let d = neither (pendingAt ts 3) _ (c .1) in
+    let e = neither (pendingAt ts 4) _ (d .1) in
     simp (a .0, b .0, c .0, d .0, e .0, e .1, and-false)
 
 module _ (slots : List ℕ) (starts : List Float) (c : Clocks) (k : Keys) (clock : ℕ) {on wanted : Bool}
@@ -68,10 +66,10 @@ module _ (slots : List ℕ) (starts : List Float) (c : Clocks) (k : Keys) (clock
     event-ahead y e = let g = rw (f, w) at h in rw (g, ← q, y) e
 
 module _ (t : Float) (b : Bool) (e : b ≡ finite t) where
-  pub answers-time : b ≡ true → record { refusal = 0; time = t } ≡ answered t
+  pub answers-time : b ≡ true → record { refusal = DONE; time = t } ≡ answered t
   unfolding answered
   answers-time h = rw (← e, h)
 
-  pub answers-none : b ≡ false → record { refusal = 13; time = ofBits binary64 0 } ≡ answered t
+  pub answers-none : b ≡ false → record { refusal = NO-NEXT-TIME; time = ofBits binary64 0 } ≡ answered t
   unfolding answered
   answers-none h = rw (← e, h)

@@ -16,8 +16,7 @@ use Rattle.whole.proofs.Clear.{at-most-clear}
 use Rattle.whole.proofs.Words.{either}
 use Rattle.whole.proofs.Cuts.{whole-part, above-zero}
 use Rattle.whole.proofs.Round.{weaken, weaken-least, ofInt-at-most, ofInt-at-least, mul-at-most, sub-at-most, div-pow}
-use Rattle.whole.proofs.Round.{div-pow-least, cut-at-most}
-use Rattle.whole.proofs.Round.{good-at-most}
+use Rattle.whole.proofs.Round.{div-pow-least, cut-at-most, good-at-most}
 use Rattle.whole.proofs.Order.{good-clear, le-trans-clear, le-refl-clear, zero-least}
 use Rattle.whole.proofs.Mono.{sub-mono, mul-mono, cut-mono}
 use Rattle.timer.specs.declared.Timer.{Timer}
@@ -38,11 +37,8 @@ unfolding sysclkOf ofBits
 clock-at-least zero h = lit≤ tt
 clock-at-least (suc n) h =
     subst (λ (b : Bool). AtLeast (cond b (ofBits binary64 0x4176_E360_0000_0000) (ofInt binary64 (pos (suc n)))) 1)
-    (sym (ne-eqb (suc n) 0 (λ e. no n e)))
+    (sym (ne-eqb (suc n) 0 (λ e. omega arith)))
     (ofInt-at-least (suc n) (2 ^ 32) (zero-lt-suc n) (ofInt-at-most 32 (suc n) (lit< tt) (le-of-lt h)))
-  where
-    no : (n : ℕ) → suc n ≡ 0 → ⊥
-    no n e = omega arith
 
 module _ (clock control : ℕ) (h : clock < 2 ^ 32) where
   slow : AtMost (div binary64 (sysclkOf clock) (fin false 1 (pos 8))) (2 ^ 24)

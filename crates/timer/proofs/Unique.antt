@@ -4,6 +4,7 @@ use mathlib.Core.List.{List}
 use mathlib.Core.Bool.{cond}
 use Prim.Native.Nat.{ℕ}
 use lib.Dec.{eqb}
+use Rattle.map.specs.Numbers.{DONE, SOUND-FULL}
 use Rattle.whole.proofs.Unique.{unique, same-by-number}
 use Rattle.timer.specs.declared.Refusal.{Refusal}
 use Rattle.timer.specs.declared.Refusal.the-variants.{Done, SoundFull, NoEvent}
@@ -15,7 +16,7 @@ use Rattle.timer.specs.Events.{bulkOutcome}
 
 -- the refusal of a number
 abbrev refusalOf : ℕ → Refusal
-refusalOf n = cond (eqb n 0) Done (cond (eqb n 5) SoundFull NoEvent)
+refusalOf n = cond (eqb n DONE) Done (cond (eqb n SOUND-FULL) SoundFull NoEvent)
 
 -- a refusal is known by its number
 number-tells : (a b : Refusal) → numberOf a ≡ numberOf b → a ≡ b

@@ -23,6 +23,9 @@ lt-or-ge a b = go (ltb a b) (ltb→lt a b) (nltb→le a b)
     go true h k = inl (h tt)
     go false h k = inr (k tt)
 
+pub ge-of-not-lt : (a b : ℕ) → (b < a → ⊥) → a ≤ b
+ge-of-not-lt a b h = omega arith
+
 ofBits-is : (b : ℕ) → ofBits binary64 b ≡ ofFields binary64 (leb (2 ^ 63) b) (b % 2 ^ 63 / 2 ^ 52) (b % 2 ^ 52)
 unfolding ofBits
 ofBits-is b = refl
@@ -87,6 +90,9 @@ twice l t h k = omega arith
 at-one : (t : ℕ) → t < 2 ^ 52 → (0 + t) * 2 ^ 0 < 2 ^ 52 * 2 ^ 0
 at-one t h = omega arith
 
+down-one : (y : ℕ) → y ≡ suc y - 1
+down-one y = omega arith
+
 -- the next block starts above
 next-block : (E x t : ℕ) → E < suc x → t < 2 ^ 52 → (lead E + t) * 2 ^ (E - 1) < 2 ^ 52 * 2 ^ x
 next-block zero x t h k = lt-of-lt-of-le (at-one t k) (mul-le-mul-left' (pow-mono {i = 0} {j = x} zero-le))
@@ -97,9 +103,6 @@ next-block (suc y) x t h k =
     subst (λ (z : ℕ). (2 ^ 52 + t) * 2 ^ z < 2 ^ 52 * 2 ^ x) (down-one y)
     (lt-of-lt-of-le (mul-lt-mul-of-pos-right (twice (2 ^ 52) t (lit≤ tt) k) (pow-pos y)) (step y x (omega arith)))
   where
-    down-one : (y : ℕ) → y ≡ suc y - 1
-    down-one y = omega arith
-
     twice-as : (a b : ℕ) → 2 * a ≤ b → 2 ^ 53 * a ≤ 2 ^ 52 * b
     twice-as a b h = omega arith
 
@@ -127,9 +130,6 @@ by-fields E t zero u k (inr h) = absurd (no E h)
 by-fields E t (suc x) u k (inr h) =
     lt-of-lt-of-le (next-block E x t h k) (subst (λ (z : ℕ). 2 ^ 52 * 2 ^ x ≤ (2 ^ 52 + u) * 2 ^ z) (down-one x)
     (base u x))
-  where
-    down-one : (y : ℕ) → y ≡ suc y - 1
-    down-one y = omega arith
 
 pub val-lt : (a b : ℕ) → a < b → val a < val b
 val-lt a b h = by-fields (a / 2 ^ 52) (a % 2 ^ 52) (b / 2 ^ 52) (b % 2 ^ 52) (omega arith)

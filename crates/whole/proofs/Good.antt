@@ -4,8 +4,7 @@ use mathlib.Core.Logic.{inl, inr}
 use mathlib.Core.Bool.{Bool, true, false, not, _&&_, true≢false}
 use Prim.Native.Nat.{ℕ, _*_, _^_, _≤_, _<_}
 use native.Mathlib.Nat.{le-trans, le-of-eq, not-le-of-lt, mul-right-comm, mul-le-mul-right, le-of-mul-le-mul-right}
-use native.Mathlib.Nat.{lt-of-not-le}
-use native.Mathlib.Nat.{mul-lt-mul-of-pos-right, mul-comm}
+use native.Mathlib.Nat.{lt-of-not-le, mul-lt-mul-of-pos-right, mul-comm}
 use native.Mathlib.Omega.{arith}
 use lib.Dec.{T, leb, lit<}
 use lib.Pow.{pow-pos}
@@ -15,7 +14,8 @@ use lib.Ieee.Fits.{down-pos}
 use lib.Ieee.Exact.{HasValue}
 use borrow.Author.Tests.{le-leb, lt-leb}
 use Rattle.whole.specs.Limits.{upTo, downTo, goodTime, goodTurbo}
-use Rattle.whole.proofs.Bits.{value, val, val-le, val-lt, signed-any, top-any, lt-or-ge}
+use Rattle.whole.proofs.Choice.{both}
+use Rattle.whole.proofs.Bits.{value, val, val-le, val-lt, signed-any, top-any, lt-or-ge, ge-of-not-lt}
 
 -- two tests with the same answer
 same : (a b c d : ℕ) → (a ≤ b → c ≤ d) → (c ≤ d → a ≤ b) → leb a b ≡ leb c d
@@ -23,9 +23,6 @@ same a b c d f g = elim (lt-or-ge b a) [
   | inl h ↦ lt-leb a b h ∙ sym (lt-leb c d (lt-of-not-le (λ (k : c ≤ d). not-le-of-lt h (g k))))
   | inr h ↦ le-leb a b h ∙ sym (le-leb c d (f h))
 ]
-
-le-of-not-lt : (a b : ℕ) → (b < a → ⊥) → a ≤ b
-le-of-not-lt a b h = omega arith
 
 up-to-value : (n : ℕ) (x : Float) (a c : ℕ) → 0 < c → HasValue x false a c → upTo n x ≡ leb a (n * c)
 up-to-value n nan a c C h = absurd h
@@ -59,7 +56,7 @@ up-to-bits n k b K v = elim (lt-or-ge b (2047 * 2 ^ 52)) [
   | inl h ↦
       same b k (val b) (n * 2 ^ 1074)
       (λ (l : b ≤ k). le-trans (val-le b k l) (le-of-eq v))
-      (λ (l : val b ≤ n * 2 ^ 1074). le-of-not-lt b k (λ (m : k < b). not-le-of-lt (val-lt k b m)
+      (λ (l : val b ≤ n * 2 ^ 1074). ge-of-not-lt b k (λ (m : k < b). not-le-of-lt (val-lt k b m)
       (le-trans l (le-of-eq (sym v)))))
       ∙ sym (up-to-value n (ofBits binary64 b) (val b) (2 ^ 1074) (pow-pos 1074) (value b h))
   | inr h ↦ lt-leb b k (above b k K h) ∙ sym (elim (lt-or-ge b (2 ^ 63)) [
@@ -76,7 +73,7 @@ down-to-bits : (n k b : ℕ) → 0 < n → b < 2047 * 2 ^ 52 → val k * n ≡ 2
 down-to-bits n k b N h v =
     same k b (2 ^ 1074) (val b * n)
     (λ (l : k ≤ b). le-trans (le-of-eq (sym v)) (mul-le-mul-right n (val-le k b l)))
-    (λ (l : 2 ^ 1074 ≤ val b * n). le-of-not-lt k b
+    (λ (l : 2 ^ 1074 ≤ val b * n). ge-of-not-lt k b
     (λ (m : b < k). not-le-of-lt (mul-lt-mul-of-pos-right (val-lt b k m) N) (le-trans (le-of-eq v) l)))
     ∙ sym (down-to-value n (ofBits binary64 b) (val b) (2 ^ 1074) (pow-pos 1074) (value b h))
 
@@ -120,8 +117,4 @@ pub time-no-nan : (b : ℕ) → goodTime (ofBits binary64 b) ≡ true → T (not
 time-no-nan b h = bits-no-nan 2097152 b h
 
 pub turbo-no-nan : (b : ℕ) → goodTurbo (ofBits binary64 b) ≡ true → T (not (nanBits binary64 b))
-turbo-no-nan b h = bits-no-nan 1024 b (second (downTo 1024 (ofBits binary64 b)) (upTo 1024 (ofBits binary64 b)) h)
-  where
-    second : (p q : Bool) → (p && q) ≡ true → q ≡ true
-    second true q h = h
-    second false q h = absurd (true≢false (sym h))
+turbo-no-nan b h = bits-no-nan 1024 b (both (downTo 1024 (ofBits binary64 b)) (upTo 1024 (ofBits binary64 b)) h .1)

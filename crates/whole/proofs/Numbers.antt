@@ -5,20 +5,21 @@ use mathlib.Core.Bool.{Bool, true, false, cond}
 use Prim.Native.Nat.{ℕ}
 use native.Mathlib.Omega.{arith}
 use lib.Ieee.{Float, binary64, ofBits}
+use Rattle.map.specs.Numbers.{DONE, BAD-TIME, BAD-TURBO}
 use Rattle.whole.specs.declared.Checked.the-variants.{Good, Bad}
 use Rattle.whole.specs.Limits.{goodTime, goodTurbo, checkedOf, timeOf, turboOf, refusalOf, timeRefusal}
 use Rattle.whole.specs.Limits.{turboRefusal}
 
-number : (n : ℕ) (good : Bool) (bits : ℕ) → refusalOf n (checkedOf good bits) ≡ cond good 0 n
+number : (n : ℕ) (good : Bool) (bits : ℕ) → refusalOf n (checkedOf good bits) ≡ cond good DONE n
 unfolding checkedOf
 number n true bits = refl
 number n false bits = refl
 
-pub time-number : (bits : ℕ) → timeRefusal (timeOf bits) ≡ cond (goodTime (ofBits binary64 bits)) 0 1
-time-number bits = number 1 (goodTime (ofBits binary64 bits)) bits
+pub time-number : (bits : ℕ) → timeRefusal (timeOf bits) ≡ cond (goodTime (ofBits binary64 bits)) DONE BAD-TIME
+time-number bits = number BAD-TIME (goodTime (ofBits binary64 bits)) bits
 
-pub turbo-number : (bits : ℕ) → turboRefusal (turboOf bits) ≡ cond (goodTurbo (ofBits binary64 bits)) 0 2
-turbo-number bits = number 2 (goodTurbo (ofBits binary64 bits)) bits
+pub turbo-number : (bits : ℕ) → turboRefusal (turboOf bits) ≡ cond (goodTurbo (ofBits binary64 bits)) DONE BAD-TURBO
+turbo-number bits = number BAD-TURBO (goodTurbo (ofBits binary64 bits)) bits
 
 -- what is read is the float of the pattern, and what is not read is not good
 pub checked-good : (good : Bool) (bits : ℕ) (x : Float) → Good x ≡ checkedOf good bits → x ≡ ofBits binary64 bits

@@ -4,8 +4,7 @@ use mathlib.Core.Path.{_≡_, refl, sym, ap, _∙_, subst}
 use mathlib.Core.Bool.{Bool, true, false, _&&_, true≢false}
 use Prim.Native.Nat.{ℕ, zero, suc, _+_, _-_, _*_, _%_, _^_, _≤_, _<_}
 use native.Mathlib.Nat.{le-trans, le-of-eq, lt-of-lt-of-le, lt-of-le-of-lt, mul-one, one-mul, mul-assoc, mul-comm}
-use native.Mathlib.Nat.{mul-pos}
-use native.Mathlib.Nat.{mul-le-mul-right, mul-lt-mul-of-pos-right, le-add-right, add-comm, not-le-of-lt}
+use native.Mathlib.Nat.{mul-pos, mul-le-mul-right, mul-lt-mul-of-pos-right, le-add-right, add-comm, not-le-of-lt}
 use native.Mathlib.Omega.{arith}
 use lib.Ieee.Positive.{through}
 use lib.IntN.{ℤ, pos, negsuc}
@@ -17,15 +16,13 @@ use lib.Ieee.Exact.{HasValue, round-exact}
 use lib.Ieee.Order.{le-of-values, round-mono}
 use borrow.Author.Tests.{ltb-false}
 use Rattle.whole.specs.Limits.{goodTime}
+use Rattle.whole.proofs.Bits.{ge-of-not-lt}
 use Rattle.whole.proofs.Clear.{any, any2, at-most-clear, cross}
-use Rattle.whole.proofs.Round.{good-at-most}
+use Rattle.whole.proofs.Round.{good-at-most, whole-exponent}
 use Rattle.whole.specs.Bounds.{AtMost, Clear}
 
 same-power : (a b : ℕ) → 2 ^ a ≤ 2 ^ b → a ≤ b
-same-power a b h = le-of-not-lt a b (λ (l : b < a). not-le-of-lt (pow-lt l) h)
-  where
-    le-of-not-lt : (a b : ℕ) → (b < a → ⊥) → a ≤ b
-    le-of-not-lt a b h = omega arith
+same-power a b h = ge-of-not-lt a b (λ (l : b < a). not-le-of-lt (pow-lt l) h)
 
 own-up : (m k : ℕ) → m < 2 ^ 53 → m * 2 ^ k < 2 ^ 1024 * 1 → HasValue (round binary64 false (m * 2 ^ k) 1) false
     (m * 2 ^ k) 1
@@ -40,15 +37,12 @@ own-down : (m k : ℕ) → m < 2 ^ 53 → k ≤ 1074 → HasValue (round binary6
 own-down m k h l =
     round-exact binary64 false (m * 1) (2 ^ k) m (1074 - k) (pow-pos k) h
     (lt-of-lt-of-le (shl-lt 53 (1074 - k) h) (pow-mono (room k)))
-    (ap (λ (z : ℕ). z * 2 ^ 1074) (mul-one m) ∙ ap (λ (z : ℕ). m * 2 ^ z) (whole k l) ∙ ap (λ (z : ℕ). m * z)
+    (ap (λ (z : ℕ). z * 2 ^ 1074) (mul-one m) ∙ ap (λ (z : ℕ). m * 2 ^ z) (whole-exponent k l) ∙ ap (λ (z : ℕ). m * z)
     (pow-add 2 (1074 - k) k) ∙ sym
     (mul-assoc m (2 ^ (1074 - k)) (2 ^ k)))
   where
     room : (k : ℕ) → 53 + (1074 - k) ≤ 2098
     room k = omega arith
-
-    whole : (k : ℕ) → k ≤ 1074 → 1074 ≡ 1074 - k + k
-    whole k h = omega arith
 
 -- a value that the format holds is its own rounding
 pub own : (s : Bool) (m : ℕ) (e : ℤ) → T (fits binary64 (fin s m e))

@@ -88,18 +88,19 @@ power k h =
     room : (k : ℕ) → k < 1024 → k + 1074 < 2098
     room k h = omega arith
 
+pub whole-exponent : (k : ℕ) → k ≤ 1074 → 1074 ≡ 1074 - k + k
+whole-exponent k h = omega arith
+
 fraction : (k : ℕ) → k ≤ 1074 → HasValue (round binary64 false 1 (2 ^ k)) false 1 (2 ^ k)
 fraction k h =
     round-exact binary64 false 1 (2 ^ k) 1 (1074 - k) (pow-pos k) (lit< tt)
     (subst (λ (z : ℕ). z < 2 ^ 2098) (sym (one-mul (2 ^ (1074 - k)))) (pow-lt (room k h)))
-    (one-mul (2 ^ 1074) ∙ ap (λ (z : ℕ). 2 ^ z) (whole k h) ∙ pow-add 2 (1074 - k) k ∙ ap (λ (z : ℕ). z * 2 ^ k)
+    (one-mul (2 ^ 1074) ∙ ap (λ (z : ℕ). 2 ^ z) (whole-exponent k h) ∙ pow-add 2 (1074 - k) k
+    ∙ ap (λ (z : ℕ). z * 2 ^ k)
     (sym (one-mul (2 ^ (1074 - k)))))
   where
     room : (k : ℕ) → k ≤ 1074 → 1074 - k < 2098
     room k h = omega arith
-
-    whole : (k : ℕ) → k ≤ 1074 → 1074 ≡ 1074 - k + k
-    whole k h = omega arith
 
 pub round-at-most : (k a c : ℕ) → k < 1024 → 0 < c → a ≤ 2 ^ k * c → AtMost (round binary64 false a c) (2 ^ k)
 round-at-most k a c h C l =

@@ -4,6 +4,7 @@ use mathlib.Core.Bool.{Bool, true, false, cond, _&&_}
 use Prim.Native.Nat.{ℕ, _*_}
 use lib.Dec.{leb}
 use lib.Ieee.{Float, nan, inf, fin, binary64, up, down, ofBits}
+use Rattle.map.specs.Numbers.{DONE, BAD-TIME, BAD-TURBO}
 use Rattle.whole.specs.declared.Checked.{Checked}
 use Rattle.whole.specs.declared.Checked.the-variants.{Good, Bad}
 
@@ -37,13 +38,13 @@ timeOf bits = checkedOf (goodTime (ofBits binary64 bits)) bits
 abbrev pub turboOf : ℕ → Checked
 turboOf bits = checkedOf (goodTurbo (ofBits binary64 bits)) bits
 
--- the numbers of the refusals, 0 being done: 1 BadTime, 2 BadTurbo
+-- the numbers of the refusals
 abbrev pub refusalOf : ℕ → Checked → ℕ
-refusalOf n (Good x) = 0
+refusalOf n (Good x) = DONE
 refusalOf n Bad = n
 
 abbrev pub timeRefusal : Checked → ℕ
-timeRefusal c = refusalOf 1 c
+timeRefusal c = refusalOf BAD-TIME c
 
 abbrev pub turboRefusal : Checked → ℕ
-turboRefusal c = refusalOf 2 c
+turboRefusal c = refusalOf BAD-TURBO c

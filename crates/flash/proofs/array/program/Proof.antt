@@ -10,6 +10,7 @@ use lib.Seq.{take-all}
 use lib.Bits.{bitAnd}
 use borrow.Author.Needs.{needs}
 use Rattle.flash.specs.Finish.{ands}
+use Rattle.flash.proofs.Long.{ands-long}
 use Rattle.flash.proofs.array.program.Statement.{statement}
 use Rattle.flash.proofs.array.program.Tie as tie
 
@@ -23,15 +24,10 @@ step (suc k) (x ∷ p) [] l = ap (λ (t : List ℕ). bitAnd x 0 ∷ t) (step k p
 step zero (x ∷ p) (y ∷ m) l = refl
 step (suc k) (x ∷ p) (y ∷ m) l = ap (λ (t : List ℕ). bitAnd x y ∷ t) (step k p m (le-of-suc-le-suc l))
 
-length-ands : (p m : List ℕ) → length (ands p m) ≡ length p
-length-ands [] m = refl
-length-ands (x ∷ p) [] = ap suc (length-ands p [])
-length-ands (x ∷ p) (y ∷ m) = ap suc (length-ands p m)
-
 whole : (p m : List ℕ) → take (length p) (ands p m) ++ drop (length p) p ≡ ands p m
 whole p m =
     rw (drop-of-length-le p (le-refl (length p)), append-nil) (take-all (length p) (ands p m) (le-of-eq
-    (length-ands p m)))
+    (ands-long p m)))
 
 abbrev Inv-loop : tie.InvT-loop
 Inv-loop part₀ mask k₀ part k =
