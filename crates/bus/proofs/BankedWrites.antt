@@ -8,7 +8,7 @@ use native.Mathlib.Omega.{arith}
 use lib.Dec.{eqb}
 use lib.ListN.{getD, set}
 use Rattle.map.specs.Numbers.{DONE, STRAY-WRITE, BAD-SIZE}
-use Rattle.whole.proofs.Choice.{turned}
+use Rattle.whole.proofs.Choice.{of-not}
 use Rattle.registers.specs.declared.Registers.{Registers}
 use Rattle.registers.specs.declared.Effect.{Effect}
 use Rattle.registers.specs.declared.Effect.the-variants.{DayField}
@@ -269,12 +269,12 @@ module _ (r : Registers) (rtc page ram sram gpio fb : List ℕ) (d : Devices) (f
       pub write-size : {t : WriteAnswer} → not good ≡ true → t ≡ withoutEvent BAD-SIZE
           → outOf there t ≡ writeOf there full a n v
       unfolding writeOf
-      write-size h k = rw (← e, turned good true h, k)
+      write-size h k = rw (← e, of-not good true h, k)
 
       module _ (h : not good ≡ false) where
         placed : writeOf there full a n v ≡ writeAt q there full a n v
         unfolding writeOf
-        placed = rw (← e, turned good false h, ← f)
+        placed = rw (← e, of-not good false h, ← f)
 
         pub write-register : {z : Out} → q ≡ Register → z ≡ regWritten there full a n v → z ≡ writeOf there full a n v
         write-register k i = rw (placed, k) i

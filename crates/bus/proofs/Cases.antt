@@ -13,7 +13,7 @@ use Rattle.map.specs.Numbers.{BAD-SIZE}
 use Rattle.map.specs.Numbers.{SPI2-SEND, SPI2-STATUS, SPI2-ANSWER, SPI2-IDLE, RTC-ADDRESS, RTC-DATA, RTC-COMMAND}
 use Rattle.map.specs.Numbers.{SPIFC-SELECT, SPIFC-SEND, LCD-CONTROL, LCD-DATA, LCD-STATUS, LCD-DMA}
 use Rattle.whole.specs.Words.{has}
-use Rattle.whole.proofs.Choice.{turned}
+use Rattle.whole.proofs.Choice.{of-not}
 use Rattle.registers.specs.declared.Registers.{Registers}
 use Rattle.registers.specs.Words.{ownAt, ownWith, wordAt}
 use Rattle.registers.specs.Ports.{slotOf, slotWord}
@@ -187,12 +187,12 @@ module _ (r : Registers) (ram sram gpio : List ℕ) (d : Devices) (a n : ℕ) {p
     pub read-size : {x : Got} → not good ≡ true → x ≡ record { refusal = BAD-SIZE; value = 0 }
         → got (r .slots) x ≡ readOf r ram sram gpio d a n
     unfolding readOf
-    read-size h k = rw (k, ← e, turned good true h)
+    read-size h k = rw (k, ← e, of-not good true h)
 
     module _ (h : not good ≡ false) where
       located : readOf r ram sram gpio d a n ≡ readAt p r ram sram gpio d a n
       unfolding readOf
-      located = rw (← e, turned good false h, ← f)
+      located = rw (← e, of-not good false h, ← f)
 
       pub read-register : {slots₁ : List ℕ} {x : ℕ} → p ≡ Register → given slots₁ x ≡ regRead r sram d a n
           → reads (given slots₁ x) ≡ readOf r ram sram gpio d a n

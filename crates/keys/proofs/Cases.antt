@@ -16,7 +16,7 @@ use Rattle.whole.specs.declared.Checked.{Checked}
 use Rattle.whole.specs.declared.Checked.the-variants.{Good, Bad}
 use Rattle.whole.specs.Limits.{goodTime, timeOf}
 use Rattle.whole.proofs.Numbers.{checked-good, checked-then, checked-bad}
-use Rattle.whole.proofs.Choice.{turned}
+use Rattle.whole.proofs.Choice.{of-not}
 use Rattle.memory.specs.Bytes.{loaded, storedAt}
 use Rattle.keys.specs.declared.Held.{Held}
 use Rattle.keys.specs.declared.Keys.{Keys}
@@ -69,10 +69,10 @@ module _ (starts : List Float) (count : ℕ) (now : Float) (n : ℕ) where
     step = let z : n - i ≡ suc (n - (i + 1)) = omega arith in rw z at e
 
     pub free-here : x ≡ true → i ≡ freeOf starts count now
-    free-here t = sym (step ∙ from-expired starts now (n - (i + 1)) i (turned _ x (sym w) ∙ ap not t))
+    free-here t = sym (step ∙ from-expired starts now (n - (i + 1)) i (of-not _ x (sym w) ∙ ap not t))
 
     pub free-on : x ≡ false → freeOf starts count now ≡ freeFrom (n - (i + 1)) (i + 1) starts now
-    free-on t = step ∙ from-waits starts now (n - (i + 1)) i (turned _ x (sym w) ∙ ap not t)
+    free-on t = step ∙ from-waits starts now (n - (i + 1)) i (of-not _ x (sym w) ∙ ap not t)
 
   pub free-none : (i : ℕ) → n ≤ i → freeOf starts count now ≡ freeFrom (n - i) i starts now
       → i ≡ freeOf starts count now

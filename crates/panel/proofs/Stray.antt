@@ -55,8 +55,8 @@ pub record Astray (w : Window) (fb gb : List ℕ) : Type 0 where
 pub agreed : (w : Window) (fb : List ℕ) → Astray w fb fb
 agreed w fb = record { sized = refl; outside = λ k. apart refl }
 
-turned : {w : Window} {fb gb : List ℕ} → Astray w fb gb → Astray w gb fb
-turned a = record { sized = sym (a .sized); outside = λ k. turn (a .outside k) }
+astray-sym : {w : Window} {fb gb : List ℕ} → Astray w fb gb → Astray w gb fb
+astray-sym a = record { sized = sym (a .sized); outside = λ k. turn (a .outside k) }
 
 strayed : (w : Window) (x y h b : ℕ) (fb gb : List ℕ) → Within w x y → Astray w fb gb → Astray w (put fb x y h b) gb
 strayed w x y h b fb gb i a =
@@ -84,4 +84,4 @@ stray w is js (right {b} r) x y h f x′ y′ Nothing f′ fb gb i i′ a = stra
 stray w is js (right {b} r) x y h f x′ y′ (Byte h′) f′ fb gb i i′ a =
     rw (next-empty w x′ y′ (Byte h′) f′)
     (stray w _ _ r x y h f _ _ Nothing _ fb (put gb x′ y′ h′ b) i (within-next w x′ y′ (Byte h′) f′ i′)
-    (turned (strayed w x′ y′ h′ b gb fb i′ (turned a))))
+    (astray-sym (strayed w x′ y′ h′ b gb fb i′ (astray-sym a))))

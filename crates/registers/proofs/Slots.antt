@@ -18,7 +18,7 @@ use Rattle.registers.specs.declared.Port.the-variants.{Select, Send, Lcd
 use Rattle.registers.specs.declared.Port.the-variants.{Other}
 use Rattle.registers.specs.Ports.{portsIn, portAt, dayWord, portOf, timerOf, wordsFrom, namedWords}
 use Rattle.registers.specs.Ports.{namedRows, ownWords, index, slotOf, slotWord}
-use Rattle.whole.proofs.Choice.{by-same, both, turned}
+use Rattle.whole.proofs.Choice.{by-same, both, of-not}
 use Rattle.registers.proofs.Own.{slot-hit, by-slot}
 
 -- the test passes at each number below n
@@ -59,7 +59,7 @@ no-day = refl
 pub port-slot : (s : ℕ) → s < 76 → portOf (slotWord s) ≡ portAt s
 unfolding portOf
 port-slot s h =
-    rw (turned (dayWord (slotWord s)) true (at-each (λ t. not (dayWord (slotWord t))) 76 no-day s h), slot-back s h)
+    rw (of-not (dayWord (slotWord s)) true (at-each (λ t. not (dayWord (slotWord t))) 76 no-day s h), slot-back s h)
 
 -- and one without a slot is the time of day's, or no more than stored
 pub port-none : (a : ℕ) → slotOf a ≡ 76 → portOf a ≡ cond (dayWord a) (Acts DayField) Other

@@ -18,7 +18,7 @@ use Rattle.registers.specs.Ports.{namedRows, wordsFrom, namedWords, ownWords, i
 use Rattle.registers.specs.Ports.{dayWord, portOf, timerOf}
 use Rattle.registers.specs.Words.{unstored, wordAt, putWord}
 use Rattle.registers.specs.Within.{Tidy, nonZero, Full}
-use Rattle.whole.proofs.Choice.{both, by-test, turned}
+use Rattle.whole.proofs.Choice.{both, by-test, of-not}
 use Rattle.registers.proofs.Own.{slot-hit, by-slot}
 use Rattle.registers.proofs.Slots.{every, at-each, port-slot, port-none, port-own, hasSlot, slot-no-day}
 use Rattle.registers.proofs.Count.{full-exactly}
@@ -45,9 +45,9 @@ module _ (r : Registers) (word new : ℕ) where
       let c = both _ _ (d .0) in
       let b = both _ _ (c .0) in
       record {
-        value = eqb-false new 0 (turned (eqb new 0) true (b .0));
+        value = eqb-false new 0 (of-not (eqb new 0) true (b .0));
         word = eqb-true (wordAt r word) 0 (b .1);
-        other = record { slot = eqb-true (slotOf word) 76 (c .1); stored = turned (unstored word) true (d .1) };
+        other = record { slot = eqb-true (slotOf word) 76 (c .1); stored = of-not (unstored word) true (d .1) };
         most = eqb-true (nonZero (r .values)) 256 (e .1);
       }
 

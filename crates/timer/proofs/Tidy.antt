@@ -75,11 +75,11 @@ put-canonical q e good = put-canonical-at q e (fullOf (q .ring)) refl good
 -- ---- events gone
 
 -- which event from the ring's start stands at a place
-abbrev turned : Ring → ℕ → ℕ
-turned ring place = (place + (256 - ring .head % 256)) % 256
+abbrev fromHead : Ring → ℕ → ℕ
+fromHead ring place = (place + (256 - ring .head % 256)) % 256
 
-turned-back : (ring : Ring) (place : ℕ) → place < 256 → placeOf ring (turned ring place) ≡ place
-turned-back ring place small = omega arith
+from-head-back : (ring : Ring) (place : ℕ) → place < 256 → placeOf ring (fromHead ring place) ≡ place
+from-head-back ring place small = omega arith
 
 -- the j-th place is free once n events are gone: it was given back, or was free before
 gone-free : (ring : Ring) (n j : ℕ) (l : List Float) (t : Bool) → ltb j n ≡ t → Tidy ring l → j < 256
@@ -103,8 +103,8 @@ some-free ring n i l tidy some most least small =
 all-free : (ring : Ring) (n i : ℕ) (l : List Float) → Tidy ring l → ring .count ≤ n → i < 256
     → getD (cleared ring n l) (placeOf (ringOf 0 0) i) nan ≡ nought
 all-free ring n i l tidy all small =
-    ap (λ (p : ℕ). getD (cleared ring n l) p nan) (straight ∙ sym (turned-back ring i small))
-    ∙ gone-free ring n (turned ring i) l (ltb (turned ring i) n) refl tidy (omega arith) (λ after. omega arith)
+    ap (λ (p : ℕ). getD (cleared ring n l) p nan) (straight ∙ sym (from-head-back ring i small))
+    ∙ gone-free ring n (fromHead ring i) l (ltb (fromHead ring i) n) refl tidy (omega arith) (λ after. omega arith)
   where
     straight : placeOf (ringOf 0 0) i ≡ i
     straight = omega arith
@@ -176,8 +176,8 @@ array-is ring l k tidy other same = ext-getD nan l k (tidy .size ∙ sym (other 
   where
     at-place : (place : ℕ) → place < 256 → getD l place nan ≡ getD k place nan
     at-place place small =
-        rw (turned-back ring place small)
-        at (array-is-at ring l k (turned ring place) (ltb (turned ring place) (ring .count)) refl tidy other
+        rw (from-head-back ring place small)
+        at (array-is-at ring l k (fromHead ring place) (ltb (fromHead ring place) (ring .count)) refl tidy other
         (omega arith) same)
 
 event-is : (q : Queue) (j n i : ℕ) → i < n → getD (waitingFrom q j n) i nothing ≡ eventOf q (j + i)

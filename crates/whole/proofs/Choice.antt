@@ -31,9 +31,9 @@ neither true b h = absurd (true≢false h)
 neither false b h = (refl, h)
 
 -- what a test that is turned over says
-pub turned : (b c : Bool) → not b ≡ c → b ≡ not c
-turned true c h = ap not h
-turned false c h = ap not h
+pub of-not : (b c : Bool) → not b ≡ c → b ≡ not c
+of-not true c h = ap not h
+of-not false c h = ap not h
 
 pub le-or-lt : (a b : ℕ) → (a ≤ b) ⊎ (b < a)
 le-or-lt a b = by-less b a inr inl
