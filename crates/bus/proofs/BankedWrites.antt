@@ -52,7 +52,7 @@ use Rattle.bus.specs.Rtc.{RtcDone, rtcDone, commandWritten}
 use Rattle.bus.specs.Screen.{Copied, copied, controlled}
 use Rattle.bus.specs.Sounds.{noted}
 use Rattle.bus.specs.Words.{daySet, wordWritten}
-use Rattle.bus.specs.Write.{Stored, stored, settled, storedWord, byFlash, byPanel, byRtc, byWord}
+use Rattle.bus.specs.Write.{Stored, stored, storedOutcome, storedWord, byFlash, byPanel, byRtc, byWord}
 use Rattle.bus.specs.Inner.{otherWritten}
 use Rattle.bus.specs.Write.{byStore, writtenAt, portWritten, wordAddress, regWritten}
 use Rattle.bus.specs.Inner.{sizedPut, sizedNumber}
@@ -88,7 +88,7 @@ module _ (r : Registers) (x : Parts) (word : ℕ) (none : slotOf word ≡ 76) wh
 
     module _ (l : b ≡ false) {y : Spot} (h : y ≡ otherSpot (r .addresses) word) where
       other-put : {z : Stored}
-          → z ≡ settled (putIn r y word (mergedOf (wordIn (r .slots) (r .values) y) a n v)) (x .devices)
+          → z ≡ storedOutcome (putIn r y word (mergedOf (wordIn (r .slots) (r .values) y) a n v)) (x .devices)
           → z ≡ otherWritten r (x .devices) word (mergedOf (wordAt r word) a n v)
       unfolding otherWritten storedWord
       other-put k = rw (← e, l, word-as h, put-as (mergedOf (wordIn (r .slots) (r .values) y) a n v) h) k
@@ -113,7 +113,7 @@ module _ (r : Registers) (x : Parts) (word : ℕ) (none : slotOf word ≡ 76) wh
           → stored (registersOf (r .slots) p q) (wroteOf t (x .devices)) ≡ otherWritten r (x .devices) word (mergedOf
           (wordAt r word) a n v)
       other-put-absent i b m w j k =
-          other-put (rw (m, k, ← w) (ap (λ (z : OtherOutcome). settled (beside (r .slots) z) (x .devices)) j))
+          other-put (rw (m, k, ← w) (ap (λ (z : OtherOutcome). storedOutcome (beside (r .slots) z) (x .devices)) j))
 
       -- an other word has no slot
       pub other-own : {s : ℕ} → y ≡ Own s → ⊥

@@ -24,7 +24,7 @@ use Rattle.memory.specs.Places.{placeOf}
 use Rattle.memory.specs.Bytes.{loaded}
 use Rattle.memory.specs.Access.{goodSize, cutOf}
 use Rattle.panel.specs.Entries.{Screen, screen}
-use Rattle.panel.specs.Lcd.{counted}
+use Rattle.panel.specs.Lcd.{frameCounted}
 use Rattle.panel.specs.Runs.{byte, screenAfterCommand, screenAfterInput}
 use Rattle.clock.specs.declared.Rtc.{Rtc}
 use Rattle.clock.specs.Rtc.{commandedOf}
@@ -96,7 +96,8 @@ module _ (r : Registers) (ram sram gpio : List ℕ) (t : Screen) where
 
   pub dma-done : {a x : ℕ} {slots₁ fb : List ℕ} {p : Panel} → a ≡ ownAt (r .slots) LCD-DMA → a ≢ 0
       → fb ≡ blockOf r ram sram gpio a (length (t .fb))
-      → x ≡ ownAt (r .slots) LCD-STATUS → slots₁ ≡ ownWith (r .slots) LCD-STATUS (bitOr x 0x40) → p ≡ counted (t .panel)
+      → x ≡ ownAt (r .slots) LCD-STATUS → slots₁ ≡ ownWith (r .slots) LCD-STATUS (bitOr x 0x40)
+      → p ≡ frameCounted (t .panel)
       → copied slots₁ (screen p fb) ≡ dmaDone r ram sram gpio t
   unfolding dmaDone
   dma-done e h i j k l = rw (← e, ne-eqb _ _ h, k, j, i, l)

@@ -36,11 +36,11 @@ pub record Stored : Type 0 where
 abbrev pub stored : Registers → Wrote → Stored
 stored r w = record { registers = r; wrote = w }
 
-abbrev pub settled : Outcome → Devices → Stored
-settled o d = stored (o .registers) (answer (o .refusal) d)
+abbrev pub storedOutcome : Outcome → Devices → Stored
+storedOutcome o d = stored (o .registers) (answer (o .refusal) d)
 
 unfoldable pub storedWord : Registers → Devices → ℕ → ℕ → Stored
-storedWord r d word new = settled (putWord r word new) d
+storedWord r d word new = storedOutcome (putWord r word new) d
 
 -- ---- an outcome in the world
 

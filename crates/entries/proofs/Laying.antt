@@ -14,7 +14,7 @@ use Rattle.memory.proofs.Stored.{store-length}
 use Rattle.system.specs.System.{Machine}
 use Rattle.entries.specs.declared.Answer.{Answer}
 use Rattle.entries.specs.declared.Entry.{Entry}
-use Rattle.entries.specs.Answers.{answerBytes, storedWide, laid, laidWithin}
+use Rattle.entries.specs.Answers.{answerBytes, storedWide, answerLaid, laidWithin}
 use Rattle.entries.specs.Turn.{kindIn, turnOf, RunState, runState, afterEntry, afterStep}
 
 pub wide-length : (l : List ℕ) (o v : ℕ) → length (storedWide l o v) ≡ length l
@@ -71,8 +71,8 @@ wide-inside a p b k v q e h =
     4 (v / 2 ^ 32) (q + 4) (omega arith) l)
 
 laid-inside : (a p b : List ℕ) (x : Answer) (k q : ℕ) → q ≡ length a + k → k + answerBytes ≤ length p
-    → laid (a ++ (p ++ b)) q x ≡ a ++ (laid p k x ++ b)
-unfolding laid
+    → answerLaid (a ++ (p ++ b)) q x ≡ a ++ (answerLaid p k x ++ b)
+unfolding answerLaid
 laid-inside a p b x k q e h =
     let p₀ : List ℕ = storedAt p k 1 (x .refusal) in
     let p₁ : List ℕ = storedWide p₀ (k + 1) (x .a) in
@@ -90,13 +90,13 @@ laid-inside a p b x k q e h =
 
 -- an answer that was laid into its own bytes of the output, and these have come back
 pub laid-part : (l ys : List ℕ) (at : ℕ) (x : Answer) → at + answerBytes ≤ length l
-    → ys ≡ laid (part l at answerBytes) 0 x → putMid at (at + answerBytes - at) l ys ≡ laid l at x
+    → ys ≡ answerLaid (part l at answerBytes) 0 x → putMid at (at + answerBytes - at) l ys ≡ answerLaid l at x
 laid-part l ys at x h e =
     let b : length (take at l) ≡ at = length-take-le at l (omega arith) in
     let p : answerBytes ≤ length (part l at answerBytes) = rw (part-long l at answerBytes h) (omega arith) in
     let z : at ≡ length (take at l) + 0 = omega (arith, b) in
     rw e (sym (laid-inside (take at l) (part l at answerBytes) (drop (at + answerBytes - at) (drop at l)) x 0 at z p)
-    ∙ ap (λ (k : List ℕ). laid k at x) (put-same at (at + answerBytes - at) l))
+    ∙ ap (λ (k : List ℕ). answerLaid k at x) (put-same at (at + answerBytes - at) l))
 
 -- ---- and in the front of the output, up to the answer's end
 
@@ -104,25 +104,25 @@ pub front-long : (l : List ℕ) (end : ℕ) → end ≤ length l → end ≤ len
 front-long l end h = rw (length-take-le end l h) (omega arith)
 
 pub laid-front : (l ys : List ℕ) (at : ℕ) (x : Answer) → at + answerBytes ≤ length l
-    → ys ≡ laid (take (at + answerBytes) l) at x → ys ++ drop (at + answerBytes) l ≡ laid l at x
+    → ys ≡ answerLaid (take (at + answerBytes) l) at x → ys ++ drop (at + answerBytes) l ≡ answerLaid l at x
 laid-front l ys at x h e =
     let z : at ≡ 0 + at = omega arith in
     rw e (sym (laid-inside [] (take (at + answerBytes) l) (drop (at + answerBytes) l) x at at z (front-long l _ h))
-    ∙ ap (λ (k : List ℕ). laid k at x) (take-append-drop (at + answerBytes) l))
+    ∙ ap (λ (k : List ℕ). answerLaid k at x) (take-append-drop (at + answerBytes) l))
 
 pub entry-front : (m m₁ : Machine) (l ys : List ℕ) (at : ℕ) (e : Entry) → at + answerBytes ≤ length l
     → runState m₁ ys ≡ afterEntry (runState m (take (at + answerBytes) l)) at e
     → runState m₁ (ys ++ drop (at + answerBytes) l) ≡ afterEntry (runState m l) at e
 entry-front m m₁ l ys at e h i =
     let a : m₁ ≡ turnOf m e .machine = ap (λ (z : RunState). z .machine) i in
-    let b : ys ≡ laid (take (at + answerBytes) l) at (turnOf m e .answer) = ap (λ (z : RunState). z .out) i in
+    let b : ys ≡ answerLaid (take (at + answerBytes) l) at (turnOf m e .answer) = ap (λ (z : RunState). z .out) i in
     ap (λ (n : Machine). runState n (ys ++ drop (at + answerBytes) l)) a
     ∙ ap (runState (turnOf m e .machine)) (laid-front l ys at (turnOf m e .answer) h b)
 
 -- ---- with room for it or not
 
 module _ (l : List ℕ) (at : ℕ) (x : Answer) where
-  pub laid-room : at + answerBytes ≤ length l → laidWithin l at x ≡ laid l at x
+  pub laid-room : at + answerBytes ≤ length l → laidWithin l at x ≡ answerLaid l at x
   unfolding laidWithin
   laid-room h = rw (le-leb _ _ h)
 

@@ -27,7 +27,7 @@ use Rattle.system.specs.Steps as steps
 use Rattle.system.specs.Steps.{Op, step, withSystem, byChange}
 use Rattle.entries.specs.declared.Entry.{Entry}
 use Rattle.entries.specs.declared.Answer.{Answer}
-use Rattle.entries.specs.Answers.{laid, laidWithin, reply, inBits, replyOf}
+use Rattle.entries.specs.Answers.{answerLaid, laidWithin, reply, inBits, replyOf}
 use Rattle.entries.specs.Inner.{soundReply, countersReply}
 use Rattle.entries.specs.Inner.{colourReply}
 use Rattle.entries.specs.Turn.{lastKind, kindIn, Turn, turn, turnOf, opOf, runState, afterEntry, afterStep}
@@ -143,9 +143,9 @@ answer-laid m e l to k {m₁} c d h i =
 
 -- where there is room for it
 pub entry-laid : (m : Machine) (e : Entry) (l : List ℕ) (to : ℕ) {m₁ : Machine} {a : Answer} {l₁ : List ℕ}
-    → turn m₁ a ≡ turnOf m e → l₁ ≡ laid l to a → runState m₁ l₁ ≡ afterEntry (runState m l) to e
+    → turn m₁ a ≡ turnOf m e → l₁ ≡ answerLaid l to a → runState m₁ l₁ ≡ afterEntry (runState m l) to e
 entry-laid m e l to {m₁} h i =
-    ap (runState m₁) i ∙ ap (λ (z : Turn). runState (z .machine) (laid l to (z .answer))) h
+    ap (runState m₁) i ∙ ap (λ (z : Turn). runState (z .machine) (answerLaid l to (z .answer))) h
 
 -- ---- what is no step
 

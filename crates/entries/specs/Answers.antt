@@ -32,8 +32,8 @@ unfoldable pub storedWide : List ℕ → ℕ → ℕ → List ℕ
 storedWide l at v = storedAt (storedAt l at 4 (v % 2 ^ 32)) (at + 4) 4 (v / 2 ^ 32)
 
 -- from a place on
-unfoldable pub laid : List ℕ → ℕ → Answer → List ℕ
-laid l at x =
+unfoldable pub answerLaid : List ℕ → ℕ → Answer → List ℕ
+answerLaid l at x =
     storedWide
     (storedWide (storedWide (storedAt l at 1 (x .refusal)) (at + 1) (x .a)) (at + 9) (x .b))
     (at + 17)
@@ -41,9 +41,9 @@ laid l at x =
 
 -- the same where there is room for all of it; else nothing
 unfoldable pub laidWithin : List ℕ → ℕ → Answer → List ℕ
-laidWithin l at x = cond (leb (at + answerBytes) (length l)) (laid l at x) l
+laidWithin l at x = cond (leb (at + answerBytes) (length l)) (answerLaid l at x) l
 
 -- one behind the other
 unfoldable pub laidAll : List ℕ → ℕ → List Answer → List ℕ
 laidAll l at [] = l
-laidAll l at (x ∷ xs) = laidAll (laid l at x) (at + answerBytes) xs
+laidAll l at (x ∷ xs) = laidAll (answerLaid l at x) (at + answerBytes) xs

@@ -11,7 +11,7 @@ use Rattle.system.specs.Steps as steps
 use Rattle.system.specs.Steps.{Op, step}
 use Rattle.entries.specs.declared.Entry.{Entry}
 use Rattle.entries.specs.declared.Answer.{Answer}
-use Rattle.entries.specs.Answers.{reply, inBits, replyOf, laid, laidWithin}
+use Rattle.entries.specs.Answers.{reply, inBits, replyOf, answerLaid, laidWithin}
 
 -- the kinds of steps begin at 1; 0 is a press
 abbrev pub lastKind : ℕ
@@ -64,7 +64,7 @@ runState m l = record { machine = m; out = l }
 
 -- an entry that is part of a script, in an output that has room for its answer
 abbrev pub afterEntry : RunState → ℕ → Entry → RunState
-afterEntry t at e = runState (turnOf (t .machine) e .machine) (laid (t .out) at (turnOf (t .machine) e .answer))
+afterEntry t at e = runState (turnOf (t .machine) e .machine) (answerLaid (t .out) at (turnOf (t .machine) e .answer))
 
 -- any entry, in any output: a step acts, and its answer is laid where there is room; what is no step does nothing,
 -- and is answered BadScript. A press goes another way, since it reaches less.

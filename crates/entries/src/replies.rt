@@ -1,7 +1,7 @@
 // Answers, and their bytes in the output.
 ghost use mathlib.Core.Path.{_≡_};
 ghost use Prim.Native.Nat.{_<_};
-ghost use Rattle.entries.specs.Answers.{reply, storedWide, laid, laidWithin};
+ghost use Rattle.entries.specs.Answers.{reply, storedWide, answerLaid, laidWithin};
 use crate::Answer;
 
 // The bytes of an answer: a refusal and three numbers.
@@ -30,7 +30,7 @@ fn store_wide(out: &mut [u8], at: usize, value: u64)
 
 // An answer, into the bytes given.
 fn lay_in(bytes: &mut [u8], answer: Answer)
-    ensures { λ r. ⌜ now (bytes .exit) ≡ laid (now (bytes .entry)) 0 answer ⌝ }
+    ensures { λ r. ⌜ now (bytes .exit) ≡ answerLaid (now (bytes .entry)) 0 answer ⌝ }
 {
     memory::store(bytes, 0, 1, answer.refusal as u32);
     store_wide(bytes, 1, answer.a);

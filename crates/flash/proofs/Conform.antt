@@ -426,12 +426,12 @@ answers-at e (b ∷ bs) s (suc i) h =
     answers-at e bs (listAfter e s (byte b)) i (omega arith)
     ∙ ap (λ (l : List ℕ). answerOf e (s .wel) (exactTrans l) (s .ram)) (append-assoc (s .buf) (b ∷ []) (take i bs))
 
-ended : (e : Mode) (bs : List ℕ) (s : Sys) → s .cs ≡ true
+state-ends : (e : Mode) (bs : List ℕ) (s : Sys) → s .cs ≡ true
     → stateOf (compactBoard e (listAfter e (listRun e s (sends bs)) (cs false)))
     ≡ stateAfterAct (s .wel) (s .ram) (s .buf ++ bs) (actOf e (s .wel) (exactTrans (s .buf ++ bs)))
-ended e [] s h = rw (h, append-nil (s .buf), act-exact e (s .wel) (length (s .ram)) (s .buf))
-ended e (b ∷ bs) s h =
-    ended e bs (listAfter e s (byte b)) h
+state-ends e [] s h = rw (h, append-nil (s .buf), act-exact e (s .wel) (length (s .ram)) (s .buf))
+state-ends e (b ∷ bs) s h =
+    state-ends e bs (listAfter e s (byte b)) h
     ∙ ap (λ (l : List ℕ). stateAfterAct (s .wel) (s .ram) l (actOf e (s .wel) (exactTrans l)))
     (append-assoc (s .buf) (b ∷ []) bs)
 
@@ -481,7 +481,7 @@ module _ (w : Board) (bs : List ℕ) (g : Good (w .array)) (c : w .chip .cs ≡ 
 
   pub ends-whole : stateOf (transaction w bs) ≡ stateAfterAct (w .chip .wel) (w .array) bs
       (actOf mode (w .chip .wel) (exactTrans bs))
-  ends-whole = ap stateOf closes ∙ ended mode bs (opening w) refl
+  ends-whole = ap stateOf closes ∙ state-ends mode bs (opening w) refl
 
   pub writes-whole : transaction w bs .chip .writes ≡ writesAfter (actOf mode (w .chip .wel) (exactTrans bs))
       (w .chip .writes)

@@ -54,10 +54,10 @@ lacking-differs w bs h k = rw (undescribed-is (code bs) h) at (k .ends)
 
 -- ---- an erase with bytes after its last clears WEL, and the sheet's does not
 -- the sheet leaves the state, and the chip an order that clears WEL
-cleared : (w : Board) (bs : List ℕ) (a : Act) → Good (w .array) → w .chip .cs ≡ false → w .chip .wel ≡ true
+wel-cleared : (w : Board) (bs : List ℕ) (a : Act) → Good (w .array) → w .chip .cs ≡ false → w .chip .wel ≡ true
     → afterwards (stateOf w) bs ≡ leaves (stateOf w) → actOf (w .chip .mode) (w .chip .wel) (exactTrans bs) ≡ a
     → welAfter a (w .chip .wel) ≡ false → Conforms w bs → ⊥
-cleared w bs a g c v p q z k =
+wel-cleared w bs a g c v p q z k =
     let e : stateOf (transaction w bs) ≡ stateOf w = rw p at (k .ends) in
     let f : welAfter a (w .chip .wel) ≡ w .chip .wel =
     ap (λ (a : Act). welAfter a (w .chip .wel)) (sym q) ∙ sym (ap (λ (s : State). s .wel) (ends-whole w bs g c))
@@ -78,7 +78,7 @@ module _ (w : Board) (g : Good (w .array)) (s : w .chip .cs ≡ false) (r : w .c
       → q < suc (length bs)
       → actOf Rust true (exactTrans (c ∷ bs)) ≡ pick t a Nothing → t ≡ true → welAfter a (w .chip .wel) ≡ false
       → Conforms w (c ∷ bs) → ⊥
-  executes c q d x a t p f l o e z = cleared w (c ∷ bs) a g s v (void c q d x p f l) (rw (r, v) (o ∙ rw e)) z
+  executes c q d x a t p f l o e z = wel-cleared w (c ∷ bs) a g s v (void c q d x p f l) (rw (r, v) (o ∙ rw e)) z
 
   erases : (c k : ℕ) (a : Act) → instruction c ≡ erase k → actOf Rust true (exactTrans (c ∷ bs))
       ≡ pick (mayErase Rust true (suc (length bs))) a Nothing → welAfter a (w .chip .wel) ≡ false

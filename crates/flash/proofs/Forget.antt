@@ -13,7 +13,7 @@ use Rattle.flash.specs.Pick.{pick}
 use Rattle.flash.specs.Board.{Board, Outcome, board, withCs, withRx, withTx, goodSize}
 use Rattle.flash.specs.Buf.{fresh, blank, nextPos, pushed}
 use Rattle.flash.specs.Finish.{orderOf, guardOf, actOf, stateAfter, arrayAfter}
-use Rattle.flash.specs.Flash.{deselectAct, begun, selectBoard, replied, sentBoard}
+use Rattle.flash.specs.Flash.{deselectAct, transactionBegun, selectBoard, replied, sentBoard}
 use Rattle.flash.specs.Steps.{Step, cs, byte, sends}
 use Rattle.flash.specs.Run.{afterStep, stepAnswers, afterSteps, answers, transaction, again, Begins, Forgets}
 use Rattle.flash.specs.declared.Act.{Act}
@@ -55,8 +55,8 @@ bare-pick false u v u′ v′ p q = q
 
 bare-select : (w : Board) (on : Bool) → bared (selectBoard w on) ≡ bared (selectBoard (bared w) on)
 bare-select w true =
-    bare-pick (w .chip .cs) w (board (begun (w .chip)) blank (w .array)) (bared w)
-    (board (begun (bare (w .chip))) blank (w .array)) refl refl
+    bare-pick (w .chip .cs) w (board (transactionBegun (w .chip)) blank (w .array)) (bared w)
+    (board (transactionBegun (bare (w .chip))) blank (w .array)) refl refl
 bare-select w false =
     let a : Act = deselectAct (w .chip) in
     let m : List ℕ = arrayAfter a (w .chip .tx) (w .page) (w .array) in
@@ -200,10 +200,11 @@ Calm s = (deselectAct s ≡ Nothing) ⊎ (deselectAct s ≡ Disable)
 abbrev pub afterAct : Board → Act → Board
 afterAct w a = board (withCs (stateAfter a (w .chip)) false) (w .page) (arrayAfter a (w .chip .tx) (w .page) (w .array))
 
-ended : (w : Board) → goodSize (length (w .array)) ≡ true → w .chip .cs ≡ true → w .chip .wel ≡ false → Calm (w .chip)
+calm-ends : (w : Board) → goodSize (length (w .array)) ≡ true → w .chip .cs ≡ true → w .chip .wel ≡ false
+    → Calm (w .chip)
     → (afterStep w (cs false) .array ≡ w .array)
     × (quiet (afterStep w (cs false) .chip) ≡ withCs (quiet (w .chip)) false)
-ended w g c e d =
+calm-ends w g c e d =
     let k : (a : Act) → deselectAct (w .chip) ≡ a → afterStep w (cs false) ≡ afterAct w a =
     λ a p. after-cs w false g ∙ pick-board (w .chip .cs) (afterAct w (deselectAct (w .chip))) w c ∙ ap (afterAct w) p in
     ⊎-elim
@@ -213,7 +214,7 @@ ended w g c e d =
 
 -- the chip as a select of the idle chip leaves it
 abbrev opened : Board → Board
-opened w = board (begun (w .chip)) blank (w .array)
+opened w = board (transactionBegun (w .chip)) blank (w .array)
 
 open-is : (w : Board) → goodSize (length (w .array)) ≡ true → w .chip .cs ≡ false → afterStep w (cs true) ≡ opened w
 open-is w g c = after-cs w true g ∙ rw c
@@ -221,7 +222,7 @@ open-is w g c = after-cs w true g ∙ rw c
 closes : (v w : Board) → goodSize (length (w .array)) ≡ true → w .chip .cs ≡ false → w .chip .wel ≡ false
     → SameButTransaction v (opened w) → Calm (v .chip) → SameButTransaction (afterStep v (cs false)) w
 closes v w g c e k d =
-    let r = ended v (rw (k .array) g) (ap (λ (s : Chip). s .cs) (k .chip))
+    let r = calm-ends v (rw (k .array) g) (ap (λ (s : Chip). s .cs) (k .chip))
     (ap (λ (s : Chip). s .wel) (k .chip) ∙ e) d in
     record { array = r .0 ∙ k .array; chip = r .1 ∙ ap (λ (s : Chip). withCs s false) (k .chip) ∙ rw c }
 
@@ -251,7 +252,7 @@ reopened : (v w : Board) → goodSize (length (w .array)) ≡ true → w .chip .
     → bared (afterStep v (cs true)) ≡ bared (afterStep w (cs true))
 reopened v w g c k =
     ap bared (open-is v (rw (k .array) g) (ap (λ (s : Chip). s .cs) (k .chip) ∙ c))
-    ∙ ap₂ (λ (s : Chip) (m : List ℕ). bared (board (begun s) blank m)) (k .chip) (k .array)
+    ∙ ap₂ (λ (s : Chip) (m : List ℕ). bared (board (transactionBegun s) blank m)) (k .chip) (k .array)
     ∙ sym (ap bared (open-is w g c))
 
 still : (w : Board) → goodSize (length (w .array)) ≡ true → w .chip .cs ≡ false → afterStep w (cs false) ≡ w

@@ -12,7 +12,7 @@ use Rattle.flash.specs.Pick.{pick}
 use Rattle.flash.specs.Board.{Board, board}
 use Rattle.flash.specs.Buf.{blank}
 use Rattle.flash.specs.Finish.{ands, patch, blockSize, startOf, arrayAfter}
-use Rattle.flash.specs.Flash.{deselectAct, begun}
+use Rattle.flash.specs.Flash.{deselectAct, transactionBegun}
 use Rattle.flash.specs.Steps.{Step, cs, byte}
 use Rattle.flash.specs.Rust.{Sys}
 use Rattle.flash.specs.Run.{Bytes, Good, afterStep, stepAnswers, afterSteps, answers}
@@ -84,7 +84,7 @@ pick-good false u v g h = h
 
 pub after-good : (e : Mode) (s : Sys) (x : Step) → Good (s .ram) → Good (listAfter e s x .ram)
 after-good e s (cs true) g =
-    pick-good (s .cs) (compactBoard e s) (board (begun (compactBoard e s .chip)) blank (s .ram)) g g
+    pick-good (s .cs) (compactBoard e s) (board (transactionBegun (compactBoard e s .chip)) blank (s .ram)) g g
 after-good e s (cs false) g =
     let w : Board = compactBoard e s in
     let a : Act = deselectAct (w .chip) in

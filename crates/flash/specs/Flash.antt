@@ -14,8 +14,8 @@ use Rattle.flash.specs.Xfer.{answerOf}
 use Rattle.flash.specs.Finish.{actOf, arrayAfter, stateAfter}
 
 -- selected, with a transaction of no bytes
-abbrev pub begun : Chip → Chip
-begun s = withTx (withCs s true) fresh
+abbrev pub transactionBegun : Chip → Chip
+transactionBegun s = withTx (withCs s true) fresh
 
 -- the act of a deselect
 abbrev pub deselectAct : Chip → Act
@@ -23,7 +23,7 @@ deselectAct s = actOf (s .mode) (s .wel) (s .tx)
 
 -- a select begins a transaction only where the chip is not selected; a deselect acts only where it is
 abbrev pub selectBoard : Board → Bool → Board
-selectBoard w true = pick (w .chip .cs) w (board (begun (w .chip)) blank (w .array))
+selectBoard w true = pick (w .chip .cs) w (board (transactionBegun (w .chip)) blank (w .array))
 selectBoard w false =
     pick (w .chip .cs)
     (board (withCs (stateAfter (deselectAct (w .chip)) (w .chip)) false) (w .page)

@@ -10,7 +10,7 @@ mod xfer;
 ghost use mathlib.Core.Path.{_≡_};
 ghost use Rattle.flash.specs.Board.{board, outcome, served, chipWithPage, withCs, goodSize};
 ghost use Rattle.flash.specs.Inner.{refusing, giving};
-ghost use Rattle.flash.specs.Flash.{begun, selected, transferred, madeIn};
+ghost use Rattle.flash.specs.Flash.{transactionBegun, selected, transferred, madeIn};
 
 // Whose rules hold: document 000's alone, or also those that are named for strict mode.
 pub enum Mode {
@@ -121,7 +121,7 @@ fn with_cs(chip: Chip, on: bool) -> Chip
 
 // The chip selected, with a transaction of no bytes.
 fn begin(chip: Chip) -> Chip
-    ensures { λ r. ⌜ r ≡ begun chip ⌝ }
+    ensures { λ r. ⌜ r ≡ transactionBegun chip ⌝ }
 {
     let t = buf::start();
     let mut next = chip;

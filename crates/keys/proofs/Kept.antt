@@ -147,10 +147,10 @@ press-kept s key at now k a b z =
         (getD-set-same (s .codes) p key 0 (omega arith))
 
 -- ---- the limits
-pub laid : (P : Float → ℕ → Type 0) (starts : List Float) (codes : List ℕ) (p key : ℕ) (at : Float) (i : ℕ)
+pub set-both : (P : Float → ℕ → Type 0) (starts : List Float) (codes : List ℕ) (p key : ℕ) (at : Float) (i : ℕ)
     → p < length starts → p < length codes → P at key
     → (i ≢ p → P (getD starts i nan) (getD codes i 0)) → P (getD (set starts p at) i nan) (getD (set codes p key) i 0)
-laid P starts codes p key at i a b new old = by (eqb i p) refl
+set-both P starts codes p key at i a b new old = by (eqb i p) refl
   where
     by : (t : Bool) → eqb i p ≡ t → P (getD (set starts p at) i nan) (getD (set codes p key) i 0)
     by true e = let z : i ≡ p = eqb-true i p e in rw (
@@ -180,7 +180,7 @@ press-within b key at now w = press-each (scriptOf b) key at now (λ (o : Outcom
           starts = length-set (b .starts) p at ∙ w .starts;
           codes = length-set (b .codes) p key ∙ w .codes;
           count = c .most;
-          presses = λ i m. laid Press (b .starts) (b .codes) p key at i (omega (arith, w .starts))
+          presses = λ i m. set-both Press (b .starts) (b .codes) p key at i (omega (arith, w .starts))
               (omega (arith, w .codes)) (record { time = g; key = h }) (λ d. w .presses i (c .only i m d));
           hold-a = w .hold-a;
           hold-b = w .hold-b;

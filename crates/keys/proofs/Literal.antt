@@ -20,7 +20,7 @@ use Rattle.keys.specs.Rust.{after, Onward, SameHeld, SameEdge, AsRust}
 use Rattle.keys.proofs.Cases.{press-each}
 use Rattle.whole.proofs.Choice.{le-or-lt}
 use Rattle.keys.proofs.Expired.{expired-began, expired-stays}
-use Rattle.keys.proofs.Kept.{Grown, grown, place-most, put-keeps, laid}
+use Rattle.keys.proofs.Kept.{Grown, grown, place-most, put-keeps, set-both}
 use Rattle.keys.proofs.SameKeys.{Found, same-keys}
 use Rattle.whole.proofs.Choice.{both}
 use Rattle.keys.proofs.SameEdges.{Edge, same-edges}
@@ -129,7 +129,7 @@ press-same s key at f w =
           good = each (v .starts) (v .codes) (w .even) at key (λ (t : Float) (n : ℕ). T (goodTime t)) (w .good) g;
           float = each (v .starts) (v .codes) (w .even) at key (λ (t : Float) (n : ℕ). T (fits binary64 t))
               (w .float) f;
-          pushed = λ i m. laid
+          pushed = λ i m. set-both
               (λ (t : Float) (n : ℕ). Found (v .starts ++ (at ∷ [])) (v .codes ++ (key ∷ []))
               (length (v .starts ++ (at ∷ []))) t n)
               (sc .starts) (sc .codes) p key at i a b (last (v .starts) (v .codes) (w .even) at key)

@@ -9,10 +9,10 @@ use lib.Bits.{bitAnd, bitOr, and-shr, or-shr, and-mod, or-mod, and-zero-r, or-ze
 use Rattle.memory.specs.Access.{goodSize, spanOf, cutOf, shifted, maskOf, writtenOf, mergedOf}
 
 -- k bits from bit s of a word: those of v where the mask m covers them
-laid : (s k old m w v : ℕ) → (0xFFFFFFFF - m) / 2 ^ s % 2 ^ k ≡ 0 → m / 2 ^ s % 2 ^ k ≡ 2 ^ k - 1
+lane-merged : (s k old m w v : ℕ) → (0xFFFFFFFF - m) / 2 ^ s % 2 ^ k ≡ 0 → m / 2 ^ s % 2 ^ k ≡ 2 ^ k - 1
     → w / 2 ^ s % 2 ^ k ≡ v % 2 ^ k
     → bitOr (bitAnd old (0xFFFFFFFF - m)) (bitAnd w m) / 2 ^ s % 2 ^ k ≡ v % 2 ^ k
-laid s k old m w v p q e =
+lane-merged s k old m w v p q e =
     let outside : bitAnd old (0xFFFFFFFF - m) / 2 ^ s % 2 ^ k ≡ 0 = rw (and-shr, and-mod, p)
     (and-zero-r (old / 2 ^ s % 2 ^ k)) in
     let new : bitAnd w m / 2 ^ s % 2 ^ k ≡ v % 2 ^ k = rw (and-shr, and-mod, q, e)
@@ -29,22 +29,23 @@ Back r n old v = bitOr (bitAnd old (0xFFFFFFFF - maskAt r n)) (bitAnd (v * 2 ^ (
 
 byte-back : (r old v : ℕ) → r ≤ 3 → Back r 1 old v
 unfolding spanOf
-byte-back zero old v h = laid 0 8 old 0xFF (v * 2 ^ 0 % 2 ^ 32) v refl refl (omega arith)
-byte-back (suc zero) old v h = laid 8 8 old 0xFF00 (v * 2 ^ 8 % 2 ^ 32) v refl refl (omega arith)
-byte-back (suc (suc zero)) old v h = laid 16 8 old 0xFF0000 (v * 2 ^ 16 % 2 ^ 32) v refl refl (omega arith)
-byte-back (suc (suc (suc zero))) old v h = laid 24 8 old 0xFF000000 (v * 2 ^ 24 % 2 ^ 32) v refl refl (omega arith)
+byte-back zero old v h = lane-merged 0 8 old 0xFF (v * 2 ^ 0 % 2 ^ 32) v refl refl (omega arith)
+byte-back (suc zero) old v h = lane-merged 8 8 old 0xFF00 (v * 2 ^ 8 % 2 ^ 32) v refl refl (omega arith)
+byte-back (suc (suc zero)) old v h = lane-merged 16 8 old 0xFF0000 (v * 2 ^ 16 % 2 ^ 32) v refl refl (omega arith)
+byte-back (suc (suc (suc zero))) old v h =
+    lane-merged 24 8 old 0xFF000000 (v * 2 ^ 24 % 2 ^ 32) v refl refl (omega arith)
 byte-back (suc (suc (suc (suc r)))) old v h = absurd (let z : ⊥ = omega arith in z)
 
 half-back : (r old v : ℕ) → r ≤ 2 → Back r 2 old v
 unfolding spanOf
-half-back zero old v h = laid 0 16 old 0xFFFF (v * 2 ^ 0 % 2 ^ 32) v refl refl (omega arith)
-half-back (suc zero) old v h = laid 8 16 old 0xFFFF00 (v * 2 ^ 8 % 2 ^ 32) v refl refl (omega arith)
-half-back (suc (suc zero)) old v h = laid 16 16 old 0xFFFF0000 (v * 2 ^ 16 % 2 ^ 32) v refl refl (omega arith)
+half-back zero old v h = lane-merged 0 16 old 0xFFFF (v * 2 ^ 0 % 2 ^ 32) v refl refl (omega arith)
+half-back (suc zero) old v h = lane-merged 8 16 old 0xFFFF00 (v * 2 ^ 8 % 2 ^ 32) v refl refl (omega arith)
+half-back (suc (suc zero)) old v h = lane-merged 16 16 old 0xFFFF0000 (v * 2 ^ 16 % 2 ^ 32) v refl refl (omega arith)
 half-back (suc (suc (suc r))) old v h = absurd (let z : ⊥ = omega arith in z)
 
 word-back : (r old v : ℕ) → r ≤ 0 → Back r 4 old v
 unfolding spanOf
-word-back zero old v h = laid 0 32 old 0xFFFFFFFF (v * 2 ^ 0 % 2 ^ 32) v refl refl (omega arith)
+word-back zero old v h = lane-merged 0 32 old 0xFFFFFFFF (v * 2 ^ 0 % 2 ^ 32) v refl refl (omega arith)
 word-back (suc r) old v h = absurd (let z : ⊥ = omega arith in z)
 
 back : (r n old v : ℕ) → goodSize n ≡ true → r + n ≤ 4 → Back r n old v

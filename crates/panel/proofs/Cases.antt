@@ -11,19 +11,19 @@ use Rattle.panel.specs.declared.MaybeByte.the-variants.{Nothing, Byte}
 use Rattle.panel.specs.declared.Window.{Window}
 use Rattle.panel.specs.declared.Pen.{Pen}
 use Rattle.panel.specs.declared.Panel.{Panel}
-use Rattle.panel.specs.Lcd.{penAt, withPen, withFrames, begun, counts, commanded, counted, spot, put, nextPen}
-use Rattle.panel.specs.Lcd.{penned, inked, codeOf, aimed, pairAt, argued, fed, painted}
+use Rattle.panel.specs.Lcd.{penAt, withPen, withFrames, panelWith, counts, commanded, frameCounted, spot, put}
+use Rattle.panel.specs.Lcd.{nextPen, penned, inked, codeOf, aimed, pairAt, argued, fed, painted}
 use Rattle.panel.specs.Colour.{pixelAt, rgbOf}
 use Rattle.panel.specs.Entries.{Screen, screen, Drawing, drawing, dataOf, pixelOf, black, pictureOf}
 
 -- ---- command
 module _ (p : Panel) (c : ℕ) where
-  pub commanded-start : c ≡ 0x2C → commanded p c ≡ begun (Byte c) (p .window)
+  pub commanded-start : c ≡ 0x2C → commanded p c ≡ panelWith (Byte c) (p .window)
       (penAt (p .window .x0) (p .window .y0) Nothing (p .pen .frames))
   unfolding commanded
   commanded-start e = simp (eq-eqb _ _ e)
 
-  pub commanded-stay : c ≢ 0x2C → commanded p c ≡ begun (Byte c) (p .window)
+  pub commanded-stay : c ≢ 0x2C → commanded p c ≡ panelWith (Byte c) (p .window)
       (penAt (p .pen .x) (p .pen .y) Nothing (p .pen .frames))
   unfolding commanded
   commanded-stay n = simp (ne-eqb _ _ n)
@@ -138,8 +138,8 @@ module _ (p : Panel) (b : ℕ) where
   painted-not fb n = simp (ne-eqb _ _ n)
 
 -- ---- DMA
-pub counts-frame : (p : Panel) (n : ℕ) → n ≡ counts (p .pen .frames) → withFrames p n ≡ counted p
-unfolding counted
+pub counts-frame : (p : Panel) (n : ℕ) → n ≡ counts (p .pen .frames) → withFrames p n ≡ frameCounted p
+unfolding frameCounted
 counts-frame p n e = rw e
 
 -- ---- a record is known by its fields

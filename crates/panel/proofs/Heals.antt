@@ -11,14 +11,14 @@ use Rattle.panel.specs.declared.MaybeByte.the-variants.{Nothing, Byte}
 use Rattle.panel.specs.declared.Window.{Window}
 use Rattle.panel.specs.declared.Pen.{Pen}
 use Rattle.panel.specs.declared.Panel.{Panel}
-use Rattle.panel.specs.Lcd.{penAt, withPen, withFrames, begun, commanded, counted, penned, inked, codeOf, argued}
-use Rattle.panel.specs.Lcd.{fed, painted}
+use Rattle.panel.specs.Lcd.{penAt, withPen, withFrames, panelWith, commanded, frameCounted, penned, inked, codeOf}
+use Rattle.panel.specs.Lcd.{argued, fed, painted}
 use Rattle.panel.specs.Entries.{Screen, screen}
 use Rattle.panel.specs.Runs.{Input, byte, copy, Act, order, input, screenAfterCommand, screenAfterInput, later}
 use Rattle.panel.specs.Runs.{redrawn, bytesIn, copies, windowBytes, uncounted}
 use Rattle.panel.specs.Runs.{Same, EndsDamage}
 use Rattle.panel.proofs.Touch.{row}
-use Rattle.panel.proofs.Pens.{moved, ink, feed-pixels, sight, next-is, Healed}
+use Rattle.panel.proofs.Pens.{penAfter, ink, feed-pixels, sight, next-is, Healed}
 use Rattle.panel.proofs.Sweep.{Still, under, here, same, at-start, swept}
 use Rattle.panel.proofs.Stray.{alike, Aside, inside, apart, Astray, agreed, stray}
 
@@ -28,15 +28,15 @@ abbrev pub start : Window → ℕ → Pen
 start w f = penAt (w .x0) (w .y0) Nothing f
 
 abbrev pub writing : Window → Pen → Panel
-writing w q = begun (Byte 0x2C) w q
+writing w q = panelWith (Byte 0x2C) w q
 
 abbrev pub framesAfter : Window → ℕ → List Input → ℕ
-framesAfter w f is = moved w (start w f) is .frames
+framesAfter w f is = penAfter w (start w f) is .frames
 
 pub redrawn-is : (p : Panel) (fb : List ℕ) (between after : List Input)
     → redrawn (screen p fb) between after
     ≡ screen
-    (writing (p .window) (moved (p .window) (start (p .window) (framesAfter (p .window) (p .pen .frames) between))
+    (writing (p .window) (penAfter (p .window) (start (p .window) (framesAfter (p .window) (p .pen .frames) between))
     after))
     (ink (p .window) (start (p .window) (framesAfter (p .window) (p .pen .frames) between))
     (ink (p .window) (start (p .window) (p .pen .frames)) fb between) after)
@@ -101,7 +101,7 @@ painted-same p fb f g b =
 commanded-same : (p : Panel) (f g c : ℕ) → uncounted (commanded (withFrames p f) c)
     ≡ uncounted (commanded (withFrames p g) c)
 unfolding commanded
-commanded-same p f g c = ap (begun (Byte c) (p .window)) (go (eqb c 0x2C))
+commanded-same p f g c = ap (panelWith (Byte c) (p .window)) (go (eqb c 0x2C))
   where
     go : (t : Bool)
         → sight (cond t (start (p .window) f) (penAt (p .pen .x) (p .pen .y) Nothing f))
@@ -123,7 +123,7 @@ module _ {s t : Screen} (r : Same s t) where
       }
 
   pub keeps-input : (i : Input) → Same (screenAfterInput s i) (screenAfterInput t i)
-  unfolding counted
+  unfolding frameCounted
   keeps-input (byte b) =
       record {
         pixels =

@@ -12,13 +12,13 @@ use borrow.Author.Tests.{lt-ltb, le-ltb, ne-eqb}
 use Rattle.whole.proofs.Words.{either as pick}
 use Rattle.panel.specs.declared.MaybeByte.the-variants.{Nothing, Byte}
 use Rattle.panel.specs.declared.Panel.{Panel}
-use Rattle.panel.specs.Lcd.{penAt, withPen, begun, counts, commanded, counted, put, nextPen, pennedBy, inkedBy}
-use Rattle.panel.specs.Lcd.{penned, inked, codeOf, aimed}
+use Rattle.panel.specs.Lcd.{penAt, withPen, panelWith, counts, commanded, frameCounted, put, nextPen, pennedBy}
+use Rattle.panel.specs.Lcd.{inkedBy, penned, inked, codeOf, aimed}
 use Rattle.panel.specs.Lcd.{argued, fed, painted}
 use Rattle.panel.specs.Entries.{Screen, screen}
 use Rattle.panel.specs.Runs.{byte, copy, Act, order, input, screenAfterCommand, screenAfterInput, later}
-use Rattle.panel.specs.Rust.{Lcd, Option, none, some, isSome, default, cleared, lcdCommand, lcdPixel, lcdPut}
-use Rattle.panel.specs.Rust.{lcdStep, inc32}
+use Rattle.panel.specs.Rust.{Lcd, Option, none, some, isSome, default, withNewCommand, lcdCommand, lcdPixel}
+use Rattle.panel.specs.Rust.{lcdPut, lcdStep, inc32}
 use Rattle.panel.specs.Rust.{inc64, withPosition, withHalf, withFb, withArgs, withColumns, withRows, lcdHalf}
 use Rattle.panel.specs.Rust.{lcdArgs, lcdData, lcdDma}
 use Rattle.panel.specs.Rust.{lcdAfterActs, pairOf}
@@ -30,9 +30,9 @@ unfolding lcdCommand commanded
 as-command l c = go (eqb c 0x2C)
   where
     go : (t : Bool)
-        → compact (cond t (withPosition (cleared l c) (l .x0) (l .y0) (l .frames)) (cleared l c))
+        → compact (cond t (withPosition (withNewCommand l c) (l .x0) (l .y0) (l .frames)) (withNewCommand l c))
         ≡ screen
-        (begun (Byte c) (compact l .panel .window)
+        (panelWith (Byte c) (compact l .panel .window)
         (cond t (penAt (l .x0) (l .y0) Nothing (l .frames)) (penAt (l .x) (l .y) Nothing (l .frames))))
         (l .fb)
     go true = refl
@@ -201,7 +201,7 @@ unfolding lcdCommand
 fits-command l c f =
     pick Fits (eqb c 0x2C) _ _ (placed (l .x0) (l .y0) (f .x0) (f .y0)) (placed (l .x) (l .y) (f .x) (f .y))
   where
-    placed : (x y : ℕ) → x < 2 ^ 16 → y < 2 ^ 16 → Fits (withPosition (cleared l c) x y (l .frames))
+    placed : (x y : ℕ) → x < 2 ^ 16 → y < 2 ^ 16 → Fits (withPosition (withNewCommand l c) x y (l .frames))
     placed x y hx hy = record { x0 = f .x0; x1 = f .x1; y0 = f .y0; y1 = f .y1; x = hx; y = hy; half = tt; args = tt }
 
 fits-step : (l : Lcd) → Fits l → Fits (lcdStep l)
@@ -291,7 +291,7 @@ fits-data l b f s =
 
 -- ---- a run
 runs : (l : Lcd) (acts : List Act) → Fits l → Bytes acts → compact (lcdAfterActs l acts) ≡ later (compact l) acts
-unfolding lcdAfterActs later counted
+unfolding lcdAfterActs later frameCounted
 runs l [] f s = refl
 runs l (order c ∷ acts) f s =
     runs (lcdCommand l c) acts (fits-command l c f) s ∙ ap (λ (v : Screen). later v acts) (as-command l c)

@@ -8,16 +8,16 @@ use Rattle.panel.specs.declared.MaybeByte.{MaybeByte}
 use Rattle.panel.specs.declared.MaybeByte.the-variants.{Nothing, Byte}
 use Rattle.panel.specs.declared.Window.{Window}
 use Rattle.panel.specs.declared.Pen.{Pen}
-use Rattle.panel.specs.Lcd.{penAt, withPen, counts, counted, put, nextPen, penned, inked, codeOf}
+use Rattle.panel.specs.Lcd.{penAt, withPen, counts, frameCounted, put, nextPen, penned, inked, codeOf}
 use Rattle.panel.specs.Entries.{Screen, screen}
 use Rattle.panel.specs.Runs.{Input, byte, copy, feed}
 use Rattle.panel.proofs.Cases.{fed-pixel, painted-pixel}
 
 -- a run of inputs, over the pen and the pixels alone
-unfoldable pub moved : Window → Pen → List Input → Pen
-moved w p [] = p
-moved w p (byte b ∷ is) = moved w (penned w p b) is
-moved w p (copy m ∷ is) = moved w (penAt (p .x) (p .y) (p .half) (counts (p .frames))) is
+unfoldable pub penAfter : Window → Pen → List Input → Pen
+penAfter w p [] = p
+penAfter w p (byte b ∷ is) = penAfter w (penned w p b) is
+penAfter w p (copy m ∷ is) = penAfter w (penAt (p .x) (p .y) (p .half) (counts (p .frames))) is
 
 unfoldable pub ink : Window → Pen → List ℕ → List Input → List ℕ
 ink w p fb [] = fb
@@ -26,9 +26,9 @@ ink w p fb (copy m ∷ is) = ink w (penAt (p .x) (p .y) (p .half) (counts (p .fr
 
 -- it is the run of the whole panel
 pub feed-pixels : (s : Screen) (is : List Input) → codeOf (s .panel .cmd) ≡ 0x2C
-    → feed s is ≡ screen (withPen (s .panel) (moved (s .panel .window) (s .panel .pen) is))
+    → feed s is ≡ screen (withPen (s .panel) (penAfter (s .panel .window) (s .panel .pen) is))
     (ink (s .panel .window) (s .panel .pen) (s .fb) is)
-unfolding feed moved ink counted
+unfolding feed penAfter ink frameCounted
 feed-pixels s [] e = refl
 feed-pixels s (byte b ∷ is) e = rw (fed-pixel (s .panel) b e, painted-pixel (s .panel) b (s .fb) e) (feed-pixels _ is e)
 feed-pixels s (copy m ∷ is) e = feed-pixels _ is e
@@ -75,11 +75,11 @@ sight p = penAt (p .x) (p .y) (p .half) 0
 -- the same pixels, and the same pen but for its frames, after a run
 pub record Healed (w : Window) (p q : Pen) (fb gb : List ℕ) (is : List Input) : Type 0 where
   pub pixels : ink w p fb is ≡ ink w q gb is
-  pub pen : sight (moved w p is) ≡ sight (moved w q is)
+  pub pen : sight (penAfter w p is) ≡ sight (penAfter w q is)
 
 pub frameless : (w : Window) (x y : ℕ) (h : MaybeByte) (f g : ℕ) (fb : List ℕ) (is : List Input)
     → Healed w (penAt x y h f) (penAt x y h g) fb fb is
-unfolding ink moved penned inked
+unfolding ink penAfter penned inked
 frameless w x y h f g fb [] = record { pixels = refl; pen = refl }
 frameless w x y h f g fb (copy m ∷ is) =
     let r = frameless w x y h _ _ m is in record { pixels = r .pixels; pen = r .pen }

@@ -14,7 +14,7 @@ use Rattle.panel.specs.Lcd.{penAt, put, nextPen, penned, inked}
 use Rattle.panel.specs.Runs.{Input, byte, copy, bytesIn, windowBytes}
 use Rattle.panel.proofs.Cases.{next-along, next-down, next-round}
 use Rattle.panel.proofs.Touch.{col, row, put-length, Touch, hit, miss, touch}
-use Rattle.panel.proofs.Pens.{moved, ink, Healed, frameless}
+use Rattle.panel.proofs.Pens.{penAfter, ink, Healed, frameless}
 
 -- the last column and row that are drawn, also where an end lies before its start
 abbrev pub lastX : Window → ℕ
@@ -151,7 +151,7 @@ module _ (w : Window) (h : ℕ) (is : List Input) (later : Swept w is) where
       (λ k. none-left w x y fb gb k i (omega arith) (omega arith) (s k)))
 
 sweep : (w : Window) (is : List Input) → Swept w is
-unfolding ink moved penned inked bytesIn
+unfolding ink penAfter penned inked bytesIn
 sweep w [] x y Nothing f g fb gb i e s l = absurd (omega (arith, i .right))
 sweep w [] x y (Byte h) f g fb gb i e s l = absurd (omega (arith, i .right))
 sweep w (copy m ∷ is) x y h f g fb gb i e s l =

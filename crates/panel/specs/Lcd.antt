@@ -27,11 +27,11 @@ abbrev pub zeros : List ℕ
 zeros = 0 ∷ 0 ∷ 0 ∷ 0 ∷ []
 
 -- a panel that has just been told a command, or none
-abbrev pub begun : MaybeByte → Window → Pen → Panel
-begun c w q = record { cmd = c; args = zeros; count = 0; window = w; pen = q }
+abbrev pub panelWith : MaybeByte → Window → Pen → Panel
+panelWith c w q = record { cmd = c; args = zeros; count = 0; window = w; pen = q }
 
 abbrev pub freshPanel : Panel
-freshPanel = begun Nothing (record { x0 = 0; x1 = LCD-W - 1; y0 = 0; y1 = LCD-H - 1 }) (penAt 0 0 Nothing 0)
+freshPanel = panelWith Nothing (record { x0 = 0; x1 = LCD-W - 1; y0 = 0; y1 = LCD-H - 1 }) (penAt 0 0 Nothing 0)
 
 -- a counter goes round from 2^64 - 1 to 0
 abbrev pub counts : ℕ → ℕ
@@ -41,7 +41,7 @@ counts f = (f + 1) % 2 ^ 64
 
 unfoldable pub commanded : Panel → ℕ → Panel
 commanded p c =
-    begun (Byte c) (p .window)
+    panelWith (Byte c) (p .window)
     (cond (eqb c 0x2C) (penAt (p .window .x0) (p .window .y0) Nothing (p .pen .frames))
     (penAt (p .pen .x) (p .pen .y) Nothing (p .pen .frames)))
 
@@ -119,5 +119,5 @@ painted p fb b = cond (eqb (codeOf (p .cmd)) 0x2C) (inked fb (p .pen) b) fb
 
 -- ---- DMA: a frame more
 
-unfoldable pub counted : Panel → Panel
-counted p = withFrames p (counts (p .pen .frames))
+unfoldable pub frameCounted : Panel → Panel
+frameCounted p = withFrames p (counts (p .pen .frames))

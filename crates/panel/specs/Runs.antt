@@ -6,7 +6,7 @@ use lib.ListN.{length}
 use Rattle.map.specs.Numbers.{LCD-W, LCD-H}
 use Rattle.panel.specs.declared.Window.{Window}
 use Rattle.panel.specs.declared.Panel.{Panel}
-use Rattle.panel.specs.Lcd.{withFrames, spot, fed, painted, commanded, counted}
+use Rattle.panel.specs.Lcd.{withFrames, spot, fed, painted, commanded, frameCounted}
 use Rattle.panel.specs.Entries.{Screen, screen}
 
 -- a data byte, or a DMA that puts these bytes in the pixels' place
@@ -24,7 +24,7 @@ screenAfterCommand s c = screen (commanded (s .panel) c) (s .fb)
 
 abbrev pub screenAfterInput : Screen → Input → Screen
 screenAfterInput s (byte b) = screen (fed (s .panel) b) (painted (s .panel) (s .fb) b)
-screenAfterInput s (copy m) = screen (counted (s .panel)) m
+screenAfterInput s (copy m) = screen (frameCounted (s .panel)) m
 
 abbrev pub screenAfterAct : Screen → Act → Screen
 screenAfterAct s (order c) = screenAfterCommand s c

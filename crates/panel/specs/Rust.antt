@@ -121,12 +121,12 @@ withFb l fb = withPixels l fb (l .x) (l .y) (l .frames)
 -- ---- fn command(&mut self, c: u8)
 
 -- self.cmd = Some(c); self.args.clear(); self.half = None
-abbrev pub cleared : Lcd → ℕ → Lcd
-cleared l c = withCommand l (some c) [] none
+abbrev pub withNewCommand : Lcd → ℕ → Lcd
+withNewCommand l c = withCommand l (some c) [] none
 
 -- if c == 0x2C { self.x = self.x0; self.y = self.y0 }
 unfoldable pub lcdCommand : Lcd → ℕ → Lcd
-lcdCommand l c = cond (eqb c 0x2C) (withPosition (cleared l c) (l .x0) (l .y0) (l .frames)) (cleared l c)
+lcdCommand l c = cond (eqb c 0x2C) (withPosition (withNewCommand l c) (l .x0) (l .y0) (l .frames)) (withNewCommand l c)
 
 -- ---- fn pixel(&mut self, rgb565: u16)
 

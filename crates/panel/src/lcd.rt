@@ -1,6 +1,6 @@
 // Commands, data bytes and DMA, over a framebuffer of any length.
 ghost use mathlib.Core.Path.{_≡_};
-ghost use Rattle.panel.specs.Lcd.{commanded, fed, painted, counted};
+ghost use Rattle.panel.specs.Lcd.{commanded, fed, painted, frameCounted};
 ghost use Rattle.panel.specs.Entries.{screen};
 use crate::MaybeByte;
 use crate::Panel;
@@ -51,7 +51,7 @@ pub fn data(p: Panel, fb: &mut [u8], b: u8) -> Panel
 
 // A frame that came by DMA counts too.
 pub fn count_frame(p: Panel) -> Panel
-    ensures { λ r. ⌜ r ≡ counted p ⌝ }
+    ensures { λ r. ⌜ r ≡ frameCounted p ⌝ }
 {
     let mut pen = p.pen;
     pen.frames = std::num::wrapping_add_u64(pen.frames, 1);

@@ -10,7 +10,7 @@ use borrow.Author.Tests.{eq-eqb, ne-eqb}
 use Rattle.map.specs.Numbers.{DONE, REGISTERS-FULL}
 use Rattle.registers.specs.declared.Registers.{Registers}
 use Rattle.registers.specs.Words.{removed, inserted, othersOf, wordAt, Outcome, putWord}
-use Rattle.registers.specs.Within.{Other, Tidy, counted, nonZero, Full}
+use Rattle.registers.specs.Within.{Other, Tidy, countOf, nonZero, Full}
 use Rattle.whole.proofs.Choice.{by-same}
 use Rattle.registers.proofs.Spots.{placeIn, read-present, read-absent, put-cases}
 use Rattle.registers.proofs.Order.{free-behind, present-within, gap, some-present}
@@ -18,18 +18,18 @@ use Rattle.registers.proofs.Moving.{tidy-cases}
 
 -- ---- counting
 
-pub counted-none : (v : ℕ) → v ≡ 0 → counted v ≡ 0
-unfolding counted
+pub counted-none : (v : ℕ) → v ≡ 0 → countOf v ≡ 0
+unfolding countOf
 counted-none v z = rw (eq-eqb v 0 z)
 
-pub counted-some : (v : ℕ) → v ≢ 0 → counted v ≡ 1
-unfolding counted
+pub counted-some : (v : ℕ) → v ≢ 0 → countOf v ≡ 1
+unfolding countOf
 counted-some v n = rw (ne-eqb v 0 n)
 
-counted-most : (v : ℕ) → counted v ≤ 1
+counted-most : (v : ℕ) → countOf v ≤ 1
 counted-most v = by-same v 0 (λ z. omega (arith, counted-none v z)) (λ n. omega (arith, counted-some v n))
 
-count-set : (l : List ℕ) (i v : ℕ) → i < length l → nonZero (set l i v) + counted (getD l i 0) ≡ nonZero l + counted v
+count-set : (l : List ℕ) (i v : ℕ) → i < length l → nonZero (set l i v) + countOf (getD l i 0) ≡ nonZero l + countOf v
 unfolding nonZero
 count-set [] i v less = absurd (omega arith)
 count-set (x ∷ xs) zero v less = omega arith
@@ -58,7 +58,7 @@ unfolding nonZero
 count-zero [] = omega (arith, counted-none 0 refl)
 count-zero (x ∷ xs) = omega (arith, count-zero xs)
 
-count-removed : (l : List ℕ) (i : ℕ) → nonZero (removed l i) + counted (getD l i 0) ≡ nonZero l
+count-removed : (l : List ℕ) (i : ℕ) → nonZero (removed l i) + countOf (getD l i 0) ≡ nonZero l
 unfolding nonZero removed
 count-removed [] i = omega (arith, counted-none 0 refl)
 count-removed (x ∷ xs) zero = omega (arith, count-zero xs)
@@ -66,12 +66,12 @@ count-removed (x ∷ xs) (suc i) = omega (arith, count-removed xs i)
 
 -- where the last place is free
 count-inserted : (l : List ℕ) (n i y : ℕ) → suc n ≡ length l → i ≤ n → getD l n 0 ≡ 0
-    → nonZero (inserted l i y) ≡ nonZero l + counted y
+    → nonZero (inserted l i y) ≡ nonZero l + countOf y
 unfolding nonZero inserted
 count-inserted [] n i y size upto free = absurd (omega arith)
 count-inserted (x ∷ xs) zero zero y size upto free = last xs (omega arith)
   where
-    last : (l : List ℕ) → length l ≡ 0 → counted y + nonZero (inserted l 0 x) ≡ counted x + nonZero l + counted y
+    last : (l : List ℕ) → length l ≡ 0 → countOf y + nonZero (inserted l 0 x) ≡ countOf x + nonZero l + countOf y
     last [] none = omega (arith, counted-none x free)
     last (z ∷ zs) none = absurd (omega arith)
 count-inserted (x ∷ xs) zero (suc i) y size upto free = absurd (omega arith)
@@ -111,17 +111,17 @@ full-exactly r a v tidy =
 
 -- with the word that was there, the later count is the former one with the word that is there now
 pub room-counts : (r : Registers) (a v : ℕ) → Tidy r → Other a → putWord r a v .refusal ≡ DONE
-    → nonZero (putWord r a v .registers .values) + counted (wordAt r a) ≡ nonZero (r .values) + counted v
+    → nonZero (putWord r a v .registers .values) + countOf (wordAt r a) ≡ nonZero (r .values) + countOf v
 room-counts r a v tidy other =
     tidy-cases r a v (tidy .others) Counts
     (λ less. absurd (omega (arith, other .slot)))
     (λ slot never. absurd (true≢false (sym never ∙ other .stored)))
     (λ o here z done.
-    omega (arith, counted-none v z, ap counted (read-present r a o here), count-removed (r .values) (placeIn r a)))
+    omega (arith, counted-none v z, ap countOf (read-present r a o here), count-removed (r .values) (placeIn r a)))
     (λ o here some done.
     let less : placeIn r a < 256 = present-within (othersOf r) (tidy .others) a o (placeIn r a) here in
     let within : placeIn r a < length (r .values) = omega (arith, tidy .others .values) in
-    omega (arith, ap counted (read-present r a o here), count-set (r .values) (placeIn r a) v within))
+    omega (arith, ap countOf (read-present r a o here), count-set (r .values) (placeIn r a) v within))
     (λ o gone z done. omega (arith, counted-none v z, counted-none (wordAt r a) (read-absent r a o gone)))
     (λ o gone some free done.
     let upto : placeIn r a ≤ 255 = omega (arith, gap (othersOf r) (tidy .others) a gone free .within) in
@@ -132,7 +132,7 @@ room-counts r a v tidy other =
   where
     Counts : Outcome → Type 0
     Counts p =
-        p .refusal ≡ DONE → nonZero (p .registers .values) + counted (wordAt r a) ≡ nonZero (r .values) + counted v
+        p .refusal ≡ DONE → nonZero (p .registers .values) + countOf (wordAt r a) ≡ nonZero (r .values) + countOf v
 
 module _ (r : Registers) (a v : ℕ) (tidy : Tidy r) (other : Other a) (done : putWord r a v .refusal ≡ DONE) where
   pub room-taken : wordAt r a ≡ 0 → v ≢ 0 → nonZero (putWord r a v .registers .values) ≡ nonZero (r .values) + 1
@@ -143,7 +143,7 @@ module _ (r : Registers) (a v : ℕ) (tidy : Tidy r) (other : Other a) (done : p
   room-given old new =
       omega (arith, room-counts r a v tidy other done, counted-some (wordAt r a) old, counted-none v new)
 
-  pub room-kept : counted (wordAt r a) ≡ counted v → nonZero (putWord r a v .registers .values) ≡ nonZero (r .values)
+  pub room-kept : countOf (wordAt r a) ≡ countOf v → nonZero (putWord r a v .registers .values) ≡ nonZero (r .values)
   room-kept same = omega (arith, room-counts r a v tidy other done)
 
 -- a word that takes no place

@@ -30,13 +30,13 @@ pub record Tidy (r : Registers) : Type 0 where
   pub others : TidyOthers (othersOf r)
 
 -- 1 for a word that is not zero
-unfoldable pub counted : ℕ → ℕ
-counted v = cond (eqb v 0) 0 1
+unfoldable pub countOf : ℕ → ℕ
+countOf v = cond (eqb v 0) 0 1
 
 -- how many words are not zero
 unfoldable pub nonZero : List ℕ → ℕ
 nonZero [] = 0
-nonZero (x ∷ xs) = counted x + nonZero xs
+nonZero (x ∷ xs) = countOf x + nonZero xs
 
 -- RegistersFull: the new value is not zero, the word holds zero, it has no storage of its own, and 256 others are
 -- non-zero. A word that is never stored needs no room.

@@ -15,10 +15,10 @@ use Rattle.system.specs.Steps.{Outcome, step, after, plainly}
 use Rattle.system.proofs.Unchanged.{refused-unchanged}
 use Rattle.entries.specs.declared.Entry.{Entry}
 use Rattle.runner.specs.Format.{pressesIn, entriesIn, badScript, entriesFrom, entriesOf}
-use Rattle.entries.specs.Answers.{reply, inBits, replyOf, answerBytes, laid, laidAll}
+use Rattle.entries.specs.Answers.{reply, inBits, replyOf, answerBytes, answerLaid, laidAll}
 use Rattle.entries.specs.Turn.{turn, opOf, turnOf, RunState, runState}
 use Rattle.runner.specs.Script.{afterEntries, Ended, ended, endOf, badMemory, outTooShort, startOf, runOf, scriptOf}
-use Rattle.script.specs.Fold.{Accepted, start, opsOf, repliesOf, answered, counted, answerAt, fitted}
+use Rattle.script.specs.Fold.{Accepted, start, opsOf, repliesOf, answered, withCount, answerAt, fitted}
 use Rattle.entries.proofs.Turns.{no-bits}
 use Rattle.runner.proofs.Runs.{few-entries}
 use Rattle.script.proofs.Laid.{laid-length, all-length, all-before, all-behind, all-first}
@@ -35,9 +35,10 @@ pub runner-folds : (t : RunState) (at : ℕ) (es : List Entry)
 unfolding afterEntries after opsOf laidAll repliesOf
 runner-folds t at [] = refl
 runner-folds t at (e ∷ es) =
-    runner-folds (runState (turnOf (t .machine) e .machine) (laid (t .out) at (turnOf (t .machine) e .answer)))
+    runner-folds (runState (turnOf (t .machine) e .machine) (answerLaid (t .out) at (turnOf (t .machine) e .answer)))
     (at + answerBytes) es
-    ∙ ap (λ (m : Machine). runState (after m (opsOf es)) (laidAll (laid (t .out) at (turnOf (t .machine) e .answer))
+    ∙ ap (λ (m : Machine). runState (after m (opsOf es))
+    (laidAll (answerLaid (t .out) at (turnOf (t .machine) e .answer))
     (at + answerBytes) (repliesOf (turnOf (t .machine) e .machine) es))) (turn-step (t .machine) e)
 
 answers-count : (m : Machine) (es : List Entry) → length (repliesOf m es) ≡ length es
@@ -63,9 +64,10 @@ one-answer m [] e later l at h =
 one-answer m (b ∷ before) e later l at h =
     let z : at + answerBytes * suc (length before) ≡ at + answerBytes + answerBytes * length before = omega arith in
     let room : at + answerBytes + answerBytes * length (before ++ (e ∷ later)) ≤ length
-    (laid l at (turnOf m b .answer)) =
+    (answerLaid l at (turnOf m b .answer)) =
     rw (laid-length l at (turnOf m b .answer)) (omega arith) in
-    rw z (one-answer (turnOf m b .machine) before e later (laid l at (turnOf m b .answer)) (at + answerBytes) room ∙
+    rw z (one-answer (turnOf m b .machine) before e later (answerLaid l at (turnOf m b .answer))
+    (at + answerBytes) room ∙
     ap (λ (n : Machine). fitted (turnOf (after n (opsOf before)) e .answer)) (turn-step m b))
 
 -- ---- the whole
@@ -104,11 +106,11 @@ module _ (m r g f s l : List ℕ) where
 module _ (m r g f s l : List ℕ) (ok : Accepted m r g f s l) where
   -- WHAT A SCRIPT LEAVES: the machine after its operations; the count, and their answers behind it
   pub script-folds : scriptOf m r g f s l ≡ endOf (runState (after (start m r g f) (opsOf (entriesOf s)))
-      (laidAll (counted s l) 4 (answered m r g f s)))
+      (laidAll (withCount s l) 4 (answered m r g f s)))
   unfolding scriptOf runOf
   script-folds = rw (ok .memory, ok .script, ok .room) (ap endOf (runner-folds (startOf m r g f s l) 4 (entriesOf s)))
 
-  out-is : scriptOf m r g f s l .out ≡ laidAll (counted s l) 4 (answered m r g f s)
+  out-is : scriptOf m r g f s l .out ≡ laidAll (withCount s l) 4 (answered m r g f s)
   out-is = ap (λ (x : Ended). x .out) script-folds
 
   room : 4 + answerBytes * entriesIn s ≤ length l
@@ -117,7 +119,7 @@ module _ (m r g f s l : List ℕ) (ok : Accepted m r g f s l) where
 
   -- the output begins with the count p + s
   pub count-first : loaded (scriptOf m r g f s l .out) 0 4 ≡ entriesIn s
-  count-first = rw out-is (all-before (counted s l) 4 (answered m r g f s) 0 4 four ∙ load-store l 0 4 (entriesIn s)
+  count-first = rw out-is (all-before (withCount s l) 4 (answered m r g f s) 0 4 four ∙ load-store l 0 4 (entriesIn s)
       four enough ∙ small)
     where
       four : 4 ≤ 4
@@ -135,9 +137,9 @@ module _ (m r g f s l : List ℕ) (ok : Accepted m r g f s l) where
       (replyOf (inBits (e .kind)) (step (after (start m r g f) (opsOf before)) (opOf e)))
   unfolding turnOf
   each-answer before later e split =
-      let full : 4 + answerBytes * length (before ++ (e ∷ later)) ≤ length (counted s l) =
+      let full : 4 + answerBytes * length (before ++ (e ∷ later)) ≤ length (withCount s l) =
       rw (← split, entries-count s (pressesIn s) (entriesIn s) 0, store-length l 0 4 (entriesIn s)) room in
-      rw (out-is, split) (one-answer (start m r g f) before e later (counted s l) 4 full)
+      rw (out-is, split) (one-answer (start m r g f) before e later (withCount s l) 4 full)
 
   -- later bytes stay, and so does the length
   pub later-stay : (p : ℕ) → 4 + answerBytes * entriesIn s ≤ p → getD (scriptOf m r g f s l .out) p 0 ≡ getD l p 0
@@ -146,10 +148,10 @@ module _ (m r g f s l : List ℕ) (ok : Accepted m r g f s l) where
       s (pressesIn s) (entriesIn s) 0 in
       let h₁ : 4 + answerBytes * length (answered m r g f s) ≤ p = rw n h in
       let h₂ : 0 + 4 ≤ p = omega arith in
-      rw out-is (all-behind (counted s l) 4 (answered m r g f s) p h₁ ∙ byte-other l 0 4 (entriesIn s) p (inr h₂))
+      rw out-is (all-behind (withCount s l) 4 (answered m r g f s) p h₁ ∙ byte-other l 0 4 (entriesIn s) p (inr h₂))
 
   pub length-stays : length (scriptOf m r g f s l .out) ≡ length l
-  length-stays = rw out-is (all-length (counted s l) 4 (answered m r g f s) ∙ store-length l 0 4 (entriesIn s))
+  length-stays = rw out-is (all-length (withCount s l) 4 (answered m r g f s) ∙ store-length l 0 4 (entriesIn s))
 
 -- ---- a refused entry
 

@@ -9,7 +9,7 @@ use Rattle.memory.specs.Bytes.{loaded, storedAt}
 use Rattle.memory.proofs.Stored.{store-length, byte-other, load-other, load-store}
 use Rattle.entries.specs.declared.Answer.{Answer}
 use Rattle.runner.specs.Format.{wide}
-use Rattle.entries.specs.Answers.{answerBytes, storedWide, laid, laidAll}
+use Rattle.entries.specs.Answers.{answerBytes, storedWide, answerLaid, laidAll}
 use Rattle.entries.proofs.Laying.{wide-length}
 use Rattle.script.specs.Fold.{answerAt, fitted}
 
@@ -65,13 +65,13 @@ module _ (l : List ℕ) (at : ℕ) (x : Answer) where
   abbrev l₂ : List ℕ
   l₂ = storedWide l₁ (at + 9) (x .b)
 
-  pub laid-length : length (laid l at x) ≡ length l
-  unfolding laid
+  pub laid-length : length (answerLaid l at x) ≡ length l
+  unfolding answerLaid
   laid-length = wide-length l₂ (at + 17) (x .c) ∙ wide-length l₁ (at + 9) (x .b) ∙ wide-length l₀ (at + 1) (x .a) ∙
       store-length l at 1 (x .refusal)
 
-  pub laid-before : (p k : ℕ) → p + k ≤ at → loaded (laid l at x) p k ≡ loaded l p k
-  unfolding laid
+  pub laid-before : (p k : ℕ) → p + k ≤ at → loaded (answerLaid l at x) p k ≡ loaded l p k
+  unfolding answerLaid
   laid-before p k h =
       let a : p + k ≤ at + 17 = omega arith in
       let b : p + k ≤ at + 9 = omega arith in
@@ -79,8 +79,8 @@ module _ (l : List ℕ) (at : ℕ) (x : Answer) where
       load-before l₂ (at + 17) (x .c) p k a ∙ load-before l₁ (at + 9) (x .b) p k b ∙ load-before l₀ (at + 1) (x .a) p
       k c ∙ load-other l at 1 (x .refusal) p k (inl h)
 
-  pub laid-behind : (p : ℕ) → at + answerBytes ≤ p → getD (laid l at x) p 0 ≡ getD l p 0
-  unfolding laid
+  pub laid-behind : (p : ℕ) → at + answerBytes ≤ p → getD (answerLaid l at x) p 0 ≡ getD l p 0
+  unfolding answerLaid
   laid-behind p h =
       let a : at + 17 + 8 ≤ p = omega arith in
       let b : at + 9 + 8 ≤ p = omega arith in
@@ -89,8 +89,8 @@ module _ (l : List ℕ) (at : ℕ) (x : Answer) where
       wide-byte l₂ (at + 17) (x .c) p a ∙ wide-byte l₁ (at + 9) (x .b) p b ∙ wide-byte l₀ (at + 1) (x .a) p c ∙
       byte-other l at 1 (x .refusal) p (inr d)
 
-  pub laid-back : at + answerBytes ≤ length l → answerAt (laid l at x) at ≡ fitted x
-  unfolding laid answerAt
+  pub laid-back : at + answerBytes ≤ length l → answerAt (answerLaid l at x) at ≡ fitted x
+  unfolding answerLaid answerAt
   laid-back h = rw (first, second, third, fourth)
     where
       room₀ : at + 1 ≤ length l
@@ -156,14 +156,14 @@ module _ (l : List ℕ) (at : ℕ) (x : Answer) where
 pub all-length : (l : List ℕ) (at : ℕ) (xs : List Answer) → length (laidAll l at xs) ≡ length l
 unfolding laidAll
 all-length l at [] = refl
-all-length l at (x ∷ xs) = all-length (laid l at x) (at + answerBytes) xs ∙ laid-length l at x
+all-length l at (x ∷ xs) = all-length (answerLaid l at x) (at + answerBytes) xs ∙ laid-length l at x
 
 pub all-before : (l : List ℕ) (at : ℕ) (xs : List Answer) (p k : ℕ) → p + k ≤ at
     → loaded (laidAll l at xs) p k ≡ loaded l p k
 unfolding laidAll
 all-before l at [] p k h = refl
 all-before l at (x ∷ xs) p k h =
-    let h′ : p + k ≤ at + answerBytes = omega arith in all-before (laid l at x) (at + answerBytes) xs p k h′ ∙
+    let h′ : p + k ≤ at + answerBytes = omega arith in all-before (answerLaid l at x) (at + answerBytes) xs p k h′ ∙
     laid-before l at x p k h
 
 -- the bytes behind the last
@@ -174,7 +174,7 @@ all-behind l at [] p h = refl
 all-behind l at (x ∷ xs) p h =
     let h₁ : at + answerBytes + answerBytes * length xs ≤ p = omega arith in
     let h₂ : at + answerBytes ≤ p = omega arith in
-    all-behind (laid l at x) (at + answerBytes) xs p h₁ ∙ laid-behind l at x p h₂
+    all-behind (answerLaid l at x) (at + answerBytes) xs p h₁ ∙ laid-behind l at x p h₂
 
 -- an answer is read off its bytes
 answers-same : (k l : List ℕ) (at : ℕ) → ((p n : ℕ) → p + n ≤ at + answerBytes → loaded k p n ≡ loaded l p n)
@@ -201,6 +201,6 @@ answers-same k l at same =
 
 -- the first stands as it was laid
 pub all-first : (l : List ℕ) (at : ℕ) (x : Answer) (xs : List Answer) → at + answerBytes ≤ length l
-    → answerAt (laidAll (laid l at x) (at + answerBytes) xs) at ≡ fitted x
-all-first l at x xs h = answers-same (laidAll (laid l at x) (at + answerBytes) xs) (laid l at x) at
-    (all-before (laid l at x) (at + answerBytes) xs) ∙ laid-back l at x h
+    → answerAt (laidAll (answerLaid l at x) (at + answerBytes) xs) at ≡ fitted x
+all-first l at x xs h = answers-same (laidAll (answerLaid l at x) (at + answerBytes) xs) (answerLaid l at x) at
+    (all-before (answerLaid l at x) (at + answerBytes) xs) ∙ laid-back l at x h

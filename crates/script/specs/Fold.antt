@@ -37,8 +37,8 @@ repliesOf m (e ∷ es) = turnOf m e .answer ∷ repliesOf (turnOf m e .machine) 
 abbrev pub answered : List ℕ → List ℕ → List ℕ → List ℕ → List ℕ → List Answer
 answered ram sram gpio fb script = repliesOf (start ram sram gpio fb) (entriesOf script)
 
-abbrev pub counted : List ℕ → List ℕ → List ℕ
-counted script out = storedAt out 0 4 (entriesIn script)
+abbrev pub withCount : List ℕ → List ℕ → List ℕ
+withCount script out = storedAt out 0 4 (entriesIn script)
 
 -- the answer that stands at a place of the output
 unfoldable pub answerAt : List ℕ → ℕ → Answer

@@ -15,8 +15,8 @@ use Rattle.flash.specs.Flash.{selected, transferred}
 use Rattle.flash.specs.declared.Mode.{Mode}
 use Rattle.steps.specs.Rule.{stepOf}
 use Rattle.steps.specs.Text.{textOf}
-use Rattle.steps.specs.Machine.{World, world, withOutput, says, grown, isEmpty, ended, boardOf, chosen, sent}
-use Rattle.steps.specs.Machine.{obeyed, fed, finished, afterBytes, closed, fresh, wholeRun}
+use Rattle.steps.specs.Machine.{World, world, withOutput, says, grown, isEmpty, sessionOver, boardOf, chosen}
+use Rattle.steps.specs.Machine.{sent, obeyed, fed, finished, afterBytes, closed, fresh, wholeRun}
 use Rattle.steps.specs.Lines.{linesFrom, lines, lineLeft, andThen, prints}
 use Rattle.steps.specs.declared.Line.{Line}
 use Rattle.steps.specs.declared.Line.the-variants.{Empty, One, Two, Longer}
@@ -124,9 +124,9 @@ from (c ∷ cs) l b n h =
         → total (at b (l ++ (c ∷ [])) n) cs ≡ prints b n (linesFrom (l ++ (c ∷ [])) cs)
         → textOf (fed (at b l n) c .output) ++ total (fed (at b l n) c .world) cs
         ≡ prints b n (pick t (l ∷ linesFrom [] cs) (linesFrom (l ++ (c ∷ [])) cs))
-    by true e ended begun =
-        rw (fed-newline b l n c e) (goes-on (stepOf l) b l n cs (omega arith) (linesFrom [] cs) ended)
-    by false e ended begun = rw (fed-other b l n c e) begun
+    by true e sessionOver begun =
+        rw (fed-newline b l n c e) (goes-on (stepOf l) b l n cs (omega arith) (linesFrom [] cs) sessionOver)
+    by false e sessionOver begun = rw (fed-other b l n c e) begun
 
 -- what a whole run prints
 pub by-lines : (e : Mode) (input : List ℕ) → length input + 1 < 2 ^ 64

@@ -16,7 +16,7 @@ use Rattle.flash.specs.declared.Chip.{Chip}
 use Rattle.flash.specs.declared.SpiFlash.{SpiFlash}
 use Rattle.steps.specs.Text.{textOf, lastLine}
 use Rattle.steps.specs.Machine.{World, WorldOutput, Printed, world, withOutput, says, chosen, sent, obeyed, fed}
-use Rattle.steps.specs.Machine.{printed, joined, afterBytes, finished, closed, erasedArray, begun, fresh}
+use Rattle.steps.specs.Machine.{printed, joined, afterBytes, finished, closed, erasedArray, newSession, fresh}
 use Rattle.steps.specs.Inner.{Reaches}
 use Rattle.steps.specs.Machine.{wholeRun, RunEnd}
 use Rattle.steps.specs.declared.Output.{Output}
@@ -86,7 +86,7 @@ closes-well t e o = rw (o, e)
 
 -- a run from a fresh chip
 pub run-end : (e : Mode) (chip : Chip) (page array : List ℕ) (s : Session) {v u : World} {a : List ℕ}
-    → chipWithPage chip page ≡ madeIn e → array ≡ erasedArray → s ≡ begun chip → Reaches (world s page array) v
+    → chipWithPage chip page ≡ madeIn e → array ≡ erasedArray → s ≡ newSession chip → Reaches (world s page array) v
     → printed a u ≡ closed (finished v) → RunEnd e (u .session)
 unfolding wholeRun
 run-end e chip page array s {v} {u} m f b h k =

@@ -88,9 +88,9 @@ pub light : (b : Bool) → pick b 0 1 ≤ 1
 light true = omega arith
 light false = omega arith
 
-counted : (b : ℕ) (bs : List ℕ) → countProgrammed (b ∷ bs) ≡ pick (eqb b 255) 0 1 + countProgrammed bs
+count-cons : (b : ℕ) (bs : List ℕ) → countProgrammed (b ∷ bs) ≡ pick (eqb b 255) 0 1 + countProgrammed bs
 unfolding countProgrammed
-counted b bs = refl
+count-cons b bs = refl
 
 pub count-on : (xs : List ℕ) (i n : ℕ) → i < length xs → n + countProgrammed (drop i xs) ≡ countProgrammed xs
     → n + pick (eqb (getD xs i 0) 255) 0 1 + countProgrammed (drop (i + 1) xs) ≡ countProgrammed xs
@@ -98,7 +98,7 @@ count-on xs i n l h = rw add-one (omega (arith, h, step (drop-cons xs i 0 l)))
   where
     step : drop i xs ≡ getD xs i 0 ∷ drop (suc i) xs → countProgrammed (drop i xs)
         ≡ pick (eqb (getD xs i 0) 255) 0 1 + countProgrammed (drop (suc i) xs)
-    step e = rw e (counted (getD xs i 0) (drop (suc i) xs))
+    step e = rw e (count-cons (getD xs i 0) (drop (suc i) xs))
 
 pub count-all : (xs : List ℕ) (i n : ℕ) → length xs ≤ i → n + countProgrammed (drop i xs) ≡ countProgrammed xs
     → n ≡ countProgrammed xs

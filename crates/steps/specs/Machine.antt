@@ -68,8 +68,8 @@ nextLine c n = record { chip = c; line = Empty; number = (n + 1) % 2 ^ 64; over 
 abbrev pub withLine : Session → Line → Session
 withLine s l = record { chip = s .chip; line = l; number = s .number; over = s .over }
 
-abbrev pub ended : Session → Session
-ended s = record { chip = s .chip; line = s .line; number = s .number; over = true }
+abbrev pub sessionOver : Session → Session
+sessionOver s = record { chip = s .chip; line = s .line; number = s .number; over = true }
 
 abbrev pub boardOf : World → Board
 boardOf w = board (w .session .chip) (w .page) (w .array)
@@ -90,7 +90,7 @@ abbrev pub obeyed : Step → World → WorldOutput
 obeyed Select w = chosen w true
 obeyed Deselect w = chosen w false
 obeyed (Byte b) w = sent w b
-obeyed Other w = withOutput (Bad (w .session .number)) (world (ended (w .session)) (w .page) (w .array))
+obeyed Other w = withOutput (Bad (w .session .number)) (world (sessionOver (w .session)) (w .page) (w .array))
 
 abbrev pub lineDone : World → WorldOutput
 lineDone w = obeyed (says (w .session .line)) w
@@ -131,12 +131,12 @@ afterBytes w (c ∷ cs) = joined (textOf (fed w c .output)) (afterBytes (fed w c
 unfoldable pub erasedArray : List ℕ
 erasedArray = replicate 65536 255
 
-abbrev pub begun : Chip → Session
-begun c = record { chip = c; line = Empty; number = 1; over = false }
+abbrev pub newSession : Chip → Session
+newSession c = record { chip = c; line = Empty; number = 1; over = false }
 
 -- a chip as it is made in a mode; flashsteps' is the Rust's
 abbrev pub fresh : Mode → World
-fresh e = world (begun (madeIn e .chip)) (madeIn e .page) erasedArray
+fresh e = world (newSession (madeIn e .chip)) (madeIn e .page) erasedArray
 
 -- what the end of the input says, and the last line where no line was bad
 abbrev pub closed : WorldOutput → Printed

@@ -7,7 +7,7 @@ pub mod talk;
 mod text;
 
 ghost use mathlib.Core.Path.{_≡_};
-ghost use Rattle.steps.specs.Machine.{world, worldOutput, nextLine, withLine, ended, grown, chosen};
+ghost use Rattle.steps.specs.Machine.{world, worldOutput, nextLine, withLine, sessionOver, grown, chosen};
 ghost use Rattle.steps.specs.Inner.{fedWith};
 ghost use Rattle.steps.specs.Machine.{sent, lineDone, fed, finished};
 use flash::Chip;
@@ -119,7 +119,7 @@ fn next_line(chip: Chip, number: u64) -> Session
 
 // A line that is no step ends the session.
 fn reject(session: Session) -> Fed
-    ensures { λ r. ⌜ r ≡ fedWith (ended session) (Output.Bad (session .number)) ⌝ }
+    ensures { λ r. ⌜ r ≡ fedWith (sessionOver session) (Output.Bad (session .number)) ⌝ }
 {
     let mut last = session;
     last.over = true;

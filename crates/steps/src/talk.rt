@@ -3,7 +3,7 @@ ghost use mathlib.Core.Path.{_≡_};
 ghost use Prim.Native.Nat.{_+_, _*_, _≤_};
 ghost use lib.ListN.{length, take};
 ghost use Rattle.io.specs.Counts.{Counts};
-ghost use Rattle.steps.specs.Machine.{world, printed, afterBytes, finished, closed, erasedArray, begun};
+ghost use Rattle.steps.specs.Machine.{world, printed, afterBytes, finished, closed, erasedArray, newSession};
 ghost use Rattle.steps.specs.Inner.{Reaches};
 ghost use Rattle.steps.specs.Machine.{RunEnd};
 use crate::Line;
@@ -150,7 +150,7 @@ fn erase() -> [u8; 65536]
 }
 
 fn begin(chip: Chip) -> Session
-    ensures { λ r. ⌜ r ≡ begun chip ⌝ }
+    ensures { λ r. ⌜ r ≡ newSession chip ⌝ }
 {
     Session {
         chip,

@@ -198,15 +198,15 @@ module _ (m : Machine) (w : WithinLimits m) where
 -- ---- time goes on
 
 module _ (slots gpio : List ℕ) (starts : List Float) (codes : List ℕ) (c : Clocks) (k : Keys) (clock : ℕ) where
-  moved-length : (x : Moved) → length (move.moved slots gpio starts codes c k clock x .slots) ≡ length slots
-  unfolding move.moved move.movedTo move.devicesOf move.syncedOf move.convertedIn move.tickedIn
+  moved-length : (x : Moved) → length (move.byMove slots gpio starts codes c k clock x .slots) ≡ length slots
+  unfolding move.byMove move.movedTo move.devicesOf move.syncedOf move.convertedIn move.tickedIn
   moved-length (To t) = own-length _ _ _ ∙ own-length _ _ _ ∙ own-length _ _ _ ∙ own-length _ _ _
   moved-length BadTime = refl
 
   moved-keys : (x : Moved) → keys.Within (buttons starts codes k)
       → keys.Within (buttons starts codes (keys.withApplied k
-      (move.moved slots gpio starts codes c k clock x .applied)))
-  unfolding move.moved move.movedTo
+      (move.byMove slots gpio starts codes c k clock x .applied)))
+  unfolding move.byMove move.movedTo
   moved-keys (To t) w = keys-limits.sync-within (buttons starts codes k) gpio (heldOf starts codes k (t .now)) w
   moved-keys BadTime w = w
 

@@ -151,10 +151,10 @@ sync-length gpio applied h =
 
 advance-length : (m : Machine) (to : Float) → length (advanceOf (m .system) (m .sram) (m .gpio) to .gpio) ≡ length
     (m .gpio)
-unfolding advanceOf move.advanceOf move.moved move.movedTo
+unfolding advanceOf move.advanceOf move.byMove move.movedTo
 advance-length m to = by (movedOf (m .system .devices .clocks .times) to)
   where
-    by : (x : Moved) → length (move.moved (m .system .registers .slots) (m .gpio) (m .system .presses .starts)
+    by : (x : Moved) → length (move.byMove (m .system .registers .slots) (m .gpio) (m .system .presses .starts)
         (m .system .presses .codes)
         (m .system .devices .clocks) (m .system .keys) (clockIn (m .sram)) x .gpio) ≡ length (m .gpio)
     by (To t) = sync-length (m .gpio) _ _

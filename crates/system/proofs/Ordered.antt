@@ -57,7 +57,7 @@ module _ (m : Machine) where
       by false p = refl
 
   pub advance-order : (to : Float) → step m (advance to) .refusal ≡ refusalOf m (advance to)
-  unfolding step advanceOf move.advanceOf move.moved move.movedTo movedOf refusalOf firstOf given order
+  unfolding step advanceOf move.advanceOf move.byMove move.movedTo movedOf refusalOf firstOf given order
   advance-order to =
       by (goodTime to) (lt to (c .times .now)) (lt (ofBits binary64 0x41E0_0000_0000_0000) (gameAfter (c .times) to))
       (record { now = to; game = gameAfter (c .times) to; turbo = c .times .turbo })
@@ -66,7 +66,7 @@ module _ (m : Machine) where
       c = m .system .devices .clocks
 
       by : (good back high : Bool) (t : Times)
-          → _≡_ {A = ℕ} (move.moved (m .system .registers .slots) (m .gpio) (m .system .presses .starts)
+          → _≡_ {A = ℕ} (move.byMove (m .system .registers .slots) (m .gpio) (m .system .presses .starts)
           (m .system .presses .codes) c (m .system .keys)
           (clockIn (m .sram)) (cond good (cond back BadTime (cond high BadTime (To t))) BadTime) .refusal)
           (cond (not good || back || high) 1 0)

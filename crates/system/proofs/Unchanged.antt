@@ -98,12 +98,12 @@ store-plain : (w : World) (word new : ℕ)
 unfolding storedWord
 store-plain w word new h = by (put-number (w .registers) word new)
   where
-    same : (x : words.Outcome) → x .registers ≡ w .registers → bus.byStore w (bus.settled x (w .devices)) ≡ out w
+    same : (x : words.Outcome) → x .registers ≡ w .registers → bus.byStore w (bus.storedOutcome x (w .devices)) ≡ out w
         (x .refusal) false
     same x e = rw e
 
     by : StoreNumber (putWord (w .registers) word new .refusal)
-        → bus.byStore w (bus.settled (putWord (w .registers) word new) (w .devices)) ≡ out w
+        → bus.byStore w (bus.storedOutcome (putWord (w .registers) word new) (w .devices)) ≡ out w
         (putWord (w .registers) word new .refusal) false
     by (inl z) = absurd (h z)
     by (inr e) = same (putWord (w .registers) word new) (refused-stays (w .registers) word new e)
@@ -147,11 +147,11 @@ module _ (m : Machine) where
       (write-plain (worldIn m) (fullOf (m .system .queue .ring)) a n v h)
 
   advance-plainly : (to : Float) → Plainly m (step m (advance to))
-  unfolding step advanceOf move.advanceOf move.moved move.movedTo
+  unfolding step advanceOf move.advanceOf move.byMove move.movedTo
   advance-plainly to = by (movedOf (m .system .devices .clocks .times) to)
     where
       by : (x : Moved) → Plainly m (byMove m
-          (moving (m .system) (move.moved (m .system .registers .slots) (m .gpio) (m .system .presses .starts)
+          (moving (m .system) (move.byMove (m .system .registers .slots) (m .gpio) (m .system .presses .starts)
           (m .system .presses .codes) (m .system .devices .clocks) (m .system .keys) (clockIn (m .sram)) x)))
       by (To t) h = absurd (h refl)
       by BadTime h = refl

@@ -9,7 +9,7 @@ use lib.Dec.{ltb}
 use lib.Ieee.{Float}
 use lib.ListN.{getD, set}
 use borrow.Author.Tests.{eq-eqb, ltb-true}
-use Rattle.map.specs.Numbers.{ADC-CONTROL, ADC-RESULT, LCD-STATUS, RTC-IRQ-STATUS}
+use Rattle.map.specs.Numbers.{DONE, BAD-TIME, ADC-CONTROL, ADC-RESULT, LCD-STATUS, RTC-IRQ-STATUS}
 use Rattle.registers.specs.Words.{ownAt, ownWith}
 use Rattle.registers.specs.Ports.{slotOf}
 use Rattle.clock.specs.declared.Times.{Times}
@@ -31,7 +31,7 @@ use Rattle.timer.specs.Timers.{advancedOf}
 use Rattle.time.specs.Clocks.{clockIn, controlWord, reloadWord}
 use Rattle.time.specs.Advance as move
 use Rattle.time.specs.Advance.{timerAfter, timersAfter, syncedOf, convertedIn, tickedIn, devicesOf, Outcome}
-use Rattle.time.specs.Advance.{outcome, movedTo, moved, advanceOf}
+use Rattle.time.specs.Advance.{outcome, movedTo, byMove, advanceOf}
 use Rattle.state.specs.declared.Clocks.{Clocks}
 use Rattle.state.specs.declared.Parts.{Parts}
 use Rattle.state.specs.Parts.{none, timersPut, timerPut, timesPut, vsyncPut, convertingPut, irqPut, appliedPut}
@@ -184,7 +184,8 @@ module _ (slots gpio : List ℕ) (starts : List Float) (codes : List ℕ) (x : P
       → went slots₁ y ≡ wentOf x (devicesOf slots (x .devices .clocks) clock t)
       → k ≡ y .keys → held ≡ heldOf starts codes k (t .now) → lines gpio₁ applied ≡ syncOf gpio (k .applied) held
       → z ≡ appliedPut y applied
-      → movedBank slots₁ gpio₁ 0 z ≡ movesOf x (movedTo slots gpio starts codes (x .devices .clocks) (x .keys) clock t)
+      → movedBank slots₁ gpio₁ DONE z
+      ≡ movesOf x (movedTo slots gpio starts codes (x .devices .clocks) (x .keys) clock t)
   moved-went t {slots₁} {gpio₁} {y} {z} {k} {held} {applied} d h i l e =
       let p : y ≡ clocksPut x (devicesOf slots (x .devices .clocks) clock t .clocks) = ap (λ (w : Went). w .parts) d in
       let q : k ≡ x .keys = h ∙ ap (λ (w : Parts). w .keys) p in
@@ -197,23 +198,24 @@ module _ (slots gpio : List ℕ) (starts : List Float) (codes : List ℕ) (x : P
       (rw q at i) (rw q at l) in
       let u : z ≡ appliedPut (clocksPut x (y .devices .clocks)) applied = e ∙ ap (λ (w : Parts). appliedPut w applied)
       (p ∙ ap (λ (w : Parts). clocksPut x (w .devices .clocks)) (sym p)) in
-      ap (λ (w : Parts). movedBank slots₁ gpio₁ 0 w) u ∙ ap (λ (w : Outcome). movesOf x w) s
+      ap (λ (w : Parts). movedBank slots₁ gpio₁ DONE w) u ∙ ap (λ (w : Outcome). movesOf x w) s
 
 module _ (slots gpio : List ℕ) (starts : List Float) (codes : List ℕ) (x : Parts) (sram : List ℕ) (m : Moved) where
   pub goes : (t : Times) {clock : ℕ} {r : MovedBank} → m ≡ To t → clock ≡ clockIn sram
       → r ≡ movesOf x (movedTo slots gpio starts codes (x .devices .clocks) (x .keys) clock t)
-      → r ≡ movesOf x (moved slots gpio starts codes (x .devices .clocks) (x .keys) (clockIn sram) m)
-  unfolding moved
+      → r ≡ movesOf x (byMove slots gpio starts codes (x .devices .clocks) (x .keys) (clockIn sram) m)
+  unfolding byMove
   goes t h c i = rw (h, ← c) i
 
-  pub rests : m ≡ BadTime → movedBank slots gpio 1 x ≡ movesOf x (moved slots gpio starts codes (x .devices .clocks)
+  pub rests : m ≡ BadTime → movedBank slots gpio BAD-TIME x
+      ≡ movesOf x (byMove slots gpio starts codes (x .devices .clocks)
       (x .keys) (clockIn sram) m)
-  unfolding moved
+  unfolding byMove
   rests h = rw h
 
   pub goes-by : (to : Float) {times₀ : Times} {r : MovedBank} → times₀ ≡ x .devices .clocks .times
       → m ≡ movedOf times₀ to
-      → r ≡ movesOf x (moved slots gpio starts codes (x .devices .clocks) (x .keys) (clockIn sram) m)
+      → r ≡ movesOf x (byMove slots gpio starts codes (x .devices .clocks) (x .keys) (clockIn sram) m)
       → r ≡ movesOf x (advanceOf slots gpio starts codes (x .devices .clocks) (x .keys) (clockIn sram) to)
   unfolding advanceOf
   goes-by to h e i = let k : m ≡ movedOf (x .devices .clocks .times) to = e ∙ ap (λ (z : Times). movedOf z to) h in rw

@@ -29,7 +29,7 @@ use Rattle.state.specs.declared.Clocks.{Clocks}
 use Rattle.time.specs.Clocks.{freshClocks, controlWord, reloadWord}
 use Rattle.state.specs.Parts.{none, timesWith, timerWith, irqWith, convertingWith}
 use Rattle.time.specs.Advance.{timerAfter, timersAfter, syncedOf, convertedIn, tickedIn, devicesOf, movedTo}
-use Rattle.time.specs.Advance.{moved, advanceOf}
+use Rattle.time.specs.Advance.{byMove, advanceOf}
 use Rattle.time.specs.Within.{ClocksWithin}
 
 -- ---- what holds of each of six timers
@@ -105,21 +105,21 @@ module _ (slots gpio : List ℕ) (starts : List Float) (codes : List ℕ) (c : C
     (w : ClocksWithin c) where
   -- AN ADVANCE KEEPS THE LIMITS
   pub advance-within : clock < 2 ^ 32 → ClocksWithin (advanceOf slots gpio starts codes c k clock to .clocks)
-  unfolding advanceOf moved movedTo
+  unfolding advanceOf byMove movedTo
   advance-within h = by (movedOf (c .times) to) refl
     where
-      by : (m : Moved) → movedOf (c .times) to ≡ m → ClocksWithin (moved slots gpio starts codes c k clock m .clocks)
+      by : (m : Moved) → movedOf (c .times) to ≡ m → ClocksWithin (byMove slots gpio starts codes c k clock m .clocks)
       by (To t) e = let p : Within t × Later (c .times) t = moves-within (c .times) t to (w .times) e in
           devices-within slots c clock t w h (p .0) (p .1)
       by BadTime e = w
 
   -- and neither time goes back
   pub later-times : Later (c .times) (advanceOf slots gpio starts codes c k clock to .clocks .times)
-  unfolding advanceOf moved movedTo devicesOf
+  unfolding advanceOf byMove movedTo devicesOf
   later-times = by (movedOf (c .times) to) refl
     where
       by : (m : Moved) → movedOf (c .times) to ≡ m
-          → Later (c .times) (moved slots gpio starts codes c k clock m .clocks .times)
+          → Later (c .times) (byMove slots gpio starts codes c k clock m .clocks .times)
       by (To t) e = moves-within (c .times) t to (w .times) e .1
       by BadTime e = record {
         now-later = le-refl-clear (c .times .now) (good-clear (c .times .now) (w .times .now-good));

@@ -142,10 +142,10 @@ movedTo slots gpio starts codes c k clock t =
     outcome (d .slots) (l .gpio) 0 (d .clocks) (l .applied)
 
 -- a time that is refused changes nothing
-unfoldable pub moved : List ℕ → List ℕ → List Float → List ℕ → Clocks → Keys → ℕ → Moved → Outcome
-moved slots gpio starts codes c k clock (To t) = movedTo slots gpio starts codes c k clock t
-moved slots gpio starts codes c k clock BadTime = outcome slots gpio BAD-TIME c (k .applied)
+unfoldable pub byMove : List ℕ → List ℕ → List Float → List ℕ → Clocks → Keys → ℕ → Moved → Outcome
+byMove slots gpio starts codes c k clock (To t) = movedTo slots gpio starts codes c k clock t
+byMove slots gpio starts codes c k clock BadTime = outcome slots gpio BAD-TIME c (k .applied)
 
 -- game time and now first
 unfoldable pub advanceOf : List ℕ → List ℕ → List Float → List ℕ → Clocks → Keys → ℕ → Float → Outcome
-advanceOf slots gpio starts codes c k clock to = moved slots gpio starts codes c k clock (movedOf (c .times) to)
+advanceOf slots gpio starts codes c k clock to = byMove slots gpio starts codes c k clock (movedOf (c .times) to)

@@ -13,7 +13,7 @@ ghost use Rattle.state.specs.Bank.{timersIn, irqIn, clocksIn, keysIn, partsIn};
 ghost use Rattle.state.specs.Packed.{StaysPacked, Answered};
 ghost use Rattle.time.specs.Clocks.{clockIn};
 ghost use Rattle.time.specs.Advance.{timerAfter, timersAfter, syncedOf, convertedIn, tickedIn, devicesOf};
-ghost use Rattle.time.specs.Advance.{movedTo, moved, advanceOf};
+ghost use Rattle.time.specs.Advance.{movedTo, byMove, advanceOf};
 ghost use Rattle.time.specs.Bank.{movedBank, movesOf};
 ghost use Rattle.time.specs.Inner.{went, syncedPut, convertedPut, tickedPut, wentOf};
 use crate::sysclk_var;
@@ -178,7 +178,7 @@ fn go(
     ensures { λ r. ⌜ (movedBank (now (slots .exit)) (now (gpio .exit)) r
         (partsIn (now (cells .exit)) (now (floats .exit)))
         ≡ movesOf (partsIn (now (cells .entry)) (now (floats .entry)))
-        (moved (now (slots .entry)) (now (gpio .entry)) (now (starts .entry)) (now (codes .entry))
+        (byMove (now (slots .entry)) (now (gpio .entry)) (now (starts .entry)) (now (codes .entry))
         (clocksIn (now (cells .entry)) (now (floats .entry)))
         (keysIn (now (cells .entry)) (now (floats .entry))) (clockIn (now (sram .entry))) to))
         × Answered r (now (cells .entry)) (now (floats .entry)) (now (cells .exit)) (now (floats .exit)) ⌝ }

@@ -8,7 +8,7 @@ use lib.ListN.{length, take, take-append-drop}
 use borrow.Author.Tests.{ltb-true, ltb-false}
 use Rattle.timer.specs.declared.Event.{Event}
 use Rattle.timer.specs.declared.Queue.{Queue}
-use Rattle.timer.specs.Events.{emptyQueue, waiting, waitingFrom, fitOf, laid, bulkOf, putOf, takeOf}
+use Rattle.timer.specs.Events.{emptyQueue, waiting, waitingFrom, fitOf, laidOver, bulkOf, putOf, takeOf}
 use Rattle.timer.specs.Canonical.{Canonical}
 use Rattle.timer.specs.Story.{Step, puts, takes, fills, Story, storyOf, storyAfterStep, storyAfterSteps, story}
 use Rattle.timer.proofs.Laid.{laid-first}
@@ -47,7 +47,7 @@ unfolding storyAfterStep
 fills-order s ys good =
     let q : Queue = s .queue in
     let n : ℕ = fitOf (q .ring .count) (length ys) in
-    let first : take n (laid (waiting q) ys) ≡ take n (waiting q) = rw (waiting-count q) at
+    let first : take n (laidOver (waiting q) ys) ≡ take n (waiting q) = rw (waiting-count q) at
     (laid-first (waiting q) ys) in
     rw (first, without-drops q n (good .canonical .most), append-assoc, take-append-drop) (good .order)
 

@@ -12,7 +12,7 @@ use borrow.Author.Tests.{lt-ltb, le-ltb, ltb-true, ltb-false}
 use Rattle.timer.specs.declared.Event.{Event}
 use Rattle.timer.specs.declared.Queue.{Queue}
 use Rattle.timer.specs.declared.Bulk.{Bulk}
-use Rattle.timer.specs.Events.{eventOf, waitingFrom, waiting, fitOf, laid}
+use Rattle.timer.specs.Events.{eventOf, waitingFrom, waiting, fitOf, laidOver}
 use Rattle.timer.specs.Inner.{LayOutcome, layOutcome, layOf}
 use Rattle.timer.specs.Events.{dropOf, bulkOutcome, bulkOf}
 
@@ -47,9 +47,9 @@ fit-more count room = fit-more-at count room (ltb count room) refl
 -- ---- what `laid` is
 
 -- the oldest events, and then the records that stay
-pub laid-is : (ws ys : List Event) → laid ws ys ≡ take (fitOf (length ws) (length ys)) ws ++ drop
+pub laid-is : (ws ys : List Event) → laidOver ws ys ≡ take (fitOf (length ws) (length ys)) ws ++ drop
     (fitOf (length ws) (length ys)) ys
-unfolding laid
+unfolding laidOver
 laid-is [] ys = rw (fit-none (length ys))
 laid-is (w ∷ ws) [] = rw (fit-no-room (suc (length ws)))
 laid-is (w ∷ ws) (y ∷ ys) =
@@ -57,7 +57,7 @@ laid-is (w ∷ ws) (y ∷ ys) =
 
 -- the records that were filled are the oldest events
 pub laid-first : (ws ys : List Event)
-    → take (fitOf (length ws) (length ys)) (laid ws ys) ≡ take (fitOf (length ws) (length ys)) ws
+    → take (fitOf (length ws) (length ys)) (laidOver ws ys) ≡ take (fitOf (length ws) (length ys)) ws
 laid-first ws ys =
     let n : ℕ = fitOf (length ws) (length ys) in
     ap (take (fitOf (length ws) (length ys))) (laid-is ws ys)
@@ -81,8 +81,8 @@ over-length q ys (suc i) = length-set (over q ys i) i (eventOf q i) ∙ over-len
 
 -- one more event after i of them
 laid-more : (q : Queue) (i j : ℕ) (ys : List Event) → i < length ys
-    → set (laid (waitingFrom q j i) ys) i (eventOf q (j + i)) ≡ laid (waitingFrom q j (suc i)) ys
-unfolding laid waitingFrom
+    → set (laidOver (waitingFrom q j i) ys) i (eventOf q (j + i)) ≡ laidOver (waitingFrom q j (suc i)) ys
+unfolding laidOver waitingFrom
 laid-more q i j [] less = absurd (omega arith)
 laid-more q zero j (y ∷ ys) less = rw (add-zero j)
 laid-more q (suc i) j (y ∷ ys) less =
@@ -91,8 +91,8 @@ laid-more q (suc i) j (y ∷ ys) less =
 
 -- past the slice's end it does not matter how many wait
 laid-past : (q : Queue) (j m k : ℕ) (ys : List Event) → length ys ≤ m → length ys ≤ k
-    → laid (waitingFrom q j m) ys ≡ laid (waitingFrom q j k) ys
-unfolding laid waitingFrom
+    → laidOver (waitingFrom q j m) ys ≡ laidOver (waitingFrom q j k) ys
+unfolding laidOver waitingFrom
 laid-past q j zero zero [] a b = refl
 laid-past q j zero (suc k) [] a b = refl
 laid-past q j (suc m) zero [] a b = refl
@@ -102,15 +102,15 @@ laid-past q j (suc m) zero (y ∷ ys) a b = absurd (omega arith)
 laid-past q j (suc m) (suc k) (y ∷ ys) a b =
     ap (λ (l : List Event). eventOf q j ∷ l) (laid-past q (suc j) m k ys (le-of-suc-le-suc a) (le-of-suc-le-suc b))
 
-over-some : (q : Queue) (ys : List Event) (i : ℕ) → i ≤ length ys → over q ys i ≡ laid (waitingFrom q 0 i) ys
-unfolding over laid waitingFrom
+over-some : (q : Queue) (ys : List Event) (i : ℕ) → i ≤ length ys → over q ys i ≡ laidOver (waitingFrom q 0 i) ys
+unfolding over laidOver waitingFrom
 over-some q ys zero most = refl
 over-some q ys (suc i) most =
     ap (λ (l : List Event). set l i (eventOf q i)) (over-some q ys i (omega arith)) ∙
     (rw (zero-add i) at (laid-more q i 0 ys most))
 
 over-fits : (q : Queue) (ys : List Event) (t : Bool) → ltb (q .ring .count) (length ys) ≡ t
-    → over q ys (fitOf (q .ring .count) (length ys)) ≡ laid (waiting q) ys
+    → over q ys (fitOf (q .ring .count) (length ys)) ≡ laidOver (waiting q) ys
 unfolding fitOf waiting
 over-fits q ys true h =
     let less : q .ring .count < length ys = ltb-true (q .ring .count) (length ys) h in
@@ -119,7 +119,7 @@ over-fits q ys false h =
     let most : length ys ≤ q .ring .count = ltb-false (q .ring .count) (length ys) h in
     rw h (over-some q ys (length ys) (omega arith) ∙ laid-past q 0 (length ys) (q .ring .count) ys (omega arith) most)
 
-pub over-laid : (q : Queue) (ys : List Event) → over q ys (fitOf (q .ring .count) (length ys)) ≡ laid (waiting q) ys
+pub over-laid : (q : Queue) (ys : List Event) → over q ys (fitOf (q .ring .count) (length ys)) ≡ laidOver (waiting q) ys
 over-laid q ys = over-fits q ys (ltb (q .ring .count) (length ys)) refl
 
 -- laid, and then gone: what a bulk take is

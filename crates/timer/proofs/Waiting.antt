@@ -18,7 +18,7 @@ use Rattle.timer.specs.declared.Ring.{Ring}
 use Rattle.timer.specs.declared.Refusal.the-variants.{Done, SoundFull, NoEvent}
 use Rattle.timer.specs.Events.{ringOf, placeOf, skipped, cleared, queueOf, eventAt, eventOf, waitingFrom}
 use Rattle.timer.specs.Events.{waiting, nothing, withLast, without}
-use Rattle.timer.specs.Events.{putOf, putOutcome, takeOf, takeOutcome, fitOf, laid, bulkOf, bulkOutcome}
+use Rattle.timer.specs.Events.{putOf, putOutcome, takeOf, takeOutcome, fitOf, laidOver, bulkOf, bulkOutcome}
 use Rattle.timer.specs.Canonical.{Canonical}
 use Rattle.timer.proofs.Laid.{fits, laid-is}
 use Rattle.timer.proofs.Places.{ring-is, place-apart, place-moves, skipped-some, skipped-all, cleared-stays}
@@ -35,21 +35,21 @@ waiting-count q = from-length q 0 (q .ring .count)
 -- ---- out
 
 -- the arrays with n places given back, and the ring that starts after them
-abbrev moved : Queue → ℕ → Queue
-moved q n =
+abbrev oldestGone : Queue → ℕ → Queue
+oldestGone q n =
     queueOf (cleared (q .ring) n (q .onsets)) (cleared (q .ring) n (q .frequencies)) (cleared (q .ring) n (q .duties))
     (ringOf (placeOf (q .ring) n) (q .ring .count - n))
 
-event-moves : (q : Queue) (n i : ℕ) → n + i < 256 → eventOf (moved q n) i ≡ eventOf q (n + i)
+event-moves : (q : Queue) (n i : ℕ) → n + i < 256 → eventOf (oldestGone q n) i ≡ eventOf q (n + i)
 event-moves q n i small =
-    ap (eventAt (moved q n)) (place-moves (q .ring) n i (q .ring .count - n))
+    ap (eventAt (oldestGone q n)) (place-moves (q .ring) n i (q .ring .count - n))
     ∙ rw (
       cleared-stays (q .ring) n (n + i) (q .onsets) (omega arith) small,
       cleared-stays (q .ring) n (n + i) (q .frequencies) (omega arith) small,
       cleared-stays (q .ring) n (n + i) (q .duties) (omega arith) small,
     )
 
-from-moves : (q : Queue) (n i m : ℕ) → n + i + m ≤ 256 → waitingFrom (moved q n) i m ≡ waitingFrom q (n + i) m
+from-moves : (q : Queue) (n i m : ℕ) → n + i + m ≤ 256 → waitingFrom (oldestGone q n) i m ≡ waitingFrom q (n + i) m
 unfolding waitingFrom
 from-moves q n i zero small = refl
 from-moves q n i (suc m) small =
@@ -61,7 +61,7 @@ from-drops q zero i m = rw (zero-add i, sub-zero m)
 from-drops q (suc n) i zero = rw (zero-sub (suc n))
 from-drops q (suc n) i (suc m) = rw (suc-sub-suc m n, suc-add n i, ← add-suc n i) (from-drops q n (suc i) m)
 
-without-some : (q : Queue) (n : ℕ) → n < q .ring .count → without q n ≡ moved q n
+without-some : (q : Queue) (n : ℕ) → n < q .ring .count → without q n ≡ oldestGone q n
 without-some q n less = rw (skipped-some (q .ring) n less)
 
 without-waits : (q : Queue) (n : ℕ) (t : Bool) → ltb n (q .ring .count) ≡ t → q .ring .count ≤ 256
@@ -202,7 +202,7 @@ same-ring ring none start = skipped-all ring 0 (omega arith) ∙ ring-is (sym st
 -- with none waiting the answer is 0, and nothing changes
 pub bulk-none : (q : Queue) (ys : List Event) → Canonical q → waiting q ≡ []
     → bulkOf q ys ≡ bulkOutcome (record { count = 0; queue = q }) ys
-unfolding laid cleared
+unfolding laidOver cleared
 bulk-none q ys good none =
     let no : q .ring .count ≡ 0 = sym (waiting-count q) ∙ ap length none in
     let few : fitOf (q .ring .count) (length ys) ≡ 0 = omega (arith, fits (q .ring .count) (length ys)) in

@@ -133,10 +133,10 @@ unfoldable pub fitOf : ℕ → ℕ → ℕ
 fitOf count room = cond (ltb count room) count room
 
 -- the events laid over the records of a slice, as many as fit; later records stay
-unfoldable pub laid : List Event → List Event → List Event
-laid [] ys = ys
-laid (x ∷ xs) [] = []
-laid (x ∷ xs) (y ∷ ys) = x ∷ laid xs ys
+unfoldable pub laidOver : List Event → List Event → List Event
+laidOver [] ys = ys
+laidOver (x ∷ xs) [] = []
+laidOver (x ∷ xs) (y ∷ ys) = x ∷ laidOver xs ys
 
 -- the answer over lent arrays, with the arrays
 abbrev pub batched : Batch → List Float → List Float → List Float → Bulk
@@ -154,4 +154,4 @@ abbrev pub dropOf : Queue → ℕ → Bulk
 dropOf q n = record { count = n; queue = without q n }
 
 abbrev pub bulkOf : Queue → List Event → BulkOutcome
-bulkOf q ys = bulkOutcome (dropOf q (fitOf (q .ring .count) (length ys))) (laid (waiting q) ys)
+bulkOf q ys = bulkOutcome (dropOf q (fitOf (q .ring .count) (length ys))) (laidOver (waiting q) ys)

@@ -5,7 +5,7 @@ use Prim.Native.Nat.{ℕ}
 use lib.ListN.{length}
 use Rattle.timer.specs.declared.Event.{Event}
 use Rattle.timer.specs.declared.Queue.{Queue}
-use Rattle.timer.specs.Events.{waiting, fitOf, laid}
+use Rattle.timer.specs.Events.{waiting, fitOf, laidOver}
 
 -- how many, and the later records
 pub record LayOutcome : Type 0 where
@@ -16,4 +16,4 @@ abbrev pub layOutcome : ℕ → List Event → LayOutcome
 layOutcome n ys = record { count = n; records = ys }
 
 abbrev pub layOf : Queue → List Event → LayOutcome
-layOf q ys = layOutcome (fitOf (q .ring .count) (length ys)) (laid (waiting q) ys)
+layOf q ys = layOutcome (fitOf (q .ring .count) (length ys)) (laidOver (waiting q) ys)

@@ -6,8 +6,8 @@ use Rattle.timer.specs.declared.Timer.{Timer}
 use Rattle.timer.specs.Timers.{freshTimer, periodOf, writtenOf, advancedOf, counterOf}
 
 -- control 0x6000 written at time 0, clock word 0, reload 0xFC18
-abbrev pub begun : Timer
-begun = writtenOf freshTimer (ofBits binary64 0) 0x6000 0 .timer
+abbrev pub startedTimer : Timer
+startedTimer = writtenOf freshTimer (ofBits binary64 0) 0x6000 0 .timer
 
 -- 0.5
 abbrev pub half : Float
@@ -17,9 +17,9 @@ abbrev pub table : List Example
 table =
     record { given = periodOf 0 ∷ []; expected = 0x10000 ∷ [] }
     ∷ record { given = periodOf 0xFFFF ∷ []; expected = 1 ∷ [] }
-    ∷ record { given = advancedOf begun half 0 0x6000 0xFC18 .seen ∷ []; expected = 6000 ∷ [] }
+    ∷ record { given = advancedOf startedTimer half 0 0x6000 0xFC18 .seen ∷ []; expected = 6000 ∷ [] }
     ∷ record {
-      given = counterOf (advancedOf begun half 0 0x6000 0xFC18) half 0 0x6000 0xFC18 0 ∷ [];
+      given = counterOf (advancedOf startedTimer half 0 0x6000 0xFC18) half 0 0x6000 0xFC18 0 ∷ [];
       expected =
           0xFC18 ∷ [];
     }

@@ -116,9 +116,9 @@ dropped b lo hi =
     parts E lo hi = omega arith
 
 -- from 2 ^ 53 to below 2 ^ 64: a whole number
-pub moved : (b : ℕ) → 1075 < b / 2 ^ 52 → b / 2 ^ 52 < 1087
+pub scaled-up : (b : ℕ) → 1075 < b / 2 ^ 52 → b / 2 ^ 52 < 1087
     → toUnsigned 64 (ofBits binary64 b) ≡ (b % 2 ^ 52 + 2 ^ 52) * 2 ^ (b / 2 ^ 52 - 1075) % 2 ^ 64
-moved b lo hi =
+scaled-up b lo hi =
     let E = b / 2 ^ 52 in
     let t = b % 2 ^ 52 in
     let q = (t + 2 ^ 52) * 2 ^ (E - 1075) in

@@ -9,7 +9,7 @@ use Rattle.flash.specs.Board.{Board, board, outcome, withCs, goodSize, a
 use Rattle.flash.specs.Inner.{refusing, giving}
 use Rattle.flash.specs.Buf.{blank}
 use Rattle.flash.specs.Finish.{stateAfter, arrayAfter}
-use Rattle.flash.specs.Flash.{selected, selectBoard, begun, deselectAct}
+use Rattle.flash.specs.Flash.{selected, selectBoard, transactionBegun, deselectAct}
 use Rattle.flash.specs.Pick.{pick}
 use Rattle.flash.specs.declared.Chip.{Chip}
 use Rattle.flash.specs.declared.Reply.{Reply}
@@ -31,8 +31,8 @@ fine w v on g e f h k = rw h (ap (acceptedOutcome 0) k ∙ sym (select-done w on
 on-on : (w : Board) (on : Bool) → on ≡ true → w .chip .cs ≡ true → w ≡ selectBoard w on
 on-on w on e f = rw (e, f)
 
-on-off : (w v : Board) (on : Bool) → on ≡ true → w .chip .cs ≡ false → v .chip ≡ begun (w .chip) → v .page ≡ blank →
-    v .array ≡ w .array → v ≡ selectBoard w on
+on-off : (w v : Board) (on : Bool) → on ≡ true → w .chip .cs ≡ false → v .chip ≡ transactionBegun (w .chip)
+    → v .page ≡ blank → v .array ≡ w .array → v ≡ selectBoard w on
 on-off w v on e f h k l = rw (e, f) (same h k l)
   where
     same : {c c′ : Chip} {p p′ m m′ : List ℕ} → c ≡ c′ → p ≡ p′ → m ≡ m′ → board c p m ≡ board c′ p′ m′

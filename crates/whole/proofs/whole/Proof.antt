@@ -5,7 +5,7 @@ use native.Mathlib.Omega.{arith}
 use lib.Dec.{T}
 use lib.Ieee.{Float, binary64, toBits, isNan}
 use borrow.Author.Needs.{needs}
-use Rattle.whole.proofs.Cuts.{cut-by-bits, cut-nan, sign-set, fraction, dropped, moved, saturated}
+use Rattle.whole.proofs.Cuts.{cut-by-bits, cut-nan, sign-set, fraction, dropped, scaled-up, saturated}
 use Rattle.whole.proofs.Bits.{bits-back, no-nan}
 use Rattle.whole.proofs.whole.Statement.{statement}
 use Rattle.whole.proofs.whole.Tie as tie
@@ -27,7 +27,7 @@ returns-4 c = cut-by-bits _ _ (c .before .before .before .before .good .0 .1) (d
     (c .if4 .taken))
 
 returns-5 : tie.Need-returns-5
-returns-5 c = cut-by-bits _ _ (c .before .before .before .before .before .good .0 .1) (moved _
+returns-5 c = cut-by-bits _ _ (c .before .before .before .before .before .good .0 .1) (scaled-up _
     (c .before .if4 .left) (c .if5 .taken))
 
 returns-6 : tie.Need-returns-6

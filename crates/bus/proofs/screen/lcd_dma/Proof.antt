@@ -2,7 +2,7 @@ use Rattle.block.proofs.Cases.{block-bytes}
 use Rattle.bus.proofs.Cases.{dma-none, dma-done}
 use Rattle.bus.proofs.Drawn.{panel-put, panel-same}
 use Rattle.panel.specs.declared.Panel.{Panel}
-use Rattle.panel.specs.Lcd.{counted}
+use Rattle.panel.specs.Lcd.{frameCounted}
 use mathlib.Core.Path.{ap, _∙_}
 use Rattle.panel.specs.Entries.{screen}
 use Rattle.registers.specs.Words.{registersOf}
@@ -39,7 +39,7 @@ returns-2 c =
       dma-done r (a .ram .now) (a .sram .now) (a .gpio .now) s (c15 .own-reg .ensures) (c14 .if1 .left)
           (block-bytes r (a .ram .now) (a .sram .now) (a .gpio .now) (c15 .own-reg .result) _
           (c11 .read-block .ensures)) (c7 .own-reg2 .ensures) (c5 .own-insert .ensures)
-          (q .0 ∙ (c2 .count-frame .ensures) ∙ ap (λ (z : Panel). counted z) (c3 .panel-of .ensures)),
+          (q .0 ∙ (c2 .count-frame .ensures) ∙ ap (λ (z : Panel). frameCounted z) (c3 .panel-of .ensures)),
       q .1,
     )
 

@@ -1,10 +1,10 @@
-use Rattle.entries.specs.Answers.{laid}
+use Rattle.entries.specs.Answers.{answerLaid}
 use borrow.Author.Needs.{needs}
 use Rattle.entries.proofs.replies.lay_in.Statement.{statement}
 use Rattle.entries.proofs.replies.lay_in.Tie as tie
 
 returns : tie.Need-returns
-unfolding laid
+unfolding answerLaid
 returns c =
     let u = c .before .before .before .before .before .before in
     let v = u .before .before .before .before in
