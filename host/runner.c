@@ -1,6 +1,7 @@
 // The program behind ./tg18: a binary script on standard input, raw answers on standard output.
 //     runner [load NAME=FILE]... [dump NAME=FILE]... [screen FILE]
-// Always scrubbed; memories, script and answers are cleared before it ends. A status of 64 and above is the script's refusal, 64 off.
+// Always scrubbed; memories, script and answers are cleared before it ends. A status of 64 and above is the script's
+// refusal, 64 off.
 #define _GNU_SOURCE
 #include "scrubbed.h"
 #include "tg18.h"
@@ -122,9 +123,9 @@ static int store(enum place place, const char *path) {
 }
 
 static uint32_t run(size_t script_bytes) {
-    return tg18_run_script_scrubbed(places[RAM].at, TG18_RAM_BYTES, places[SRAM].at, TG18_SRAM_BYTES, places[GPIO].at, TG18_GPIO_BYTES,
-                                    places[FRAMEBUFFER].at, TG18_FRAMEBUFFER_BYTES, places[SCRIPT].at, script_bytes, places[OUT].at,
-                                    OUT_ROOM);
+    return tg18_run_script_scrubbed(places[RAM].at, TG18_RAM_BYTES, places[SRAM].at, TG18_SRAM_BYTES, places[GPIO].at,
+                                    TG18_GPIO_BYTES, places[FRAMEBUFFER].at, TG18_FRAMEBUFFER_BYTES, places[SCRIPT].at,
+                                    script_bytes, places[OUT].at, OUT_ROOM);
 }
 
 static void lay(uint8_t *at, uint32_t number) {
@@ -149,7 +150,9 @@ static int colours_from(uint32_t first) {
         to[3 * i + 1] = answer[1];
         to[3 * i + 2] = answer[0];
     }
-    return refusal == TG18_DONE ? RAN : complain(NO_MEMORY, "screen", "the scripts that ask for its colours were not run");
+    return refusal == TG18_DONE
+               ? RAN
+               : complain(NO_MEMORY, "screen", "the scripts that ask for its colours were not run");
 }
 
 static int screen(const char *path) {

@@ -31,7 +31,8 @@ enum tg18_vectors tg18_vectors_here(void) {
     return words[1] & 0x10000 ? TG18_ZMM : TG18_YMM; // AVX-512F
 }
 
-// NULL if there is no memory. Locking and the two kinds of advice may fail; then the stack could be in swap or a core file meanwhile.
+// NULL if there is no memory. Locking and the two kinds of advice may fail; then the stack could be in swap or a core
+// file meanwhile.
 static uint8_t *stack_made(void) {
     uint8_t *guard = mmap(NULL, TG18_GUARD_BYTES + TG18_STACK_BYTES, PROT_NONE, MAP_PRIVATE | MAP_ANONYMOUS, -1, 0);
     if (guard == MAP_FAILED) {
@@ -48,9 +49,9 @@ static uint8_t *stack_made(void) {
     return stack;
 }
 
-uint32_t tg18_run_script_scrubbed(uint8_t *ram, size_t ram_len, uint8_t *sram, size_t sram_len, uint8_t *gpio, size_t gpio_len,
-                                  uint8_t *framebuffer, size_t framebuffer_len, const uint8_t *script, size_t script_len,
-                                  uint8_t *out, size_t out_len) {
+uint32_t tg18_run_script_scrubbed(uint8_t *ram, size_t ram_len, uint8_t *sram, size_t sram_len, uint8_t *gpio,
+                                  size_t gpio_len, uint8_t *framebuffer, size_t framebuffer_len, const uint8_t *script,
+                                  size_t script_len, uint8_t *out, size_t out_len) {
     const uintptr_t arguments[TG18_ARGUMENTS] = {
         (uintptr_t)ram,         ram_len,         (uintptr_t)sram,   sram_len,   (uintptr_t)gpio, gpio_len,
         (uintptr_t)framebuffer, framebuffer_len, (uintptr_t)script, script_len, (uintptr_t)out,  out_len};
@@ -58,8 +59,8 @@ uint32_t tg18_run_script_scrubbed(uint8_t *ram, size_t ram_len, uint8_t *sram, s
     if (stack == NULL) {
         return TG18_NO_STACK;
     }
-    // A signal's frame holds all registers, and a handler may have a stack of its own for it. The system call itself is taken because
-    // the C library's function leaves two signals out. SIG_SETMASK is 2; a mask has eight bytes.
+    // A signal's frame holds all registers, and a handler may have a stack of its own for it. The system call itself
+    // is taken because the C library's function leaves two signals out. SIG_SETMASK is 2; a mask has eight bytes.
     uint64_t all = ~(uint64_t)0, before = 0;
     syscall(SYS_rt_sigprocmask, 2, &all, &before, sizeof all);
     uint32_t refusal = tg18_call_on(arguments, stack + TG18_STACK_BYTES, tg18_vectors_here());

@@ -3,8 +3,9 @@
     .text
 
 # uint32_t tg18_call_on(const uintptr_t *arguments, void *top, enum tg18_vectors vectors)
-# Six arguments go in registers, six on the new stack, which is then a multiple of 16 at the call as it has to be. rbp holds the way
-# back; like the others that a callee keeps it comes back from the call as it was, so only those that a callee may change are cleared.
+# Six arguments go in registers, six on the new stack, which is then a multiple of 16 at the call as it has to be. rbp
+# holds the way back; like the others that a callee keeps it comes back from the call as it was, so only those that a
+# callee may change are cleared.
     .globl tg18_call_on
     .type tg18_call_on, @function
     .p2align 4

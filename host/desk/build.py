@@ -1,7 +1,8 @@
-"""The kit, and what is built with it and with nothing else: the archive of crate script, and the programs of host/ around it.
+"""The kit, and what is built with it and with nothing else: the archive of crate script, and the programs of host/
+around it.
 
-Programs are x86-64 on every machine, as the archive is. They start under the kit's loader and C library, and on another processor in
-the kit's emulator.
+Programs are x86-64 on every machine, as the archive is. They start under the kit's loader and C library, and on
+another processor in the kit's emulator.
 """
 
 from __future__ import annotations
@@ -28,14 +29,15 @@ PROGRAMS = {
     "runner": ["runner.c"],
     "scrub": ["tests/scrub.c", "tests/stand_in_x86_64.S", "tests/key_x86_64.S"],
     "depth": ["tests/depth.c", "tests/scripts.c", "tests/lent.c"],
-    "guard": ["tests/guard.c", "tests/guard_edges.c", "tests/guard_wrong.c", "tests/guard_scrubbed.c", "tests/scripts.c",
-              "tests/lent.c"],
+    "guard": ["tests/guard.c", "tests/guard_edges.c", "tests/guard_wrong.c", "tests/guard_scrubbed.c",
+              "tests/scripts.c", "tests/lent.c"],
     "replay": ["tests/replay.c", "tests/scripts.c", "tests/lent.c"],
     "key": ["tests/key.c", "tests/key_search.c", "tests/key_x86_64.S", "tests/scripts.c", "tests/lent.c"],
 }
-# No vector instructions in our own C: the scrubbed runner leaves vector registers zero, and nothing after it shall fill them.
-COMPILE = ["--target=x86_64-linux-gnu", "-std=c11", "-O2", "-Wall", "-Wextra", "-Werror", "-fPIC", "-mgeneral-regs-only"]
-COMPILE += ["-nostdinc", "-isystem", "host/kit", "-I", "host", "-c"]
+# No vector instructions in our own C: the scrubbed runner leaves vector registers zero, and nothing after it shall
+# fill them.
+COMPILE = ["--target=x86_64-linux-gnu", "-std=c11", "-O2", "-Wall", "-Wextra", "-Werror", "-fPIC"]
+COMPILE += ["-mgeneral-regs-only", "-nostdinc", "-isystem", "host/kit", "-I", "host", "-c"]
 LINES_OF_A_FAILURE = 30
 
 
@@ -121,13 +123,14 @@ def make_archive(kit: Kit) -> None:
 
 
 def archive(kit: Kit) -> Made:
-    """rt proves crate script anew each time, which takes half a minute; so it is asked only when something has changed."""
+    """rt proves crate script anew each time, which takes half a minute; so it is asked only when something has
+    changed."""
     return Made(ARCHIVE, digest_of(kit, [ROOT / "crates.txt", *sorted((ROOT / "crates").rglob("*"))]))
 
 
 def ran(words: List[str]) -> None:
-    done = subprocess.run(words, cwd=ROOT, stdin=subprocess.DEVNULL, stdout=subprocess.PIPE, stderr=subprocess.STDOUT, text=True,
-                          errors="replace")
+    done = subprocess.run(words, cwd=ROOT, stdin=subprocess.DEVNULL, stdout=subprocess.PIPE, stderr=subprocess.STDOUT,
+                          text=True, errors="replace")
     if done.returncode != 0:
         lines = done.stdout.splitlines()[-LINES_OF_A_FAILURE:]
         raise Trouble(OTHER, *lines, f"tg18: {Path(words[0]).name} failed: {done.returncode}")
@@ -142,8 +145,8 @@ def compiled(kit: Kit, source: str) -> str:
 def linked(kit: Kit, made: Path, objects: List[str]) -> None:
     start = [kit.library(n) for n in ("Scrt1.o", "crti.o", "crtbeginS.o")]
     rest = [kit.library(n) for n in ("libc_nonshared.a", "libc.so.6", "libgcc.a", "crtendS.o", "crtn.o")]
-    ran([kit.tool("ld.lld"), "-pie", "--dynamic-linker", "/lib64/ld-linux-x86-64.so.2", "-z", "noexecstack", "-o", str(made), *start,
-         *objects, str(ARCHIVE), *rest])
+    ran([kit.tool("ld.lld"), "-pie", "--dynamic-linker", "/lib64/ld-linux-x86-64.so.2", "-z", "noexecstack",
+         "-o", str(made), *start, *objects, str(ARCHIVE), *rest])
 
 
 def program_of(kit: Kit, name: str) -> Made:

@@ -55,7 +55,8 @@ def script_bytes(path: str) -> bytes:
 
 
 def script_in(path: str, content: bytes) -> Tuple[bytes, Optional[List[Entry]], Optional[List[int]]]:
-    """The binary script, and of a text its entries and their lines. Every script that is not refused has a byte 0, and no text has."""
+    """The binary script, and of a text its entries and their lines. Every script that is not refused has a byte 0, and
+    no text has."""
     if b"\0" in content:
         return content, None, None
     lines, errors = read_script(content)

@@ -9,8 +9,8 @@ from .numbers import ANSWER_BYTES, PRESS, PRESS_BYTES, STEP_BYTES
 
 
 class Entry(NamedTuple):
-    """A press or a step. A press has kind 0: its key is the address, the bits of its time the value. A step's two unused bytes are
-    left out: nothing looks at them."""
+    """A press or a step. A press has kind 0: its key is the address, the bits of its time the value. A step's two
+    unused bytes are left out: nothing looks at them."""
 
     kind: int
     size: int = 0

@@ -42,7 +42,8 @@ class Words:
         if not WHOLE.fullmatch(word):
             raise BadLine(f"{what} is not a number: {word}")
         # Python refuses to turn thousands of decimal digits into a number.
-        number = int(word.replace("_", ""), 16 if word.startswith("0x") else 10) if len(word) <= MOST_DIGITS else 1 << bits
+        base = 16 if word.startswith("0x") else 10
+        number = int(word.replace("_", ""), base) if len(word) <= MOST_DIGITS else 1 << bits
         if number >> bits:
             raise BadLine(f"{what} does not fit {bits} bits: {word[:MOST_DIGITS]}")
         return number
@@ -75,7 +76,8 @@ class Words:
 
 
 def read_step(w: Words) -> Entry:
-    return Entry(w.whole("the kind", BYTE), w.whole("the size", BYTE), w.whole("the address", WORD), w.whole("the value", WIDE))
+    return Entry(w.whole("the kind", BYTE), w.whole("the size", BYTE), w.whole("the address", WORD),
+                 w.whole("the value", WIDE))
 
 
 READERS: Dict[str, Callable[[Words], Entry]] = {
@@ -98,7 +100,8 @@ READERS: Dict[str, Callable[[Words], Entry]] = {
 
 
 def read_entry(line: str) -> Tuple[bool, Entry]:
-    """Whether it is a press, and the entry. A step may have any kind, 0 too, which is then refused with the whole script."""
+    """Whether it is a press, and the entry. A step may have any kind, 0 too, which is then refused with the whole
+    script."""
     words = line.lower().split()
     if words[0] not in READERS:
         raise BadLine(f"no such word: {words[0]}; there are {', '.join(READERS)}")
@@ -164,7 +167,8 @@ WRITERS: Dict[int, Callable[[Entry], str]] = {
 
 
 def written(entry: Entry) -> str:
-    """The line that is read as this entry. What the kind's own word cannot say, such as a read with a value, `step` says."""
+    """The line that is read as this entry. What the kind's own word cannot say, such as a read with a value, `step`
+    says."""
     line = WRITERS[entry.kind](entry) if entry.kind in WRITERS else step_text(entry)
     try:
         same = read_entry(line)[1] == entry

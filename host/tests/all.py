@@ -14,7 +14,8 @@ from desk.trouble import Trouble
 
 PROGRAMS = ["scrub", "depth", "key", "guard", "replay"]
 GIVEN = {"replay": Path(__file__).with_name("replay.list")}
-# What looks at the process itself: it needs x86-64, as the kit's emulator breaks off where a program opens /proc/self/maps.
+# What looks at the process itself: it needs x86-64, as the kit's emulator breaks off where a program opens
+# /proc/self/maps.
 NOT_EMULATED = ["key"]
 
 

@@ -1,5 +1,5 @@
-// How deep the port's stack goes: a stack full of one byte, scripts of every kind, and the lowest place that has changed.
-// It fails if an eighth of the scrubbed runner's stack is less.
+// How deep the port's stack goes: a stack full of one byte, scripts of every kind, and the lowest place that has
+// changed. It fails if an eighth of the scrubbed runner's stack is less.
 #include "lent.h"
 #include "scripts.h"
 #include "scrubbed.h"
@@ -38,7 +38,7 @@ int main(void) {
     }
     size_t depth = depth_of(&stack);
     int enough = 8 * depth <= TG18_STACK_BYTES;
-    printf("%s depth: %d scripts go %zu bytes deep; the scrubbed runner's stack has %d\n", enough ? "ok" : "FAILED", SCRIPTS, depth,
-           TG18_STACK_BYTES);
+    printf("%s depth: %d scripts go %zu bytes deep; the scrubbed runner's stack has %d\n", enough ? "ok" : "FAILED",
+           SCRIPTS, depth, TG18_STACK_BYTES);
     return !enough;
 }

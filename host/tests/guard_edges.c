@@ -184,7 +184,8 @@ void test_any(void) {
         for (int entry = 0; entry < ENTRIES; entry++) {
             now_at("script %lu at random, %s", (unsigned long)i, entry_names[entry]);
             out[entry] = lend(out_length(&script), (enum edge)(i >> 1 & 1));
-            check_answered(run_over(entries[entry], &unit[entry], &lent, lent.bytes, &out[entry]), &out[entry], &script);
+            uint32_t answer = run_over(entries[entry], &unit[entry], &lent, lent.bytes, &out[entry]);
+            check_answered(answer, &out[entry], &script);
         }
         if (memcmp(out[0].at, out[1].at, out[0].bytes) != 0) {
             fail("plain and scrubbed answer differently");

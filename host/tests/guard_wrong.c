@@ -177,7 +177,8 @@ void test_out_lengths(void) {
 static void try_order(int which, size_t script_cut, uint32_t expected) {
     struct script script = short_script();
     struct lent right = unit.memory[GPIO];
-    struct lent lent = lent_script(&script, script_length(&script) - script_cut, BEFORE_GUARD), out = lend(3, BEFORE_GUARD);
+    struct lent lent = lent_script(&script, script_length(&script) - script_cut, BEFORE_GUARD);
+    struct lent out = lend(3, BEFORE_GUARD);
     if (which == GPIO) {
         unit.memory[GPIO] = lend(5, BEFORE_GUARD);
         keep(&unit.memory[GPIO]);
@@ -203,7 +204,8 @@ static const struct lent nothing = {NULL, 0, NULL, 0, NULL};
 
 void test_null(void) {
     struct script script = short_script();
-    struct lent lent = lent_script(&script, script_length(&script), AFTER_GUARD), out = lend(out_length(&script), AFTER_GUARD);
+    struct lent lent = lent_script(&script, script_length(&script), AFTER_GUARD);
+    struct lent out = lend(out_length(&script), AFTER_GUARD);
     unit_kept();
     for (int entry = 0; entry < ENTRIES; entry++) {
         struct lent no_script = nothing, no_out = nothing;

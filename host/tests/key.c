@@ -1,6 +1,6 @@
-// What a script leaves of a key outside the memories that it was lent. A key of 32 bytes goes into the unit by a script, in one of
-// seven ways; then everything that the process can read is searched for rows of it, the script and the answers set aside. Each case
-// is a process of its own.
+// What a script leaves of a key outside the memories that it was lent. A key of 32 bytes goes into the unit by a
+// script, in one of seven ways; then everything that the process can read is searched for rows of it, the script and
+// the answers set aside. Each case is a process of its own.
 #define _GNU_SOURCE
 #include "key_search.h"
 #include "lent.h"
@@ -21,7 +21,8 @@ static struct lent script_room, out;
 static uint8_t registers[REGISTER_BYTES];
 
 static uint32_t key_word(uint32_t i) {
-    return key_byte(i) | (uint32_t)key_byte(i + 1) << 8 | (uint32_t)key_byte(i + 2) << 16 | (uint32_t)key_byte(i + 3) << 24;
+    return key_byte(i) | (uint32_t)key_byte(i + 1) << 8 | (uint32_t)key_byte(i + 2) << 16 |
+           (uint32_t)key_byte(i + 3) << 24;
 }
 
 // ---- the ways
@@ -110,8 +111,8 @@ static const struct way {
 
 static size_t stacks_seen, stack_not_clear;
 
-// Stands before the C library's function. What the scrubbed runner has unmapped cannot be searched any more, so its stack is looked at
-// here.
+// Stands before the C library's function. What the scrubbed runner has unmapped cannot be searched any more, so its
+// stack is looked at here.
 int munmap(void *at, size_t bytes) {
     if (bytes == TG18_GUARD_BYTES + TG18_STACK_BYTES) {
         const volatile uint8_t *stack = (const volatile uint8_t *)at + TG18_GUARD_BYTES;
@@ -172,7 +173,8 @@ static int is_there_alone(const struct found *found, const struct way *way) {
     size_t met = 0;
     for (size_t i = 0; i < way->theres; i++) {
         for (size_t j = 0; j < found->rows && j < MOST_FOUND; j++) {
-            met += found->row[j].at == unit.memory[way->there[i].memory].at + way->there[i].place && found->row[j].bytes == KEY_BYTES;
+            const uint8_t *there = unit.memory[way->there[i].memory].at + way->there[i].place;
+            met += found->row[j].at == there && found->row[j].bytes == KEY_BYTES;
         }
     }
     return met == way->theres && found->rows == way->theres;
@@ -201,7 +203,8 @@ static void print_found(const struct found *found, const struct found *in_regist
     for (size_t i = 0; i < found->rows && i < MOST_FOUND; i++) {
         printf("%s %zu bytes in %s", i == 0 ? ":" : ",", found->row[i].bytes, where_is(found, i));
     }
-    printf("; longest %zu; in registers longest %zu, %zu bytes of vectors not 0", found->longest, in_registers->longest, vectors_used());
+    printf("; longest %zu; in registers longest %zu, %zu bytes of vectors not 0", found->longest,
+           in_registers->longest, vectors_used());
     if (stacks_seen > 0) {
         printf("; %zu bytes of its stack not 0", stack_not_clear);
     }
@@ -228,7 +231,8 @@ static int try_nothing(const struct test *test) {
     test->way->lay(&script);
     struct found found = search(&in_registers);
     printf("%s key: by %s, script made and not run: %zu rows; longest %zu; %zu bytes searched, skipped:%s\n",
-           found.rows == 0 ? "ok" : "FAILED", test->way->name, found.rows, found.longest, found.searched, found.skipped);
+           found.rows == 0 ? "ok" : "FAILED", test->way->name, found.rows, found.longest, found.searched,
+           found.skipped);
     return found.rows == 0;
 }
 

@@ -1,5 +1,6 @@
-// The searcher holds the key nowhere: it has a table that gives for each byte its place in the key, and counts how many bytes in a row
-// have places in a row. A byte stands at one place only, so that is exact. It reads memory in place, by volatile, one byte at a time.
+// The searcher holds the key nowhere: it has a table that gives for each byte its place in the key, and counts how
+// many bytes in a row have places in a row. A byte stands at one place only, so that is exact. It reads memory in
+// place, by volatile, one byte at a time.
 #define _GNU_SOURCE
 #include "key_search.h"
 #include <fcntl.h>
@@ -81,7 +82,8 @@ static void search_around(struct found *found, struct part part, const struct pa
     for (size_t i = 0; i < asides; i++) {
         const uint8_t *from = aside[i].at, *to = aside[i].at + aside[i].bytes;
         if (from < end && to > part.at) {
-            search_around(found, (struct part){part.name, part.at, from > part.at ? (size_t)(from - part.at) : 0}, aside, asides);
+            const size_t before = from > part.at ? (size_t)(from - part.at) : 0;
+            search_around(found, (struct part){part.name, part.at, before}, aside, asides);
             search_around(found, (struct part){part.name, to, to < end ? (size_t)(end - to) : 0}, aside, asides);
             return;
         }

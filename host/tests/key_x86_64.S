@@ -1,7 +1,8 @@
 # uint32_t called(runner *run, const uintptr_t *arguments, uint8_t *registers, enum tg18_vectors vectors)
-# Calls a runner with twelve arguments, and stores directly afterwards the sixteen general registers, 8 bytes each, and behind them
-# the vector registers, 64 bytes each, as many of those as there are. The call is made 128 KiB below the caller's frame, so that what
-# it leaves on the stack is still there when the search is made, whose own frames lie above.
+# Calls a runner with twelve arguments, and stores directly afterwards the sixteen general registers, 8 bytes each,
+# and behind them the vector registers, 64 bytes each, as many of those as there are. The call is made 128 KiB below
+# the caller's frame, so that what it leaves on the stack is still there when the search is made, whose own frames lie
+# above.
 
     .text
     .globl called
@@ -55,7 +56,10 @@ called:
     vmovups %ymm\n, 128 + 64 * \n(%rcx)
     .endr
     je .Ldone
-    .irp n, 0, 1, 2, 3, 4, 5, 6, 7, 8, 9, 10, 11, 12, 13, 14, 15, 16, 17, 18, 19, 20, 21, 22, 23, 24, 25, 26, 27, 28, 29, 30, 31
+    .irp n, 0, 1, 2, 3, 4, 5, 6, 7, 8, 9, 10, 11, 12, 13, 14, 15
+    vmovups %zmm\n, 128 + 64 * \n(%rcx)
+    .endr
+    .irp n, 16, 17, 18, 19, 20, 21, 22, 23, 24, 25, 26, 27, 28, 29, 30, 31
     vmovups %zmm\n, 128 + 64 * \n(%rcx)
     .endr
 .Ldone:

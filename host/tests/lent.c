@@ -68,6 +68,6 @@ struct unit unit_made(void) {
 
 uint32_t run_over(runner *run, struct unit *unit, const struct lent *script, size_t script_bytes, struct lent *out) {
     struct lent *m = unit->memory;
-    return run(m[RAM].at, m[RAM].bytes, m[SRAM].at, m[SRAM].bytes, m[GPIO].at, m[GPIO].bytes, m[FRAMEBUFFER].at, m[FRAMEBUFFER].bytes,
-               script->at, script_bytes, out->at, out->bytes);
+    return run(m[RAM].at, m[RAM].bytes, m[SRAM].at, m[SRAM].bytes, m[GPIO].at, m[GPIO].bytes, m[FRAMEBUFFER].at,
+               m[FRAMEBUFFER].bytes, script->at, script_bytes, out->at, out->bytes);
 }

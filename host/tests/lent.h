@@ -24,8 +24,8 @@ struct unit {
     struct lent memory[MEMORIES];
 };
 
-typedef uint32_t runner(uint8_t *, size_t, uint8_t *, size_t, uint8_t *, size_t, uint8_t *, size_t, const uint8_t *, size_t, uint8_t *,
-                        size_t);
+typedef uint32_t runner(uint8_t *, size_t, uint8_t *, size_t, uint8_t *, size_t, uint8_t *, size_t, const uint8_t *,
+                        size_t, uint8_t *, size_t);
 
 // With length 0 the pointer is one into a guard.
 struct lent lend(size_t bytes, enum edge edge);

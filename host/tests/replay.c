@@ -1,8 +1,9 @@
-// Runs the scripts of a list on standard input by both entries, from memories that are zero, and compares what is returned and what
-// is left with the Rust device's. `oracle/script/compare -l` writes the list, replay.list; a line of it is
+// Runs the scripts of a list on standard input by both entries, from memories that are zero, and compares what is
+// returned and what is left with the Rust device's. `oracle/script/compare -l` writes the list, replay.list; a line
+// of it is
 //     FAMILY OUT RETURNED ANSWERS RAM SRAM GPIO FRAMEBUFFER SCRIPT
-// OUT is the length of the slice for the answers, whose byte i is 37 * i before; ANSWERS and the next four are digests of all of it
-// and of the memories afterwards, in hex, as is the script; one of no bytes is -.
+// OUT is the length of the slice for the answers, whose byte i is 37 * i before; ANSWERS and the next four are
+// digests of all of it and of the memories afterwards, in hex, as is the script; one of no bytes is -.
 #include "lent.h"
 #include "tg18.h"
 #include <stdio.h>
@@ -97,7 +98,8 @@ static struct line line_of(char *text) {
 
 // ---- comparing
 
-// From 0 each byte makes it 31 times itself and the byte, modulo 2^64. Eight zeros at once, for most of a memory is zero.
+// From 0 each byte makes it 31 times itself and the byte, modulo 2^64. Eight zeros at once, for most of a memory is
+// zero.
 static uint64_t digest(const struct lent *of) {
     const uint64_t eight = 852891037441u; // 31 to the 8th
     uint64_t h = 0;
@@ -114,8 +116,8 @@ static uint64_t digest(const struct lent *of) {
 
 static int same(const struct line *line, int entry, const char *what, uint64_t here, uint64_t rust) {
     if (here != rust) {
-        printf("FAILED replay: line %u (%s), %s: %s %lx, the Rust's %lx\n", line_number, line->family, entry_names[entry], what, here,
-               rust);
+        printf("FAILED replay: line %u (%s), %s: %s %lx, the Rust's %lx\n", line_number, line->family,
+               entry_names[entry], what, here, rust);
     }
     return here == rust;
 }
@@ -161,8 +163,9 @@ int main(void) {
         text = end + 1;
     }
     if (good) {
-        printf("ok replay: scripts: %u, presses and steps in them: %u; plain and scrubbed leave what the Rust device left\n", line_number,
-               steps_run);
+        printf("ok replay: scripts: %u, presses and steps in them: %u; "
+               "plain and scrubbed leave what the Rust device left\n",
+               line_number, steps_run);
     }
     return !good;
 }

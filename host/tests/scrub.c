@@ -1,4 +1,5 @@
-// tg18_run_script_scrubbed around a stand-in for the port (stand_in_x86_64.S) that leaves the same byte wherever it can.
+// tg18_run_script_scrubbed around a stand-in for the port (stand_in_x86_64.S) that leaves the same byte wherever it
+// can.
 #define _GNU_SOURCE
 #include "lent.h"
 #include "scrubbed.h"
@@ -91,7 +92,8 @@ static int vectors_left(void) {
 // The assembly alone: behind it the C code may overwrite registers by chance.
 static void try_call_on(const uintptr_t *arguments) {
     static uint8_t own_stack[65536] __attribute__((aligned(16)));
-    const uintptr_t three[TG18_ARGUMENTS] = {(uintptr_t)arguments, (uintptr_t)own_stack + sizeof own_stack, tg18_vectors_here()};
+    const uintptr_t three[TG18_ARGUMENTS] = {(uintptr_t)arguments, (uintptr_t)own_stack + sizeof own_stack,
+                                             tg18_vectors_here()};
     called((runner *)(uintptr_t)tg18_call_on, three, registers, tg18_vectors_here());
     check("directly after the call: the answer has 32 bits", (registers[0] == LEFT) & (registers[4] == 0));
     check("directly after the call: registers are clear", !general_left() && !vectors_left());

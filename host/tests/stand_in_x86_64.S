@@ -1,5 +1,5 @@
-# uint32_t tg18_run_script(...), in the place of the port: notes its arguments and its stack, and leaves the byte 0xEE in 8 KiB of
-# stack and in every register that it may change. Its answer is 0xEEEEEEEE.
+# uint32_t tg18_run_script(...), in the place of the port: notes its arguments and its stack, and leaves the byte 0xEE
+# in 8 KiB of stack and in every register that it may change. Its answer is 0xEEEEEEEE.
 
     .text
     .globl tg18_run_script
@@ -38,7 +38,10 @@ tg18_run_script:
     vinsertf128 $1, %xmm0, %ymm\n, %ymm\n
     .endr
     je .Lgeneral
-    .irp n, 0, 1, 2, 3, 4, 5, 6, 7, 8, 9, 10, 11, 12, 13, 14, 15, 16, 17, 18, 19, 20, 21, 22, 23, 24, 25, 26, 27, 28, 29, 30, 31
+    .irp n, 0, 1, 2, 3, 4, 5, 6, 7, 8, 9, 10, 11, 12, 13, 14, 15
+    vpbroadcastq %rax, %zmm\n
+    .endr
+    .irp n, 16, 17, 18, 19, 20, 21, 22, 23, 24, 25, 26, 27, 28, 29, 30, 31
     vpbroadcastq %rax, %zmm\n
     .endr
     .irp n, 0, 1, 2, 3, 4, 5, 6, 7

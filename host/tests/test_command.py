@@ -66,7 +66,8 @@ class Command(unittest.TestCase):
     def test_standard_input_and_nothing(self):
         done = tg18("run", "-", stdin=FOUR_BYTES)
         self.expect(done, 0)
-        self.assertEqual(done.stdout.decode().splitlines()[1], "2  line 2  read 4 0x20000000              done  0x11223344")
+        second = done.stdout.decode().splitlines()[1]
+        self.assertEqual(second, "2  line 2  read 4 0x20000000              done  0x11223344")
         self.assertEqual(tg18("run", "-").stdout, b"")
 
     def test_binary_script_and_answers(self):

@@ -106,7 +106,7 @@ module _ (slots : List ℕ) (d : Devices) (n : ℕ) (t : Timer) (word v : ℕ) w
         (s .wrote .devices) n t;
   })
 
-  refused-first : (x : Sounded) → sounding x slots d d word v .wrote .refusal ≢ 0
+  refused-first : (x : Sounded) → sounding x slots d d word v .wrote .refusal ≢ DONE
       → sounding x slots d d word v ≡ sounding x slots d (timerSet d n t) word v
   refused-first SoundFull h = refl
   refused-first Same h = absurd (h refl)
@@ -138,7 +138,7 @@ module _ (slots : List ℕ) (x : Parts) (clock : ℕ) (full : Bool) (n word old 
     number : r .refusal ≡ soundWritten slots (x .devices) (x .devices) clock full word (w .control) .wrote .refusal
     number = ap (λ (z : OwnOut). z .wrote .refusal) k
 
-    pub timer-refused : r .refusal ≢ 0
+    pub timer-refused : r .refusal ≢ DONE
         → ownOut slots₁ (wroteOf r d) ≡ timerWritten slots (x .devices) clock full n word old new
     unfolding timerWritten soundWritten
     timer-refused g =

@@ -42,7 +42,7 @@ pub record OnlyPanel (l l′ : List ℕ) : Type 0 where
 pub record Rest (r : WriteAnswer) (l : List ℕ) (f : List Float) (l′ : List ℕ) (f′ : List Float) : Type 0 where
   pub only : Only (partsIn l f) (partsIn l′ f′)
   pub packed : StaysPacked l f l′ f′
-  pub still : r .refusal ≢ 0 → (r .event ≡ false) × (l′ ≡ l) × (f′ ≡ f)
+  pub still : r .refusal ≢ DONE → (r .event ≡ false) × (l′ ≡ l) × (f′ ≡ f)
 
 -- ---- answers
 

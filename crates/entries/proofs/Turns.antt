@@ -8,7 +8,8 @@ use lib.Dec.{eqb}
 use lib.Ieee.{binary64, ofBits, toBits, ne}
 use lib.ListN.{length}
 use borrow.Author.Tests.{lt-ltb, le-ltb, lt-leb}
-use Rattle.map.specs.Numbers.{BAD-SCRIPT}
+use Rattle.map.specs.Numbers.{PRESS, READ, WRITE, ADVANCE, NEXT, PENDING, TURBO, KEY, HOLD, SOUND, COUNTERS, COLOUR}
+use Rattle.map.specs.Numbers.{WIPE, BAD-SCRIPT}
 use Rattle.whole.specs.Forms.{bitsOf, nought}
 use Rattle.whole.proofs.Choice.{by-less}
 use Rattle.registers.proofs.Cases.{Missed, countFrom, past-missed}
@@ -51,31 +52,31 @@ module _ (m : Machine) (e : Entry) where
       rw j (ap (λ (z : Changed). turn (withSystem m (z .system)) (reply (z .refusal) 0 0 0)) i)
       ∙ rw d at (by-op o false h k)
 
-  pub turn-press : e .kind ≡ 0 → {n : ℕ} {s : System} {a : Answer}
+  pub turn-press : e .kind ≡ PRESS → {n : ℕ} {s : System} {a : Answer}
       → changed n s ≡ pressOf (m .system) (e .address) (ofBits binary64 (e .value)) → a ≡ reply n 0 0 0
       → turn (withSystem m s) a ≡ turnOf m e
   unfolding opOf inBits step
   turn-press k i j = by-changed (steps.press (e .address) (ofBits binary64 (e .value))) _ refl (rw k) (rw k) i j
 
-  pub turn-turbo : e .kind ≡ 6 → {n : ℕ} {s : System} {a : Answer}
+  pub turn-turbo : e .kind ≡ TURBO → {n : ℕ} {s : System} {a : Answer}
       → changed n s ≡ turboOf (m .system) (ofBits binary64 (e .value)) → a ≡ reply n 0 0 0
       → turn (withSystem m s) a ≡ turnOf m e
   unfolding opOf inBits step
   turn-turbo k i j = by-changed (steps.turbo (ofBits binary64 (e .value))) _ refl (rw k) (rw k) i j
 
-  pub turn-live : e .kind ≡ 7 → {n : ℕ} {s : System} {a : Answer}
+  pub turn-live : e .kind ≡ KEY → {n : ℕ} {s : System} {a : Answer}
       → changed n s ≡ liveOf (m .system) (e .address) (not (eqb (e .value) 0)) → a ≡ reply n 0 0 0
       → turn (withSystem m s) a ≡ turnOf m e
   unfolding opOf inBits step
   turn-live k i j = by-changed (steps.live (e .address) (not (eqb (e .value) 0))) _ refl (rw k) (rw k) i j
 
-  pub turn-hold : e .kind ≡ 8 → {n : ℕ} {s : System} {a : Answer}
+  pub turn-hold : e .kind ≡ HOLD → {n : ℕ} {s : System} {a : Answer}
       → changed n s ≡ holdOf (m .system) (e .address) (ofBits binary64 (e .value)) → a ≡ reply n 0 0 0
       → turn (withSystem m s) a ≡ turnOf m e
   unfolding opOf inBits step
   turn-hold k i j = by-changed (steps.hold (e .address) (ofBits binary64 (e .value))) _ refl (rw k) (rw k) i j
 
-  pub turn-read : e .kind ≡ 1 → {r : Read} {a : Answer}
+  pub turn-read : e .kind ≡ READ → {r : Read} {a : Answer}
       → r ≡ readOf (m .system) (m .ram) (m .sram) (m .gpio) (e .address) (e .size)
       → a ≡ reply (r .refusal) (r .value) 0 0 → turn (withSystem m (r .system)) a ≡ turnOf m e
   unfolding opOf inBits replyOf step
@@ -83,14 +84,14 @@ module _ (m : Machine) (e : Entry) where
       rw i (ap (λ (z : Read). turn (withSystem m (z .system)) (reply (z .refusal) (z .value) 0 0)) h)
       ∙ by-op (steps.read (e .address) (e .size)) false (rw k) (rw k)
 
-  pub turn-write : e .kind ≡ 2 → {m₁ : Machine} {n : ℕ} {a : Answer}
+  pub turn-write : e .kind ≡ WRITE → {m₁ : Machine} {n : ℕ} {a : Answer}
       → left m₁ n ≡ writeOf m (e .address) (e .size) (e .value % 2 ^ 32) → a ≡ reply n 0 0 0 → turn m₁ a ≡ turnOf m e
   unfolding opOf inBits replyOf step
   turn-write k h i =
       rw i (ap (λ (z : Left). turn (z .machine) (reply (z .refusal) 0 0 0)) h) ∙ by-op (steps.write (e .address)
       (e .size) (e .value % 2 ^ 32)) false (rw k) (rw k)
 
-  pub turn-advance : e .kind ≡ 3 → {n : ℕ} {s : System} {g : List ℕ} {a : Answer}
+  pub turn-advance : e .kind ≡ ADVANCE → {n : ℕ} {s : System} {g : List ℕ} {a : Answer}
       → moved (changed n s) g ≡ advanceOf (m .system) (m .sram) (m .gpio) (ofBits binary64 (e .value))
       → a ≡ reply n 0 0 0 → turn (machine s (m .ram) (m .sram) g (m .fb)) a ≡ turnOf m e
   unfolding opOf inBits replyOf step
@@ -99,18 +100,18 @@ module _ (m : Machine) (e : Entry) where
       (z .changed .refusal) 0 0 0)) h)
       ∙ by-op (steps.advance (ofBits binary64 (e .value))) false (rw k) (rw k)
 
-  pub turn-next : e .kind ≡ 4 → {x : NextTime} {n : ℕ} {a : Answer} → x ≡ nextOf (m .system) (m .sram)
+  pub turn-next : e .kind ≡ NEXT → {x : NextTime} {n : ℕ} {a : Answer} → x ≡ nextOf (m .system) (m .sram)
       → n ≡ bitsOf (x .time)
       → a ≡ reply (x .refusal) n 0 0 → turn m a ≡ turnOf m e
   unfolding opOf inBits replyOf step
   turn-next k h b i = rw (i, b, h) (rw no-bits at (by-op steps.nextEvent true (rw k) (rw k)))
 
-  pub turn-pending : e .kind ≡ 5 → {n : ℕ} {a : Answer} → n ≡ pendingOf (m .system) → a ≡ reply 0 n 0 0
+  pub turn-pending : e .kind ≡ PENDING → {n : ℕ} {a : Answer} → n ≡ pendingOf (m .system) → a ≡ reply 0 n 0 0
       → turn m a ≡ turnOf m e
   unfolding opOf inBits replyOf step
   turn-pending k h i = rw (i, h) (by-op steps.pending false (rw k) (rw k))
 
-  pub turn-take : e .kind ≡ 9 → {n : ℕ} {x : Event} {s : System} {a : Answer}
+  pub turn-take : e .kind ≡ SOUND → {n : ℕ} {x : Event} {s : System} {a : Answer}
       → _≡_ {A = Taken} (record { refusal = n; event = x; system = s }) (takeOf (m .system))
       → a ≡ soundReply n x → turn (withSystem m s) a ≡ turnOf m e
   unfolding opOf inBits replyOf step
@@ -118,16 +119,16 @@ module _ (m : Machine) (e : Entry) where
       rw i (ap (λ (z : Taken). turn (withSystem m (z .system)) (soundReply (z .refusal) (z .event))) h) ∙ by-op
       steps.takeEvent true (rw k) (rw k)
 
-  pub turn-counters : e .kind ≡ 10 → {a : Answer} → a ≡ countersReply (m .system .devices) → turn m a ≡ turnOf m e
+  pub turn-counters : e .kind ≡ COUNTERS → {a : Answer} → a ≡ countersReply (m .system .devices) → turn m a ≡ turnOf m e
   unfolding opOf inBits replyOf step
   turn-counters k i = rw i (by-op steps.counters false (rw k) (rw k))
 
-  pub turn-pixel : e .kind ≡ 11 → {c : Colours} {a : Answer} → c ≡ pixelAt (m .fb) (e .address)
+  pub turn-pixel : e .kind ≡ COLOUR → {c : Colours} {a : Answer} → c ≡ pixelAt (m .fb) (e .address)
       → a ≡ colourReply c → turn m a ≡ turnOf m e
   unfolding opOf inBits replyOf step
   turn-pixel k h i = rw (i, h) (by-op (steps.pixel (e .address)) false (rw k) (rw k))
 
-  pub turn-wipe : e .kind ≡ 12 → {m₁ : Machine} {a : Answer}
+  pub turn-wipe : e .kind ≡ WIPE → {m₁ : Machine} {a : Answer}
       → m₁ ≡ wipedOf (length (m .ram)) (length (m .sram)) (length (m .gpio)) (length (m .fb)) → a ≡ reply 0 0 0 0
       → turn m₁ a ≡ turnOf m e
   unfolding opOf inBits replyOf step

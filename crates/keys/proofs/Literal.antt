@@ -9,6 +9,7 @@ use lib.Dec.{T, eqb}
 use lib.ListN.{length, getD, set, length-set, length-append, List·getD-append}
 use lib.Seq.{getD-set-same}
 use lib.Ieee.{Float, nan, binary64, ofBits, fits, lt, le}
+use Rattle.map.specs.Numbers.{DONE}
 use Rattle.whole.specs.Limits.{goodTime}
 use Rattle.keys.specs.declared.Keys.{Keys}
 use Rattle.keys.specs.Keys.{freshButtons}
@@ -108,7 +109,8 @@ press-same : (s : Sides) (key : ℕ) (at : Float) → T (fits binary64 at) → S
 unfolding sidesAfter push placed
 press-same s key at f w =
     press-each (s .script) key at (s .now)
-    (λ (o : Outcome). Same (sides (o .script) (cond (eqb (o .refusal) 0) (push (s .list) at key) (s .list)) (s .now)))
+    (λ (o : Outcome). Same (sides (o .script) (cond (eqb (o .refusal) DONE) (push (s .list) at key) (s .list))
+    (s .now)))
     w w w put
   where
     put : key ≤ 2 → T (goodTime at) → freeOf (s .script .starts) (s .script .count) (s .now) < 64

@@ -6,6 +6,7 @@ use mathlib.Core.List.{List, [], _∷_, _++_}
 use lib.Dec.{T, eqb}
 use lib.ListN.{length}
 use lib.Ieee.{Float, binary64, fits, le}
+use Rattle.map.specs.Numbers.{DONE}
 use Rattle.whole.specs.Bounds.{Clear}
 use Rattle.whole.specs.Limits.{goodTime}
 use Rattle.keys.specs.declared.Held.{Held}
@@ -53,7 +54,7 @@ freshSides = sides (scriptOf freshButtons) (record { starts = []; codes = [] }) 
 
 unfoldable pub sidesAfter : Sides → Act → Sides
 sidesAfter s (presses key at) =
-    sides (pressOf (s .script) key at (s .now) .script) (cond (eqb (pressOf (s .script) key at (s .now) .refusal) 0)
+    sides (pressOf (s .script) key at (s .now) .script) (cond (eqb (pressOf (s .script) key at (s .now) .refusal) DONE)
     (push (s .list) at key) (s .list))
     (s .now)
 sidesAfter s (goes time) = sides (s .script) (s .list) time

@@ -11,10 +11,10 @@ use lib.ListN.{length, getD, set, replicate}
 use lib.Seq.{getD-set-same, getD-set-other}
 use borrow.Author.Tests.{eq-eqb, ne-eqb, lt-ltb, le-ltb, lt-leb, le-leb, ltb-true, ltb-false, eqb-true}
 use borrow.Author.Tests.{eqb-false, not-false}
+use Rattle.map.specs.Numbers.{BAD-MEMORY, BAD-SCRIPT, OUT-TOO-SHORT, PRESS}
 use Rattle.memory.specs.Bytes.{loaded, storedAt}
 use Rattle.memory.proofs.Cases.{load-none, load-front}
-use Rattle.whole.proofs.Choice.{both}
-use Rattle.whole.proofs.Choice.{by-same, by-less}
+use Rattle.whole.proofs.Choice.{both, by-same, by-less}
 use Rattle.system.specs.declared.System.{System}
 use Rattle.system.specs.System.{machine, freshSystem}
 use Rattle.entries.specs.declared.Entry.{Entry}
@@ -221,7 +221,7 @@ module _ (s : List ℕ) (p : ℕ) where
   unfolding entryAt
   entry-press i from h f e = rw (lt-ltb _ _ h, ← f) e
 
-  pub press-kind : (from : ℕ) {e : Entry} → e ≡ pressFrom s from → e .kind ≡ 0
+  pub press-kind : (from : ℕ) {e : Entry} → e ≡ pressFrom s from → e .kind ≡ PRESS
   unfolding pressFrom
   press-kind from e = ap (λ (z : Entry). z .kind) e
 
@@ -291,35 +291,42 @@ module _ (s : List ℕ) (p : ℕ) where
   both-run k u e f = e ∙ (rw (add-sub-cancel-left p k) at f)
 
 -- from whatever turns out to be the fresh state
-pub run-fresh : (m r g f l : List ℕ) (es : List Entry) {x : System} {t : RunState} → x ≡ freshSystem
-    → t ≡ afterEntries (runState (machine x m r g f) l) 4 es
-    → t ≡ afterEntries (runState (machine freshSystem m r g f) l) 4 es
-run-fresh m r g f l es h e = e ∙ ap (λ (z : System). afterEntries (runState (machine z m r g f) l) 4 es) h
+pub run-fresh : (ram sram gpio fb out : List ℕ) (es : List Entry) {x : System} {t : RunState} → x ≡ freshSystem
+    → t ≡ afterEntries (runState (machine x ram sram gpio fb) out) 4 es
+    → t ≡ afterEntries (runState (machine freshSystem ram sram gpio fb) out) 4 es
+run-fresh ram sram gpio fb out es h e =
+    e ∙ ap (λ (z : System). afterEntries (runState (machine z ram sram gpio fb) out) 4 es) h
 
 -- ---- the ends of a script
 
-module _ (m r g f s l : List ℕ) where
-  pub run-bad : {b : Bool} → b ≡ badScript s → b ≡ true → ended 10 m r g f l ≡ runOf m r g f s l
+module _ (ram sram gpio fb script out : List ℕ) where
+  pub run-bad : {b : Bool} → b ≡ badScript script → b ≡ true
+      → ended BAD-SCRIPT ram sram gpio fb out ≡ runOf ram sram gpio fb script out
   unfolding runOf
   run-bad e h = rw (← e, h)
 
-  module _ {b : Bool} (e : b ≡ badScript s) (h : b ≡ false) {p k : ℕ} (i : p ≡ pressesIn s) (j : k ≡ stepsIn s p)
-    where
-      pub run-short : length l < 4 + answerBytes * (p + k) → ended 11 m r g f l ≡ runOf m r g f s l
-      unfolding runOf outTooShort
-      run-short d = rw (← e, h, ← i, ← j, lt-ltb _ _ d)
+  module _ {b : Bool} (e : b ≡ badScript script) (h : b ≡ false) {p k : ℕ} (i : p ≡ pressesIn script)
+      (j : k ≡ stepsIn script p) where
+    pub run-short : length out < 4 + answerBytes * (p + k)
+        → ended OUT-TOO-SHORT ram sram gpio fb out ≡ runOf ram sram gpio fb script out
+    unfolding runOf outTooShort
+    run-short d = rw (← e, h, ← i, ← j, lt-ltb _ _ d)
 
-      pub run-done : 4 + answerBytes * (p + k) ≤ length l → {l′ : List ℕ} {x : Ended} → l′ ≡ storedAt l 0 4 (p + k)
-          → x ≡ endOf (afterEntries (runState (machine freshSystem m r g f) l′) 4 (entriesFrom s p (p + k) 0))
-          → x ≡ runOf m r g f s l
-      unfolding runOf outTooShort
-      run-done d y x = rw (← e, h, ← i, ← j, le-ltb _ _ d, ← y) x
+    pub run-done : 4 + answerBytes * (p + k) ≤ length out → {out′ : List ℕ} {x : Ended}
+        → out′ ≡ storedAt out 0 4 (p + k)
+        → x ≡ endOf (afterEntries (runState (machine freshSystem ram sram gpio fb) out′) 4
+        (entriesFrom script p (p + k) 0))
+        → x ≡ runOf ram sram gpio fb script out
+    unfolding runOf outTooShort
+    run-done d y x = rw (← e, h, ← i, ← j, le-ltb _ _ d, ← y) x
 
-  pub script-bad : {b : Bool} → b ≡ badMemory m r g f → b ≡ true → ended 7 m r g f l ≡ scriptOf m r g f s l
+  pub script-bad : {b : Bool} → b ≡ badMemory ram sram gpio fb → b ≡ true
+      → ended BAD-MEMORY ram sram gpio fb out ≡ scriptOf ram sram gpio fb script out
   unfolding scriptOf
   script-bad e h = rw (← e, h)
 
-  pub script-run : {b : Bool} {x : Ended} → b ≡ badMemory m r g f → b ≡ false → x ≡ runOf m r g f s l
-      → x ≡ scriptOf m r g f s l
+  pub script-run : {b : Bool} {x : Ended} → b ≡ badMemory ram sram gpio fb → b ≡ false
+      → x ≡ runOf ram sram gpio fb script out
+      → x ≡ scriptOf ram sram gpio fb script out
   unfolding scriptOf
   script-run e h x = rw (← e, h) x

@@ -6,6 +6,7 @@ ghost use mathlib.Core.List.{List};
 ghost use Prim.Native.Nat.{ℕ, _+_, _-_, _*_, _≤_};
 ghost use lib.Ieee.{Float};
 ghost use lib.ListN.{length};
+ghost use Rattle.map.specs.Numbers.{DONE};
 ghost use Rattle.system.specs.System.{machine, freshSystem};
 ghost use Rattle.state.specs.Bank.{partsIn};
 ghost use Rattle.system.specs.Bank.{machineOf};
@@ -233,7 +234,7 @@ fn run_fresh(
 )
     requires { ⌜ (p ≤ mostPresses) × (k ≤ mostSteps) × (behindPresses p + stepBytes * k ≤ length (now script))
         × (4 + answerBytes * (p + k) ≤ length (now out)) × (kindsFrom (now script) (behindPresses p) k ≡ true) ⌝ }
-    ensures { λ _. ⌜ ended 0 (now (ram .exit)) (now (sram .exit)) (now (gpio .exit)) (now (fb .exit))
+    ensures { λ _. ⌜ ended DONE (now (ram .exit)) (now (sram .exit)) (now (gpio .exit)) (now (fb .exit))
         (now (out .exit))
         ≡ endOf
         (afterEntries

@@ -7,6 +7,7 @@ use mathlib.Core.List.{List, [], _∷_, _++_}
 use native.Mathlib.Omega.{arith}
 use lib.ListN.{length, getD}
 use borrow.Author.Tests.{ltb-false}
+use Rattle.map.specs.Numbers.{DONE, BAD-MEMORY, BAD-SCRIPT, OUT-TOO-SHORT}
 use Rattle.whole.specs.Forms.{bitsOf}
 use Rattle.memory.specs.Bytes.{loaded}
 use Rattle.memory.proofs.Stored.{store-length, byte-other, load-store}
@@ -72,91 +73,104 @@ one-answer m (b ∷ before) e later l at h =
 
 -- ---- the whole
 
-module _ (m r g f s l : List ℕ) where
+module _ (ram sram gpio fb script out : List ℕ) where
   -- by whether it is 7, 10, 11
   abbrev whole : Bool → Bool → Bool → Ended
-  whole a b c = cond a (ended 7 m r g f l)
-      (cond b (ended 10 m r g f l) (cond c (ended 11 m r g f l)
-      (endOf (afterEntries (startOf m r g f s l) 4 (entriesOf s)))))
+  whole a b c = cond a (ended BAD-MEMORY ram sram gpio fb out)
+      (cond b (ended BAD-SCRIPT ram sram gpio fb out) (cond c (ended OUT-TOO-SHORT ram sram gpio fb out)
+      (endOf (afterEntries (startOf ram sram gpio fb script out) 4 (entriesOf script)))))
 
   -- 7, 10, 11 IN THIS ORDER, or done
-  pub refusals-in-order : scriptOf m r g f s l .refusal ≡ cond (badMemory m r g f) 7
-      (cond (badScript s) 10 (cond (outTooShort s l) 11 0))
+  pub refusals-in-order : scriptOf ram sram gpio fb script out .refusal ≡ cond (badMemory ram sram gpio fb) BAD-MEMORY
+      (cond (badScript script) BAD-SCRIPT (cond (outTooShort script out) OUT-TOO-SHORT DONE))
   unfolding scriptOf runOf
-  refusals-in-order = by (badMemory m r g f) (badScript s) (outTooShort s l)
+  refusals-in-order = by (badMemory ram sram gpio fb) (badScript script) (outTooShort script out)
     where
-      by : (a b c : Bool) → whole a b c .refusal ≡ cond a 7 (cond b 10 (cond c 11 0))
+      by : (a b c : Bool) → whole a b c .refusal ≡ cond a BAD-MEMORY (cond b BAD-SCRIPT (cond c OUT-TOO-SHORT DONE))
       by true b c = refl
       by false true c = refl
       by false false true = refl
       by false false false = refl
 
   -- A SCRIPT THAT IS REFUSED CHANGES NOTHING: memories and output as they were
-  pub script-unchanged : scriptOf m r g f s l .refusal ≢ 0
-      → scriptOf m r g f s l ≡ ended (scriptOf m r g f s l .refusal) m r g f l
+  pub script-unchanged : scriptOf ram sram gpio fb script out .refusal ≢ DONE
+      → scriptOf ram sram gpio fb script out
+      ≡ ended (scriptOf ram sram gpio fb script out .refusal) ram sram gpio fb out
   unfolding scriptOf runOf
-  script-unchanged h = by (badMemory m r g f) (badScript s) (outTooShort s l) h
+  script-unchanged h = by (badMemory ram sram gpio fb) (badScript script) (outTooShort script out) h
     where
-      by : (a b c : Bool) → whole a b c .refusal ≢ 0 → whole a b c ≡ ended (whole a b c .refusal) m r g f l
+      by : (a b c : Bool) → whole a b c .refusal ≢ DONE
+          → whole a b c ≡ ended (whole a b c .refusal) ram sram gpio fb out
       by true b c h = refl
       by false true c h = refl
       by false false true h = refl
       by false false false h = absurd (h refl)
 
-module _ (m r g f s l : List ℕ) (ok : Accepted m r g f s l) where
+module _ (ram sram gpio fb script out : List ℕ) (ok : Accepted ram sram gpio fb script out) where
   -- WHAT A SCRIPT LEAVES: the machine after its operations; the count, and their answers behind it
-  pub script-folds : scriptOf m r g f s l ≡ endOf (runState (after (start m r g f) (opsOf (entriesOf s)))
-      (laidAll (withCount s l) 4 (answered m r g f s)))
+  pub script-folds : scriptOf ram sram gpio fb script out
+      ≡ endOf (runState (after (start ram sram gpio fb) (opsOf (entriesOf script)))
+      (laidAll (withCount script out) 4 (answered ram sram gpio fb script)))
   unfolding scriptOf runOf
-  script-folds = rw (ok .memory, ok .script, ok .room) (ap endOf (runner-folds (startOf m r g f s l) 4 (entriesOf s)))
+  script-folds = rw (ok .memory, ok .script, ok .room)
+      (ap endOf (runner-folds (startOf ram sram gpio fb script out) 4 (entriesOf script)))
 
-  out-is : scriptOf m r g f s l .out ≡ laidAll (withCount s l) 4 (answered m r g f s)
+  out-is : scriptOf ram sram gpio fb script out .out
+      ≡ laidAll (withCount script out) 4 (answered ram sram gpio fb script)
   out-is = ap (λ (x : Ended). x .out) script-folds
 
-  room : 4 + answerBytes * entriesIn s ≤ length l
+  room : 4 + answerBytes * entriesIn script ≤ length out
   unfolding outTooShort
-  room = ltb-false (length l) (4 + answerBytes * entriesIn s) (ok .room)
+  room = ltb-false (length out) (4 + answerBytes * entriesIn script) (ok .room)
 
   -- the output begins with the count p + s
-  pub count-first : loaded (scriptOf m r g f s l .out) 0 4 ≡ entriesIn s
-  count-first = rw out-is (all-before (withCount s l) 4 (answered m r g f s) 0 4 four ∙ load-store l 0 4 (entriesIn s)
-      four enough ∙ small)
+  pub count-first : loaded (scriptOf ram sram gpio fb script out .out) 0 4 ≡ entriesIn script
+  count-first = rw out-is (all-before (withCount script out) 4 (answered ram sram gpio fb script) 0 4 four
+      ∙ load-store out 0 4 (entriesIn script) four enough ∙ small)
     where
       four : 4 ≤ 4
       four = omega arith
 
-      enough : 4 ≤ length l
-      enough = let h : 4 + answerBytes * entriesIn s ≤ length l = room in omega arith
+      enough : 4 ≤ length out
+      enough = let h : 4 + answerBytes * entriesIn script ≤ length out = room in omega arith
 
-      small : entriesIn s % 2 ^ 32 ≡ entriesIn s
-      small = few-entries s (ok .script)
+      small : entriesIn script % 2 ^ 32 ≡ entriesIn script
+      small = few-entries script (ok .script)
 
   -- EACH ANSWER IS THE BUS'S: that of the entry's operation in the machine after those before it
-  pub each-answer : (before later : List Entry) (e : Entry) → entriesOf s ≡ before ++ (e ∷ later)
-      → answerAt (scriptOf m r g f s l .out) (4 + answerBytes * length before) ≡ fitted
-      (replyOf (inBits (e .kind)) (step (after (start m r g f) (opsOf before)) (opOf e)))
+  pub each-answer : (before later : List Entry) (e : Entry) → entriesOf script ≡ before ++ (e ∷ later)
+      → answerAt (scriptOf ram sram gpio fb script out .out) (4 + answerBytes * length before) ≡ fitted
+      (replyOf (inBits (e .kind)) (step (after (start ram sram gpio fb) (opsOf before)) (opOf e)))
   unfolding turnOf
   each-answer before later e split =
-      let full : 4 + answerBytes * length (before ++ (e ∷ later)) ≤ length (withCount s l) =
-      rw (← split, entries-count s (pressesIn s) (entriesIn s) 0, store-length l 0 4 (entriesIn s)) room in
-      rw (out-is, split) (one-answer (start m r g f) before e later (withCount s l) 4 full)
+      let full : 4 + answerBytes * length (before ++ (e ∷ later)) ≤ length (withCount script out) =
+      rw (
+        ← split,
+        entries-count script (pressesIn script) (entriesIn script) 0,
+        store-length out 0 4 (entriesIn script),
+      ) room in
+      rw (out-is, split) (one-answer (start ram sram gpio fb) before e later (withCount script out) 4 full)
 
   -- later bytes stay, and so does the length
-  pub later-stay : (p : ℕ) → 4 + answerBytes * entriesIn s ≤ p → getD (scriptOf m r g f s l .out) p 0 ≡ getD l p 0
+  pub later-stay : (p : ℕ) → 4 + answerBytes * entriesIn script ≤ p
+      → getD (scriptOf ram sram gpio fb script out .out) p 0 ≡ getD out p 0
   later-stay p h =
-      let n : length (answered m r g f s) ≡ entriesIn s = answers-count (start m r g f) (entriesOf s) ∙ entries-count
-      s (pressesIn s) (entriesIn s) 0 in
-      let h₁ : 4 + answerBytes * length (answered m r g f s) ≤ p = rw n h in
+      let n : length (answered ram sram gpio fb script) ≡ entriesIn script =
+      answers-count (start ram sram gpio fb) (entriesOf script)
+      ∙ entries-count script (pressesIn script) (entriesIn script) 0 in
+      let h₁ : 4 + answerBytes * length (answered ram sram gpio fb script) ≤ p = rw n h in
       let h₂ : 0 + 4 ≤ p = omega arith in
-      rw out-is (all-behind (withCount s l) 4 (answered m r g f s) p h₁ ∙ byte-other l 0 4 (entriesIn s) p (inr h₂))
+      rw out-is (all-behind (withCount script out) 4 (answered ram sram gpio fb script) p h₁
+      ∙ byte-other out 0 4 (entriesIn script) p (inr h₂))
 
-  pub length-stays : length (scriptOf m r g f s l .out) ≡ length l
-  length-stays = rw out-is (all-length (withCount s l) 4 (answered m r g f s) ∙ store-length l 0 4 (entriesIn s))
+  pub length-stays : length (scriptOf ram sram gpio fb script out .out) ≡ length out
+  length-stays = rw out-is (all-length (withCount script out) 4 (answered ram sram gpio fb script)
+      ∙ store-length out 0 4 (entriesIn script))
 
 -- ---- a refused entry
 
-plain-reply : (m : Machine) (b : Bool) (o : Outcome) → (o .refusal ≢ 0 → o ≡ plainly m (o .refusal))
-    → replyOf b o .refusal ≢ 0
+plain-reply : (m : Machine) (b : Bool) (o : Outcome) → (o .refusal ≢ DONE → o ≡ plainly m (o .refusal))
+    → replyOf b o .refusal ≢ DONE
     → turn (o .machine) (replyOf b o) ≡ turn m (reply (replyOf b o .refusal) 0 0 0)
 unfolding replyOf
 plain-reply m true o plain h =
@@ -166,7 +180,7 @@ plain-reply m false o plain h = ap (λ (z : Outcome). turn (z .machine) (reply (
     (plain h)
 
 -- A REFUSED PRESS OR STEP CHANGES NOTHING: the same machine, zeros beside the number
-pub entry-unchanged : (m : Machine) (e : Entry) → turnOf m e .answer .refusal ≢ 0
+pub entry-unchanged : (m : Machine) (e : Entry) → turnOf m e .answer .refusal ≢ DONE
     → turnOf m e ≡ turn m (reply (turnOf m e .answer .refusal) 0 0 0)
 unfolding turnOf
 entry-unchanged m e h = plain-reply m (inBits (e .kind)) (step m (opOf e)) (refused-unchanged m (opOf e)) h

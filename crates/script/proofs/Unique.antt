@@ -5,11 +5,12 @@ use mathlib.Core.List.{List}
 use Rattle.whole.proofs.Unique.{unique}
 use Rattle.runner.specs.Script.{Ended, ended}
 
--- of tg18_run_script and of runner::run::run
-pub one-run : (d : Ended) (i j : ℕ) (m n r q g h f b l k : List ℕ) → ended i m r g f l ≡ d → ended j n q h b k ≡ d
-    → (i ≡ j) × (m ≡ n) × (r ≡ q) × (g ≡ h) × (f ≡ b) × (l ≡ k)
-one-run d i j m n r q g h f b l k x y =
-    let e : ended i m r g f l ≡ ended j n q h b k = unique x y in (
+-- of tg18_run_script and of runner::loops::run_script
+pub one-run : (d : Ended) (i j : ℕ) (ram ram′ sram sram′ gpio gpio′ fb fb′ out out′ : List ℕ)
+    → ended i ram sram gpio fb out ≡ d → ended j ram′ sram′ gpio′ fb′ out′ ≡ d
+    → (i ≡ j) × (ram ≡ ram′) × (sram ≡ sram′) × (gpio ≡ gpio′) × (fb ≡ fb′) × (out ≡ out′)
+one-run d i j ram ram′ sram sram′ gpio gpio′ fb fb′ out out′ x y =
+    let e : ended i ram sram gpio fb out ≡ ended j ram′ sram′ gpio′ fb′ out′ = unique x y in (
       ap (λ (o : Ended). o .refusal) e,
       ap (λ (o : Ended). o .ram) e,
       ap (λ (o : Ended). o .sram) e,

@@ -17,9 +17,9 @@ use Rattle.entries.specs.Turn.{opOf, turnOf}
 use Rattle.script.specs.Fold.{start, opsOf}
 
 -- the limits are of the state alone, so whatever memories are lent
-start-limits : (m r g f : List ℕ) → WithinLimits (start m r g f)
+start-limits : (ram sram gpio fb : List ℕ) → WithinLimits (start ram sram gpio fb)
 unfolding wipedOf
-start-limits m r g f =
+start-limits ram sram gpio fb =
     let w = fresh-limits 0 0 0 0 in record {
       registers = w .registers;
       clocks = w .clocks;
@@ -29,8 +29,9 @@ start-limits m r g f =
       keys = w .keys;
     }
 
-pub script-limits : (m r g f : List ℕ) (es : List Entry) → WithinLimits (after (start m r g f) (opsOf es))
-script-limits m r g f es = after-limits (start m r g f) (opsOf es) (start-limits m r g f)
+pub script-limits : (ram sram gpio fb : List ℕ) (es : List Entry)
+    → WithinLimits (after (start ram sram gpio fb) (opsOf es))
+script-limits ram sram gpio fb es = after-limits (start ram sram gpio fb) (opsOf es) (start-limits ram sram gpio fb)
 
 reply-refusal : (b : Bool) (o : Outcome) → replyOf b o .refusal ≡ o .refusal
 unfolding replyOf
@@ -38,10 +39,11 @@ reply-refusal true o = refl
 reply-refusal false o = refl
 
 -- the number that an entry is answered, behind those before it
-pub entry-in-order : (m r g f : List ℕ) (before : List Entry) (e : Entry)
-    → turnOf (after (start m r g f) (opsOf before)) e .answer .refusal ≡ refusalOf
-    (after (start m r g f) (opsOf before)) (opOf e)
+pub entry-in-order : (ram sram gpio fb : List ℕ) (before : List Entry) (e : Entry)
+    → turnOf (after (start ram sram gpio fb) (opsOf before)) e .answer .refusal ≡ refusalOf
+    (after (start ram sram gpio fb) (opsOf before)) (opOf e)
 unfolding turnOf
-entry-in-order m r g f before e =
-    let now = after (start m r g f) (opsOf before) in
-    reply-refusal (inBits (e .kind)) (step now (opOf e)) ∙ refused-in-order now (opOf e) (script-limits m r g f before)
+entry-in-order ram sram gpio fb before e =
+    let now = after (start ram sram gpio fb) (opsOf before) in
+    reply-refusal (inBits (e .kind)) (step now (opOf e))
+    ∙ refused-in-order now (opOf e) (script-limits ram sram gpio fb before)

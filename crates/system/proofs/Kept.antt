@@ -57,9 +57,9 @@ silence-held : ToneWithin silence
 unfolding ofBits le
 silence-held = record { frequency = lit≤ tt; from = tt; to = tt }
 
-pub fresh-limits : (m r g f : ℕ) → WithinLimits (wipedOf m r g f)
+pub fresh-limits : (ram sram gpio fb : ℕ) → WithinLimits (wipedOf ram sram gpio fb)
 unfolding wipedOf freshSystem freshDevices
-fresh-limits m r g f = record {
+fresh-limits ram sram gpio fb = record {
   registers = tidy-fresh;
   clocks = time-limits.fresh-within;
   rtc = fresh-latched _ (time-limits.fresh-within .times .game-limit);

@@ -47,5 +47,5 @@ after-limits m [] w = w
 after-limits m (o ∷ os) w = after-limits (step m o .machine) os (step-limits m o w)
 
 -- over memories of any lengths
-pub run-limits : (m r g f : ℕ) (os : List Op) → WithinLimits (after (wipedOf m r g f) os)
-run-limits m r g f os = after-limits (wipedOf m r g f) os (fresh-limits m r g f)
+pub run-limits : (ram sram gpio fb : ℕ) (os : List Op) → WithinLimits (after (wipedOf ram sram gpio fb) os)
+run-limits ram sram gpio fb os = after-limits (wipedOf ram sram gpio fb) os (fresh-limits ram sram gpio fb)

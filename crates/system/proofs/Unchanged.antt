@@ -6,6 +6,7 @@ use mathlib.Core.List.{List}
 use mathlib.Core.Logic.{_≢_, _⊎_, inl, inr}
 use lib.Dec.{eqb, leb}
 use lib.Ieee.{Float}
+use Rattle.map.specs.Numbers.{DONE}
 use Rattle.whole.specs.Limits.{goodTime}
 use Rattle.whole.proofs.Words.{either}
 use Rattle.registers.specs.declared.Registers.{Registers}
@@ -70,7 +71,7 @@ put-number r a v =
 
 -- what was answered left the own words and the devices as they were
 abbrev SaidPlainly : List ℕ → Devices → OwnOut → Type 0
-SaidPlainly slots d x = x .wrote .refusal ≢ 0 → x ≡ ownOut slots (answer (x .wrote .refusal) d)
+SaidPlainly slots d x = x .wrote .refusal ≢ DONE → x ≡ ownOut slots (answer (x .wrote .refusal) d)
 
 module _ (slots : List ℕ) (d : Devices) (clock : ℕ) (full : Bool) where
   sound-plain : (next : Devices) (word v : ℕ) → SaidPlainly slots d (soundWritten slots d next clock full word v)
@@ -91,7 +92,7 @@ module _ (slots : List ℕ) (d : Devices) (clock : ℕ) (full : Bool) where
 
 -- the bus is as it was, and no event was made
 abbrev BusPlainly : World → Out → Type 0
-BusPlainly w x = x .refusal ≢ 0 → x ≡ out w (x .refusal) false
+BusPlainly w x = x .refusal ≢ DONE → x ≡ out w (x .refusal) false
 
 store-plain : (w : World) (word new : ℕ)
     → BusPlainly w (bus.byStore w (storedWord (w .registers) (w .devices) word new))
@@ -124,7 +125,7 @@ write-plain w full a n v =
 -- ---- each operation
 
 abbrev Plainly : Machine → Outcome → Type 0
-Plainly m x = x .refusal ≢ 0 → x ≡ plainly m (x .refusal)
+Plainly m x = x .refusal ≢ DONE → x ≡ plainly m (x .refusal)
 
 module _ (m : Machine) where
   read-plainly : (a n : ℕ) → Plainly m (step m (read a n))
@@ -198,7 +199,7 @@ module _ (m : Machine) where
       (λ k t l h. absurd (h refl))
 
 -- A REFUSAL CHANGES NOTHING
-pub refused-unchanged : (m : Machine) (o : Op) → step m o .refusal ≢ 0 → step m o ≡ plainly m (step m o .refusal)
+pub refused-unchanged : (m : Machine) (o : Op) → step m o .refusal ≢ DONE → step m o ≡ plainly m (step m o .refusal)
 unfolding step
 refused-unchanged m (read a n) h = read-plainly m a n h
 refused-unchanged m (write a n v) h = write-plainly m a n v h

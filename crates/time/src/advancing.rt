@@ -7,7 +7,7 @@ ghost use mathlib.Core.List.{List};
 ghost use Prim.Native.Nat.{_<_};
 ghost use lib.Ieee.{Float, binary64, ofBits};
 ghost use lib.ListN.{getD};
-ghost use Rattle.map.specs.Numbers.{TIMER-COUNT};
+ghost use Rattle.map.specs.Numbers.{DONE, TIMER-COUNT};
 ghost use Rattle.state.specs.Parts.{none, timerPut, timersPut};
 ghost use Rattle.state.specs.Bank.{timersIn, irqIn, clocksIn, keysIn, partsIn};
 ghost use Rattle.state.specs.Packed.{StaysPacked, Answered};
@@ -149,7 +149,7 @@ fn move_to(
     clock: u32,
     t: Times,
 )
-    ensures { λ _. ⌜ (movedBank (now (slots .exit)) (now (gpio .exit)) 0
+    ensures { λ _. ⌜ (movedBank (now (slots .exit)) (now (gpio .exit)) DONE
         (partsIn (now (cells .exit)) (now (floats .exit)))
         ≡ movesOf (partsIn (now (cells .entry)) (now (floats .entry)))
         (movedTo (now (slots .entry)) (now (gpio .entry)) (now (starts .entry)) (now (codes .entry))

@@ -12,6 +12,7 @@ use lib.Ieee.{nan}
 use lib.ListN.{length, take, drop, drop-of-length-le}
 use lib.Seq.{getD-set-same, getD-set-other}
 use borrow.Author.Tests.{le-leb, lt-leb, ltb-true, ltb-false, ne-eqb, eq-eqb}
+use Rattle.map.specs.Numbers.{DONE}
 use Rattle.timer.specs.declared.Event.{Event}
 use Rattle.timer.specs.declared.Queue.{Queue}
 use Rattle.timer.specs.declared.Ring.{Ring}
@@ -142,11 +143,12 @@ unfolding takeOf
 take-some q some = rw (ne-eqb (q .ring .count) 0 some)
 
 -- where none waits the queue is as it was
-pub take-still : (q : Queue) → takeOf q .refusal ≢ 0 → takeOf q .queue ≡ q
+pub take-still : (q : Queue) → takeOf q .refusal ≢ DONE → takeOf q .queue ≡ q
 unfolding takeOf
 take-still q = by (eqb (q .ring .count) 0)
   where
-    by : (b : Bool) → cond b (takeOutcome NoEvent nothing q) (takeOutcome Done (eventOf q 0) (without q 1)) .refusal ≢ 0
+    by : (b : Bool)
+        → cond b (takeOutcome NoEvent nothing q) (takeOutcome Done (eventOf q 0) (without q 1)) .refusal ≢ DONE
         → cond b (takeOutcome NoEvent nothing q) (takeOutcome Done (eventOf q 0) (without q 1)) .queue ≡ q
     by true h = refl
     by false h = absurd (h refl)
