@@ -10,7 +10,7 @@ use native.Mathlib.Numerals.{add-one}
 use lib.ListN.{length, getD, drop, drop-of-length-le}
 use lib.Seq.{drop-cons}
 use borrow.Author.Tests.{lt-leb, le-leb}
-use Rattle.whole.proofs.Bits.{lt-or-ge}
+use Rattle.whole.proofs.Choice.{lt-or-ge}
 use Rattle.registers.specs.declared.Registers.{Registers}
 use Rattle.block.specs.Block as block
 use Rattle.block.specs.Block.{Block, peekOf, joinedOf, blockOf, wholeOf, Plain, pokedOf, laidFrom, laidOf}

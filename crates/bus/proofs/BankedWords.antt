@@ -165,7 +165,7 @@ pub adc-done : (slots : List ℕ) (x : Parts) (old new : ℕ) {on : Bool} {z : A
     → on ≡ x .devices .clocks .converting
     → v ≡ ownAt slots ADC-RESULT → z ≡ adc.writtenOf (record { converting = on; control = old; result = v }) new
     → slots₁ ≡ ownWith slots ADC-CONTROL (z .control) → y ≡ convertingPut x (z .converting)
-    → ownOut slots₁ (answer 0 (y .devices)) ≡ adcWritten slots (x .devices) old new
+    → ownOut slots₁ (answer DONE (y .devices)) ≡ adcWritten slots (x .devices) old new
 unfolding adcWritten
 adc-done slots x old new {v = v} o e h i j =
     rw (i, j)
@@ -207,7 +207,8 @@ module _ (slots : List ℕ) (x : Parts) (clock : ℕ) (full : Bool) (s old new p
         → ownOut slots₁ (wroteOf r (x .devices)) ≡ wordWritten e slots (x .devices) clock full (slotWord s) old new part
     word-tick k l = rw (k, z, l, slot-stored s h slots (bitAnd old (bitXor part 0xFFFFFFFF)))
 
-    pub word-adc : {d : Devices} → e ≡ AdcControl → ownOut slots₁ (answer 0 d) ≡ adcWritten slots (x .devices) old new
+    pub word-adc : {d : Devices} → e ≡ AdcControl → ownOut slots₁ (answer DONE d)
+        ≡ adcWritten slots (x .devices) old new
         → ownOut slots₁ (wroteOf r d) ≡ wordWritten e slots (x .devices) clock full (slotWord s) old new part
     word-adc k l = rw (k, z) l
 

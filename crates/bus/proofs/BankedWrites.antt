@@ -105,7 +105,7 @@ module _ (r : Registers) (x : Parts) (word : ℕ) (none : slotOf word ≡ 76) wh
           (wordAt r word) a n v)
       other-put-present i k m o w j =
           other-put (rw (m, k, ← o, ← w) (ap (λ (z : Others). stored (registersOf (r .slots) (z .addresses)
-          (z .values)) (answer 0 (x .devices))) j))
+          (z .values)) (answer DONE (x .devices))) j))
 
       pub other-put-absent : {t : WriteAnswer} {new : ℕ} {p q : List ℕ} (i : ℕ) (b : Refusal) → y ≡ Absent i
           → new ≡ mergedOf 0 a n v
@@ -188,7 +188,7 @@ module _ (w : World) (full : Bool) (word old new part : ℕ) where
   unfolding portWritten otherWritten
   port-other none e = rw (e, port-none word none) (by (dayWord word))
     where
-      by : (b : Bool) → byStore w (cond b (stored (w .registers) (answer 0 (daySet (w .devices) (fieldOf word) new)))
+      by : (b : Bool) → byStore w (cond b (stored (w .registers) (answer DONE (daySet (w .devices) (fieldOf word) new)))
           (storedWord (w .registers) (w .devices) word new))
           ≡ writtenAt (cond b (Acts DayField) Other) w full word old new part
       by true = refl

@@ -8,7 +8,7 @@ use lib.ListN.{getD}
 use lib.Bits.{bitAnd, bitXor}
 use lib.Dec.{eqb}
 use borrow.Author.Tests.{eqb-true, eqb-false}
-use Rattle.map.specs.Numbers.{DONE}
+use Rattle.map.specs.Numbers.{DONE, SOUND-FULL}
 use Rattle.whole.proofs.Choice.{by-cond}
 use Rattle.memory.specs.declared.Place.{Place}
 use Rattle.memory.specs.declared.Place.the-variants.{Ram, Sram, Gpio, Register, Stray}
@@ -142,7 +142,7 @@ module _ (P : OwnOut → Type 0) (slots : List ℕ) (d : Devices) (clock : ℕ) 
   by-word SpiSend word old new part timer day sound lcd tick adc power spi = spi
 
   pub by-sound : (next : Devices) (word v : ℕ) → (soundOf slots (d .tone) clock full word v ≡ SoundFull
-      → P (ownOut slots (answer 5 d)))
+      → P (ownOut slots (answer SOUND-FULL d)))
       → (soundOf slots (d .tone) clock full word v ≡ Same → P (ownDone (ownWith slots word v) next))
       → ((tone : Tone) → soundOf slots (d .tone) clock full word v ≡ Change tone
       → P (ownOut (ownWith slots word v) (record { refusal = DONE; event = true; devices = withTone next tone })))

@@ -10,7 +10,7 @@ use lib.ListN.{length, take, drop, drop-of-length-le, take-append-drop}
 use lib.Seq.{take-all}
 use borrow.Author.Tests.{lt-ltb, le-ltb}
 use Rattle.map.specs.Numbers.{FLASH-SIZE}
-use Rattle.whole.proofs.Bits.{lt-or-ge}
+use Rattle.whole.proofs.Choice.{lt-or-ge}
 use Rattle.flash.specs.declared.Chip.{Chip}
 use Rattle.flash.specs.declared.Reply.{Reply}
 use Rattle.flash.specs.Pick.{pick}

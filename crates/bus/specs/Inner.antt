@@ -62,7 +62,7 @@ otherValue r c word = cond (dayWord word) (dayRead c (fieldOf word)) (wordAt r w
 
 -- what a write leaves: of a field of the time of day, or of one that is only stored
 unfoldable pub otherWritten : Registers → Devices → ℕ → ℕ → Stored
-otherWritten r d word new = cond (dayWord word) (stored r (answer 0 (daySet d (fieldOf word) new)))
+otherWritten r d word new = cond (dayWord word) (stored r (answer DONE (daySet d (fieldOf word) new)))
     (storedWord r d word new)
 
 -- ---- an access to a memory

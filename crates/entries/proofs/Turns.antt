@@ -9,7 +9,7 @@ use lib.Ieee.{binary64, ofBits, toBits, ne}
 use lib.ListN.{length}
 use borrow.Author.Tests.{lt-ltb, le-ltb, lt-leb}
 use Rattle.map.specs.Numbers.{PRESS, READ, WRITE, ADVANCE, NEXT, PENDING, TURBO, KEY, HOLD, SOUND, COUNTERS, COLOUR}
-use Rattle.map.specs.Numbers.{WIPE, BAD-SCRIPT}
+use Rattle.map.specs.Numbers.{WIPE, DONE, BAD-SCRIPT}
 use Rattle.whole.specs.Forms.{bitsOf, nought}
 use Rattle.whole.proofs.Choice.{by-less}
 use Rattle.registers.proofs.Cases.{Missed, countFrom, past-missed}
@@ -106,7 +106,7 @@ module _ (m : Machine) (e : Entry) where
   unfolding opOf inBits replyOf step
   turn-next k h b i = rw (i, b, h) (rw no-bits at (by-op steps.nextEvent true (rw k) (rw k)))
 
-  pub turn-pending : e .kind ≡ PENDING → {n : ℕ} {a : Answer} → n ≡ pendingOf (m .system) → a ≡ reply 0 n 0 0
+  pub turn-pending : e .kind ≡ PENDING → {n : ℕ} {a : Answer} → n ≡ pendingOf (m .system) → a ≡ reply DONE n 0 0
       → turn m a ≡ turnOf m e
   unfolding opOf inBits replyOf step
   turn-pending k h i = rw (i, h) (by-op steps.pending false (rw k) (rw k))
@@ -129,10 +129,10 @@ module _ (m : Machine) (e : Entry) where
   turn-pixel k h i = rw (i, h) (by-op (steps.pixel (e .address)) false (rw k) (rw k))
 
   pub turn-wipe : e .kind ≡ WIPE → {m₁ : Machine} {a : Answer}
-      → m₁ ≡ wipedOf (length (m .ram)) (length (m .sram)) (length (m .gpio)) (length (m .fb)) → a ≡ reply 0 0 0 0
+      → m₁ ≡ wipedOf (length (m .ram)) (length (m .sram)) (length (m .gpio)) (length (m .fb)) → a ≡ reply DONE 0 0 0
       → turn m₁ a ≡ turnOf m e
   unfolding opOf inBits replyOf step
-  turn-wipe k h i = rw i (ap (λ (z : Machine). turn z (reply 0 0 0 0)) h) ∙ by-op steps.wipe false (rw k) (rw k)
+  turn-wipe k h i = rw i (ap (λ (z : Machine). turn z (reply DONE 0 0 0)) h) ∙ by-op steps.wipe false (rw k) (rw k)
 
 -- ---- its answer is laid at a place
 

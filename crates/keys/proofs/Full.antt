@@ -9,7 +9,7 @@ use lib.Dec.{ltb, leb, eqb}
 use lib.ListN.{getD}
 use lib.Ieee.{Float, nan}
 use borrow.Author.Tests.{ltb-true, ltb-false, eq-eqb, ne-eqb}
-use Rattle.whole.proofs.Choice.{le-or-lt}
+use Rattle.whole.proofs.Choice.{lt-or-ge}
 use Rattle.whole.specs.Limits.{goodTime}
 use Rattle.keys.specs.Script.{placesOf, waits, waitingIn, freeFrom, freeOf, Script, outcome, putOf, pressOf}
 use Rattle.keys.specs.declared.Refusal.the-variants.{Done, BadKey, BadTime, KeysFull}
@@ -40,11 +40,12 @@ module _ (starts : List Float) (now : Float) where
   free-before : (n i j : ℕ) → i ≤ j → j < found n i → waitsAt j ≡ true
   unfolding freeFrom
   free-before zero i j l m = absurd (let z : ⊥ = omega arith in z)
-  free-before (suc n) i j l m = by (waitsAt i) refl (free-before n (i + 1) j) (le-or-lt (i + 1) j)
+  free-before (suc n) i j l m = by (waitsAt i) refl (free-before n (i + 1) j) (lt-or-ge i j)
     where
       by : (b : Bool) → waitsAt i ≡ b → (i + 1 ≤ j → j < found n (i + 1) → waitsAt j ≡ true)
-          → (i + 1 ≤ j) ⊎ (j < i + 1) → waitsAt j ≡ true
-      by true h r (inl k) = let e : found (suc n) i ≡ found n (i + 1) = from-waits starts now n i h in r k (omega arith)
+          → (i < j) ⊎ (j ≤ i) → waitsAt j ≡ true
+      by true h r (inl k) =
+          let e : found (suc n) i ≡ found n (i + 1) = from-waits starts now n i h in r (omega arith) (omega arith)
       by true h r (inr k) = let e : j ≡ i = omega arith in ap waitsAt e ∙ h
       by false h r k = let e : found (suc n) i ≡ i = from-expired starts now n i h in absurd
           (let z : ⊥ = omega arith in z)
@@ -89,12 +90,12 @@ module _ (starts : List Float) (now : Float) where
   many-lack : (n j : ℕ) → j < n → waitsAt j ≡ false → many n < n
   unfolding waitingIn
   many-lack zero j l g = absurd (let z : ⊥ = omega arith in z)
-  many-lack (suc n) j l g = by (waitsAt n) refl (λ k. many-lack n j k g) (le-or-lt (j + 1) n)
+  many-lack (suc n) j l g = by (waitsAt n) refl (λ k. many-lack n j k g) (lt-or-ge j n)
     where
-      by : (b : Bool) → waitsAt n ≡ b → (j < n → many n < n) → (j + 1 ≤ n) ⊎ (n < j + 1) → many (suc n) < suc n
+      by : (b : Bool) → waitsAt n ≡ b → (j < n → many n < n) → (j < n) ⊎ (n ≤ j) → many (suc n) < suc n
       by true h r (inl k) =
           let e : many (suc n) ≡ many n + 1 = many-step n true h in
-          let m : many n < n = r (omega arith) in
+          let m : many n < n = r k in
           omega arith
       by true h r (inr k) = let e : n ≡ j = omega arith in absurd (true≢false (sym h ∙ ap waitsAt e ∙ g))
       by false h r k =

@@ -20,7 +20,7 @@ use Rattle.keys.specs.Live.{downOf, also, tapped, heldFrom, heldOf}
 use Rattle.keys.specs.Within.{Press, Within, scriptOf, withCount, withScript, isDown, NoneLost}
 use Rattle.keys.proofs.Cases.{places-most, counted-in, counted-after, press-each}
 use Rattle.keys.proofs.Full.{free-between, free-at}
-use Rattle.whole.proofs.Choice.{le-or-lt}
+use Rattle.whole.proofs.Choice.{lt-or-ge}
 use Rattle.keys.proofs.Expired.{down-at-once}
 
 -- ---- the count
@@ -111,10 +111,10 @@ pub down-in : (starts : List Float) (codes : List ℕ) (h : Held) (now : Float) 
     → getD codes i 0 ≡ key → isDown (heldFrom starts codes h now n) key ≡ true
 unfolding heldFrom
 down-in starts codes h now key zero i k l d e = absurd (let z : ⊥ = omega arith in z)
-down-in starts codes h now key (suc n) i k l d e = by (le-or-lt (i + 1) n) (λ m. down-in starts codes h now key n i k m
+down-in starts codes h now key (suc n) i k l d e = by (lt-or-ge i n) (λ m. down-in starts codes h now key n i k m
     d e)
   where
-    by : (i + 1 ≤ n) ⊎ (n < i + 1) → (i < n → isDown (heldFrom starts codes h now n) key ≡ true)
+    by : (i < n) ⊎ (n ≤ i) → (i < n → isDown (heldFrom starts codes h now n) key ≡ true)
         → isDown (also (heldFrom starts codes h now n) (getD starts n nan) (getD codes n 0) now) key ≡ true
     by (inl m) r = stays (heldFrom starts codes h now n) (getD starts n nan) (getD codes n 0) now key k
         (r (omega arith))

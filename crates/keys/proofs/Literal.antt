@@ -19,7 +19,7 @@ use Rattle.keys.specs.Edges.{pressEdges, holdEdges, nextEdge}
 use Rattle.keys.specs.Rust.{push, rustHeld, rustEdge, Act, presses, goes, Sides, sides, freshSides, sidesAfter}
 use Rattle.keys.specs.Rust.{after, Onward, SameHeld, SameEdge, AsRust}
 use Rattle.keys.proofs.Cases.{press-each}
-use Rattle.whole.proofs.Choice.{le-or-lt}
+use Rattle.whole.proofs.Choice.{lt-or-ge}
 use Rattle.keys.proofs.Expired.{expired-began, expired-stays}
 use Rattle.keys.proofs.Kept.{Grown, grown, place-most, put-keeps, set-both}
 use Rattle.keys.proofs.SameKeys.{Found, same-keys}
@@ -61,9 +61,9 @@ module _ (starts : List Float) (codes : List ℕ) (even : length codes ≡ lengt
   -- what holds of each press so far, and of the new one
   each : (P : Float → ℕ → Type 0) → ((j : ℕ) → j < length starts → P (getD starts j nan) (getD codes j 0)) → P at key
       → (j : ℕ) → j < length timesMore → P (getD timesMore j nan) (getD codesMore j 0)
-  each P old new j l = by (le-or-lt (j + 1) (length starts))
+  each P old new j l = by (lt-or-ge j (length starts))
     where
-      by : (j + 1 ≤ length starts) ⊎ (length starts < j + 1) → P (getD timesMore j nan) (getD codesMore j 0)
+      by : (j < length starts) ⊎ (length starts ≤ j) → P (getD timesMore j nan) (getD codesMore j 0)
       by (inl m) =
           let a : getD timesMore j nan ≡ getD starts j nan = List·getD-append starts (at ∷ []) nan j (omega arith) in
           let b : getD codesMore j 0 ≡ getD codes j 0 = List·getD-append codes (key ∷ []) 0 j (omega arith) in

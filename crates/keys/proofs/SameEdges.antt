@@ -17,7 +17,7 @@ use Rattle.keys.specs.Script.{endOf}
 use Rattle.keys.specs.Edges.{minOf, afterOf, edgesFrom}
 use Rattle.keys.proofs.Canonical.{one-number}
 use Rattle.keys.proofs.Expired.{le-of-before, end-clear}
-use Rattle.whole.proofs.Choice.{le-or-lt}
+use Rattle.whole.proofs.Choice.{lt-or-ge}
 
 -- ---- one edge
 module _ (now x edge : Float) (p : Clear x) (q : Clear edge) where
@@ -125,11 +125,11 @@ module _ (starts : List Float) (now t : Float) (c : Clear t) where
   least : (n : ℕ) → Good n → (e : Float) → Clear e → Edge starts n now e → T (le (edgesFrom starts now t n) e)
   least zero g e d x = absurd (let l : x .place < 0 = x .below in let z : ⊥ = omega arith in z)
   least (suc n) g e d x =
-      by (le-or-lt (x .place + 1) n) (x .side)
+      by (lt-or-ge (x .place) n) (x .side)
       (λ l. least n (λ i m. g i (omega arith)) e d
       (record { place = x .place; below = l; side = x .side; ahead = x .ahead }))
     where
-      by : (x .place + 1 ≤ n) ⊎ (n < x .place + 1)
+      by : (x .place < n) ⊎ (n ≤ x .place)
           → (e ≡ getD starts (x .place) nan) ⊎ (e ≡ endOf (getD starts (x .place) nan))
           → (x .place < n → T (le (edgesFrom starts now t n) e)) → T (le (edgesFrom starts now t (suc n)) e)
       by (inl l) s r =

@@ -13,7 +13,7 @@ use lib.Dec.{leb}
 use borrow.Author.Tests.{le-leb, lt-leb, eq-eqb, ne-eqb}
 use Rattle.map.specs.Numbers.{FLASH-BASE, RAM-SIZE, SRAM-BASE, SRAM-SIZE, SRAM-END, GPIO-BASE, GPIO-SIZE, GPIO-END}
 use Rattle.map.specs.Numbers.{REGISTERS-END}
-use Rattle.whole.proofs.Bits.{lt-or-ge}
+use Rattle.whole.proofs.Choice.{lt-or-ge}
 use Rattle.whole.proofs.Words.{either}
 use Rattle.memory.specs.declared.Place.the-variants.{Ram, Sram, Gpio, Register, Stray}
 use Rattle.memory.specs.Places.{within, inRegisters, placeOf}

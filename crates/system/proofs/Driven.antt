@@ -13,7 +13,7 @@ use Rattle.whole.proofs.Choice.{by-cond}
 use Rattle.map.specs.Numbers.{SPIFC-SELECT, SPIFC-SEND}
 use Rattle.registers.proofs.Slots.{select-port, send-port}
 use Rattle.whole.specs.Words.{has}
-use Rattle.whole.proofs.Bits.{lt-or-ge}
+use Rattle.whole.proofs.Choice.{lt-or-ge}
 use Rattle.memory.specs.Places.{within, inRegisters, placeOf}
 use Rattle.memory.specs.Access.{goodSize, spanOf, cutOf}
 use Rattle.memory.proofs.Access.{cut-merged}

@@ -16,13 +16,6 @@ use lib.Ieee.Bits.{is-false, is-true, cond-no, ofBits-toBits}
 use lib.Ieee.Compare.{differs-from-itself, nan-differs}
 use lib.Ieee.Exact.{HasValue, odd-sign}
 
-pub lt-or-ge : (a b : ℕ) → (a < b) ⊎ (b ≤ a)
-lt-or-ge a b = go (ltb a b) (ltb→lt a b) (nltb→le a b)
-  where
-    go : (t : Bool) → (T t → a < b) → (T (not t) → b ≤ a) → (a < b) ⊎ (b ≤ a)
-    go true h k = inl (h tt)
-    go false h k = inr (k tt)
-
 pub ge-of-not-lt : (a b : ℕ) → (b < a → ⊥) → a ≤ b
 ge-of-not-lt a b h = omega arith
 

@@ -35,5 +35,5 @@ pub of-not : (b c : Bool) → not b ≡ c → b ≡ not c
 of-not true c h = ap not h
 of-not false c h = ap not h
 
-pub le-or-lt : (a b : ℕ) → (a ≤ b) ⊎ (b < a)
-le-or-lt a b = by-less b a inr inl
+pub lt-or-ge : (a b : ℕ) → (a < b) ⊎ (b ≤ a)
+lt-or-ge a b = by-less a b inl inr

@@ -23,7 +23,8 @@ use Rattle.whole.specs.Cut.{Cut, twos}
 use Rattle.whole.specs.Bounds.{Clear, AtMost, WholePart}
 use Rattle.whole.proofs.Clear.{any, at-most-clear}
 use Rattle.whole.proofs.Round.{cut-within}
-use Rattle.whole.proofs.Bits.{lt-or-ge, lead, val, val-lt, val-le, value, signed-any, top-any, bits-back}
+use Rattle.whole.proofs.Choice.{lt-or-ge}
+use Rattle.whole.proofs.Bits.{lead, val, val-lt, val-le, value, signed-any, top-any, bits-back}
 
 cut-value : (x : Float) (a c : ℕ) → 0 < c → HasValue x false a c → toUnsigned 64 x ≡ min (a / c) (2 ^ 64 - 1)
 unfolding toUnsigned

@@ -14,8 +14,8 @@ use lib.Ieee.Fits.{down-pos}
 use lib.Ieee.Exact.{HasValue}
 use borrow.Author.Tests.{le-leb, lt-leb}
 use Rattle.whole.specs.Limits.{upTo, downTo, goodTime, goodTurbo}
-use Rattle.whole.proofs.Choice.{both}
-use Rattle.whole.proofs.Bits.{value, val, val-le, val-lt, signed-any, top-any, lt-or-ge, ge-of-not-lt}
+use Rattle.whole.proofs.Choice.{both, lt-or-ge}
+use Rattle.whole.proofs.Bits.{value, val, val-le, val-lt, signed-any, top-any, ge-of-not-lt}
 
 -- two tests with the same answer
 same : (a b c d : ℕ) → (a ≤ b → c ≤ d) → (c ≤ d → a ≤ b) → leb a b ≡ leb c d

@@ -1,5 +1,3 @@
-use Rattle.registers.specs.Words.{registersOf}
-use Rattle.state.specs.Bank.{partsIn}
 use Rattle.bus.proofs.BankedWords.{quiet, rest-none}
 use Rattle.bus.proofs.BankedWrites.{write-ram, write-sram, write-gpio, write-size, write-register, write-stray}
 use borrow.Author.Needs.{needs}
@@ -10,13 +8,8 @@ returns : tie.Need-returns
 returns c =
     let c2 = c .before .before in
     let c5 = c2 .before .before .before in
-    let c7 = c5 .before .before in
-    let c12 = c7 .before .before .before .before .before in
-    let a = (c12 .args) in
-    let r = registersOf (a .slots .now) (a .addresses .now) (a .values .now) in
-    let x = partsIn (a .cells .now) (a .floats .now) in (
-      write-ram r (a .rtc .now) (a .page .now) (a .ram .now) (a .sram .now) (a .gpio .now) (a .fb .now)
-          (x .devices) (a .full) (a .addr) (a .size) (a .value) (c7 .locate .ensures) (c2 .put .ensures .1)
+    let c7 = c5 .before .before in (
+      write-ram _ _ _ _ _ _ _ _ _ _ _ _ (c7 .locate .ensures) (c2 .put .ensures .1)
           (c5 .place .given .1) (c2 .put .ensures .0),
       rest-none (quiet (c2 .put .ensures .1)),
     )
@@ -25,13 +18,8 @@ returns-2 : tie.Need-returns-2
 returns-2 c =
     let c2 = c .before .before in
     let c5 = c2 .before .before .before in
-    let c7 = c5 .before .before in
-    let c12 = c7 .before .before .before .before .before in
-    let a = (c12 .args) in
-    let r = registersOf (a .slots .now) (a .addresses .now) (a .values .now) in
-    let x = partsIn (a .cells .now) (a .floats .now) in (
-      write-sram r (a .rtc .now) (a .page .now) (a .ram .now) (a .sram .now) (a .gpio .now) (a .fb .now)
-          (x .devices) (a .full) (a .addr) (a .size) (a .value) (c7 .locate .ensures) (c2 .put2 .ensures .1)
+    let c7 = c5 .before .before in (
+      write-sram _ _ _ _ _ _ _ _ _ _ _ _ (c7 .locate .ensures) (c2 .put2 .ensures .1)
           (c5 .place2 .given .1) (c2 .put2 .ensures .0),
       rest-none (quiet (c2 .put2 .ensures .1)),
     )
@@ -40,13 +28,8 @@ returns-3 : tie.Need-returns-3
 returns-3 c =
     let c2 = c .before .before in
     let c5 = c2 .before .before .before in
-    let c7 = c5 .before .before in
-    let c12 = c7 .before .before .before .before .before in
-    let a = (c12 .args) in
-    let r = registersOf (a .slots .now) (a .addresses .now) (a .values .now) in
-    let x = partsIn (a .cells .now) (a .floats .now) in (
-      write-gpio r (a .rtc .now) (a .page .now) (a .ram .now) (a .sram .now) (a .gpio .now) (a .fb .now)
-          (x .devices) (a .full) (a .addr) (a .size) (a .value) (c7 .locate .ensures) (c2 .put3 .ensures .1)
+    let c7 = c5 .before .before in (
+      write-gpio _ _ _ _ _ _ _ _ _ _ _ _ (c7 .locate .ensures) (c2 .put3 .ensures .1)
           (c5 .place3 .given .1) (c2 .put3 .ensures .0),
       rest-none (quiet (c2 .put3 .ensures .1)),
     )
@@ -54,14 +37,9 @@ returns-3 c =
 returns-4 : tie.Need-returns-4
 returns-4 c =
     let c2 = c .before .before in
-    let c5 = c2 .before .before .before in
-    let c10 = c5 .before .before .before .before .before in
-    let a = (c10 .args) in
-    let r = registersOf (a .slots .now) (a .addresses .now) (a .values .now) in
-    let x = partsIn (a .cells .now) (a .floats .now) in (
-      write-size r (a .rtc .now) (a .page .now) (a .ram .now) (a .sram .now) (a .gpio .now) (a .fb .now)
-          (x .devices) (a .full) (a .addr) (a .size) (a .value) (c5 .locate .ensures) (c2 .good-size .ensures) (c
-          .before .if1 .taken) (c .refused .ensures),
+    let c5 = c2 .before .before .before in (
+      write-size _ _ _ _ _ _ _ _ _ _ _ _ (c5 .locate .ensures) (c2 .good-size .ensures)
+          (c .before .if1 .taken) (c .refused .ensures),
       rest-none (quiet (c .refused .ensures)),
     )
 
@@ -72,13 +50,8 @@ returns-5 c =
     in
     let c17 = c16 .before in
     let c18 = c17 .before in
-    let c20 = c18 .before .before in
-    let c25 = c20 .before .before .before .before .before in
-    let a = (c25 .args) in
-    let r = registersOf (a .slots .now) (a .addresses .now) (a .values .now) in
-    let x = partsIn (a .cells .now) (a .floats .now) in (
-      write-register r (a .rtc .now) (a .page .now) (a .ram .now) (a .sram .now) (a .gpio .now) (a .fb .now)
-          (x .devices) (a .full) (a .addr) (a .size) (a .value) (c20 .locate .ensures) (c17 .good-size .ensures)
+    let c20 = c18 .before .before in (
+      write-register _ _ _ _ _ _ _ _ _ _ _ _ (c20 .locate .ensures) (c17 .good-size .ensures)
           (c16 .if1 .left) (c18 .enum-told .given .1) (c4 .mmio-write .ensures .0),
       (c4 .mmio-write .ensures .1),
     )
@@ -86,14 +59,9 @@ returns-5 c =
 returns-6 : tie.Need-returns-6
 returns-6 c =
     let c2 = c .before .before in
-    let c5 = c2 .before .before .before in
-    let c10 = c5 .before .before .before .before .before in
-    let a = (c10 .args) in
-    let r = registersOf (a .slots .now) (a .addresses .now) (a .values .now) in
-    let x = partsIn (a .cells .now) (a .floats .now) in (
-      write-size r (a .rtc .now) (a .page .now) (a .ram .now) (a .sram .now) (a .gpio .now) (a .fb .now)
-          (x .devices) (a .full) (a .addr) (a .size) (a .value) (c5 .locate .ensures) (c2 .good-size2 .ensures) (c
-          .before .if2 .taken) (c .refused2 .ensures),
+    let c5 = c2 .before .before .before in (
+      write-size _ _ _ _ _ _ _ _ _ _ _ _ (c5 .locate .ensures) (c2 .good-size2 .ensures)
+          (c .before .if2 .taken) (c .refused2 .ensures),
       rest-none (quiet (c .refused2 .ensures)),
     )
 
@@ -101,16 +69,10 @@ returns-7 : tie.Need-returns-7
 returns-7 c =
     let c2 = c .before .before in
     let c3 = c2 .before in
-    let c5 = c3 .before .before in
-    let c10 = c5 .before .before .before .before .before in
-    let a = (c10 .args) in
-    let r = registersOf (a .slots .now) (a .addresses .now) (a .values .now) in
-    let x = partsIn (a .cells .now) (a .floats .now) in (
-      write-stray r (a .rtc .now) (a .page .now) (a .ram .now) (a .sram .now) (a .gpio .now) (a .fb .now)
-          (x .devices) (a .full) (a .addr) (a .size) (a .value) (c5 .locate .ensures) (c2 .good-size2 .ensures) (c
-          .before .if2 .left) (c3 .enum-told2 .given .1) (c .refused3 .ensures),
-      rest-none (quiet
-          (c .refused3 .ensures)),
+    let c5 = c3 .before .before in (
+      write-stray _ _ _ _ _ _ _ _ _ _ _ _ (c5 .locate .ensures) (c2 .good-size2 .ensures)
+          (c .before .if2 .left) (c3 .enum-told2 .given .1) (c .refused3 .ensures),
+      rest-none (quiet (c .refused3 .ensures)),
     )
 
 pub slow-write-spec : {M : Type 1} → statement M
