@@ -1,6 +1,9 @@
 //! Times the port's library and the Rust device on the same scripts, in one
 //! process and by turns.
 
+// `live` is set by bench/common.sh.
+#![allow(unknown_lints, unexpected_cfgs)]
+
 #[path = "../oracle/bus/mod.rs"]
 mod bus;
 #[path = "../oracle/script/bytes.rs"]
@@ -9,6 +12,8 @@ mod bytes;
 #[path = "../oracle/common/mod.rs"]
 mod common;
 mod families;
+#[cfg(live)]
+mod live;
 #[path = "../oracle/script/make.rs"]
 #[allow(dead_code)]
 mod make;
@@ -163,7 +168,33 @@ fn list_families() {
     }
 }
 
-const USAGE: &str = "usage: time|agree [PART OF A NAME] | families | count NUMBER rust|port";
+fn counted(number: &str, side: &str, count: fn(usize, &str) -> Option<()>) -> Result<(), String> {
+    number.parse().ok().and_then(|number| count(number, side)).ok_or("no such run".to_string())
+}
+
+const USAGE: &str = "usage: time|agree|live [PART OF A NAME] | families | count NUMBER rust|port
+       live_families | live_count NUMBER rust|port";
+
+/// Of live calls, where they are built in: `bench/run -l` does that, and then
+/// the crate of `host/rust` is needed.
+#[cfg(live)]
+fn live_calls(words: &[&str]) -> Result<(), String> {
+    match *words {
+        ["live"] => live::time_all(""),
+        ["live", part] => live::time_all(part),
+        ["live_families"] => {
+            live::list();
+            Ok(())
+        }
+        ["live_count", number, side] => counted(number, side, live::count),
+        _ => Err(USAGE.to_string()),
+    }
+}
+
+#[cfg(not(live))]
+fn live_calls(_: &[&str]) -> Result<(), String> {
+    Err(USAGE.to_string())
+}
 
 fn main() -> ExitCode {
     let arguments: Vec<String> = env::args().skip(1).collect();
@@ -177,11 +208,8 @@ fn main() -> ExitCode {
             list_families();
             Ok(())
         }
-        ["count", number, side] => {
-            let counted = number.parse().ok().and_then(|number| count(number, side));
-            counted.ok_or("no such run".to_string())
-        }
-        _ => Err(USAGE.to_string()),
+        ["count", number, side] => counted(number, side, count),
+        ref words => live_calls(words),
     };
     match said {
         Ok(()) => ExitCode::SUCCESS,

@@ -1,7 +1,9 @@
-// The program behind ./tg18: a binary script on standard input, raw answers on standard output.
+// The program behind ./tg18: scripts on standard input, raw answers on standard output.
 //     runner [load NAME=FILE]... [dump NAME=FILE]... [screen FILE]
-// Always scrubbed; memories, script and answers are cleared before it ends. A status of 64 and above is the script's
-// refusal, 64 off.
+// The input is a chain of binary scripts, each behind its length in eight bytes, little-endian. They run one after the
+// other on one unit, which is fresh before the first; the answers of each stand behind those of the one before.
+// Always scrubbed; unit, memories, script and answers are cleared before it ends. A status of 64 and above is the
+// refusal of a script, 64 off; those before it have run then, and those behind it have not.
 #define _GNU_SOURCE
 #include "scrubbed.h"
 #include "tg18.h"
@@ -17,9 +19,8 @@ enum status { RAN = 0, BAD_USAGE = 2, BAD_FILE = 3, NO_MEMORY = 4, REFUSED = 64 
 // One byte more than a script can have: a longer one is refused by the port itself.
 enum { SCRIPT_ROOM = 8 + TG18_PRESS_BYTES * TG18_MOST_PRESSES + TG18_STEP_BYTES * TG18_MOST_STEPS + 1 };
 enum { OUT_ROOM = 4 + TG18_ANSWER_BYTES * (TG18_MOST_PRESSES + TG18_MOST_STEPS) };
-enum { COLOUR_BYTES = 3 * TG18_SCREEN_WIDTH * TG18_SCREEN_HEIGHT };
 
-enum place { RAM, SRAM, GPIO, FRAMEBUFFER, SCRIPT, OUT, COLOURS, PLACES };
+enum place { RAM, SRAM, GPIO, FRAMEBUFFER, UNIT, SCRIPT, OUT, COLOURS, PLACES };
 
 static struct {
     const char *name;
@@ -30,9 +31,10 @@ static struct {
     {"sram", TG18_SRAM_BYTES, NULL},
     {"gpio", TG18_GPIO_BYTES, NULL},
     {"framebuffer", TG18_FRAMEBUFFER_BYTES, NULL},
+    {"unit", sizeof(struct tg18_unit), NULL},
     {"script", SCRIPT_ROOM, NULL},
     {"out", OUT_ROOM, NULL},
-    {"colours", COLOUR_BYTES, NULL},
+    {"colours", TG18_SCREEN_BYTES, NULL},
 };
 
 static int complain(enum status status, const char *what, const char *why) {
@@ -122,44 +124,49 @@ static int store(enum place place, const char *path) {
     return RAN;
 }
 
-static uint32_t run(size_t script_bytes) {
-    return tg18_run_script_scrubbed(places[RAM].at, TG18_RAM_BYTES, places[SRAM].at, TG18_SRAM_BYTES, places[GPIO].at,
-                                    TG18_GPIO_BYTES, places[FRAMEBUFFER].at, TG18_FRAMEBUFFER_BYTES, places[SCRIPT].at,
-                                    script_bytes, places[OUT].at, OUT_ROOM);
+// ---- the unit, always scrubbed
+
+struct call {
+    struct tg18_unit *unit;
+    struct tg18_memories memories;
+    size_t script_bytes;
+    uint32_t refusal;
+};
+
+static void begin(void *argument) {
+    struct call *call = argument;
+    tg18_fresh(call->unit);
 }
 
-static void lay(uint8_t *at, uint32_t number) {
-    for (int i = 0; i < 4; i++) {
-        at[i] = (uint8_t)(number >> (8 * i));
-    }
+static void go_on(void *argument) {
+    struct call *call = argument;
+    call->refusal = tg18_continue_script(call->unit, &call->memories, places[SCRIPT].at, call->script_bytes,
+                                         places[OUT].at, OUT_ROOM);
 }
 
-// 4,096 steps that ask for colours; the port answers them, so they are the proved ones.
-static int colours_from(uint32_t first) {
-    uint8_t *script = places[SCRIPT].at, *out = places[OUT].at, *to = places[COLOURS].at + 3 * (size_t)first;
-    memset(script, 0, SCRIPT_ROOM);
-    lay(script + 4, TG18_MOST_STEPS);
-    for (uint32_t i = 0; i < TG18_MOST_STEPS; i++) {
-        script[8 + TG18_STEP_BYTES * i] = TG18_COLOUR;
-        lay(script + 8 + TG18_STEP_BYTES * i + 4, first + i);
+static void look(void *argument) {
+    struct call *call = argument;
+    call->refusal = tg18_screen(&call->memories, places[COLOURS].at, TG18_SCREEN_BYTES);
+}
+
+static uint32_t scrubbed(void (*work)(void *), size_t script_bytes) {
+    struct call call = {(struct tg18_unit *)places[UNIT].at,
+                        {places[RAM].at, TG18_RAM_BYTES, places[SRAM].at, TG18_SRAM_BYTES, places[GPIO].at,
+                         TG18_GPIO_BYTES, places[FRAMEBUFFER].at, TG18_FRAMEBUFFER_BYTES},
+                        script_bytes, TG18_DONE};
+    uint32_t refusal = tg18_scrubbed(work, &call);
+    return refusal == TG18_DONE ? call.refusal : refusal;
+}
+
+static int ended_by(uint32_t refusal) {
+    if (refusal == TG18_NO_STACK) {
+        return complain(NO_MEMORY, "stack", "no memory");
     }
-    uint32_t refusal = run(TG18_SCRIPT_BYTES(0, TG18_MOST_STEPS));
-    for (uint32_t i = 0; i < TG18_MOST_STEPS && refusal == TG18_DONE; i++) {
-        const uint8_t *answer = out + 4 + TG18_ANSWER_BYTES * i + 1;
-        to[3 * i] = answer[2];
-        to[3 * i + 1] = answer[1];
-        to[3 * i + 2] = answer[0];
-    }
-    return refusal == TG18_DONE
-               ? RAN
-               : complain(NO_MEMORY, "screen", "the scripts that ask for its colours were not run");
+    return refusal == TG18_DONE ? RAN : REFUSED + (int)refusal;
 }
 
 static int screen(const char *path) {
-    int status = RAN;
-    for (uint32_t at = 0; at < TG18_SCREEN_WIDTH * TG18_SCREEN_HEIGHT && status == RAN; at += TG18_MOST_STEPS) {
-        status = colours_from(at);
-    }
+    int status = ended_by(scrubbed(look, 0));
     return status == RAN ? store(COLOURS, path) : status;
 }
 
@@ -192,21 +199,46 @@ static int act(int count, char **words, const char *verb) {
     return status;
 }
 
-static int answer(void) {
-    ssize_t bytes = fill(0, places[SCRIPT].at, SCRIPT_ROOM);
-    if (bytes < 0) {
-        return complain(BAD_FILE, "standard input", strerror(errno));
+// ---- the chain
+
+static uint64_t number_in(const uint8_t *at, int bytes) {
+    uint64_t number = 0;
+    for (int i = 0; i < bytes; i++) {
+        number |= (uint64_t)at[i] << (8 * i);
     }
-    uint32_t refusal = run((size_t)bytes);
-    if (refusal == TG18_NO_STACK) {
-        return complain(NO_MEMORY, "stack", "no memory");
+    return number;
+}
+
+// As many bytes of standard input, all of them.
+static int take(uint8_t *at, size_t bytes) {
+    ssize_t have = fill(0, at, bytes);
+    if (have < 0 || (size_t)have < bytes) {
+        return complain(BAD_FILE, "standard input", have < 0 ? strerror(errno) : "ends within a script");
     }
-    if (refusal != TG18_DONE) {
-        return REFUSED + (int)refusal;
+    return RAN;
+}
+
+static int answer_one(uint64_t length) {
+    size_t bytes = length < SCRIPT_ROOM ? (size_t)length : SCRIPT_ROOM;
+    int status = take(places[SCRIPT].at, bytes);
+    status = status == RAN ? ended_by(scrubbed(go_on, bytes)) : status;
+    if (status != RAN) {
+        return status;
     }
     const uint8_t *out = places[OUT].at;
-    size_t count = out[0] | (size_t)out[1] << 8 | (size_t)out[2] << 16 | (size_t)out[3] << 24;
-    return put(1, out, TG18_OUT_BYTES(count, 0)) == 0 ? RAN : complain(BAD_FILE, "standard output", strerror(errno));
+    size_t answers = TG18_OUT_BYTES(number_in(out, 4), 0);
+    return put(1, out, answers) == 0 ? RAN : complain(BAD_FILE, "standard output", strerror(errno));
+}
+
+static int answer(void) {
+    uint8_t length[8];
+    int status = ended_by(scrubbed(begin, 0));
+    ssize_t have = 0;
+    while (status == RAN && (have = fill(0, length, 1)) > 0) {
+        status = take(length + 1, sizeof length - 1);
+        status = status == RAN ? answer_one(number_in(length, sizeof length)) : status;
+    }
+    return have < 0 ? complain(BAD_FILE, "standard input", strerror(errno)) : status;
 }
 
 int main(int count, char **words) {

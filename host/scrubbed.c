@@ -1,6 +1,6 @@
-// tg18_run_script_scrubbed: the script runs on a stack of its own, which is cleared afterwards with the registers.
-// State that goes by value leaves copies of itself on the stack, and a key that a script programmed can be among them
-// (docs/DECISIONS.md, 6). This code itself only passes pointers; it never reads a byte of a slice.
+// tg18_scrubbed: work on a stack of its own, which is cleared afterwards with the registers. The port leaves bytes that
+// it moved on its stack, and those of a key can be among them (docs/DECISIONS.md, 6). This code itself only passes
+// pointers; it never reads a byte of a slice.
 #define _GNU_SOURCE
 #include "scrubbed.h"
 #include "tg18.h"
@@ -49,12 +49,7 @@ static uint8_t *stack_made(void) {
     return stack;
 }
 
-uint32_t tg18_run_script_scrubbed(uint8_t *ram, size_t ram_len, uint8_t *sram, size_t sram_len, uint8_t *gpio,
-                                  size_t gpio_len, uint8_t *framebuffer, size_t framebuffer_len, const uint8_t *script,
-                                  size_t script_len, uint8_t *out, size_t out_len) {
-    const uintptr_t arguments[TG18_ARGUMENTS] = {
-        (uintptr_t)ram,         ram_len,         (uintptr_t)sram,   sram_len,   (uintptr_t)gpio, gpio_len,
-        (uintptr_t)framebuffer, framebuffer_len, (uintptr_t)script, script_len, (uintptr_t)out,  out_len};
+uint32_t tg18_scrubbed(void (*work)(void *argument), void *argument) {
     uint8_t *stack = stack_made();
     if (stack == NULL) {
         return TG18_NO_STACK;
@@ -63,9 +58,34 @@ uint32_t tg18_run_script_scrubbed(uint8_t *ram, size_t ram_len, uint8_t *sram, s
     // is taken because the C library's function leaves two signals out. SIG_SETMASK is 2; a mask has eight bytes.
     uint64_t all = ~(uint64_t)0, before = 0;
     syscall(SYS_rt_sigprocmask, 2, &all, &before, sizeof all);
-    uint32_t refusal = tg18_call_on(arguments, stack + TG18_STACK_BYTES, tg18_vectors_here());
+    tg18_call_on(work, argument, stack + TG18_STACK_BYTES, tg18_vectors_here());
     tg18_clear(stack, TG18_STACK_BYTES);
     syscall(SYS_rt_sigprocmask, 2, &before, NULL, sizeof before);
     munmap(stack - TG18_GUARD_BYTES, TG18_GUARD_BYTES + TG18_STACK_BYTES);
-    return refusal;
+    return TG18_DONE;
+}
+
+struct script_call {
+    struct tg18_memories memories;
+    const uint8_t *script;
+    size_t script_len;
+    uint8_t *out;
+    size_t out_len;
+    uint32_t refusal;
+};
+
+static void run_script(void *argument) {
+    struct script_call *call = argument;
+    const struct tg18_memories *m = &call->memories;
+    call->refusal = tg18_run_script(m->ram, m->ram_len, m->sram, m->sram_len, m->gpio, m->gpio_len, m->framebuffer,
+                                    m->framebuffer_len, call->script, call->script_len, call->out, call->out_len);
+}
+
+uint32_t tg18_run_script_scrubbed(uint8_t *ram, size_t ram_len, uint8_t *sram, size_t sram_len, uint8_t *gpio,
+                                  size_t gpio_len, uint8_t *framebuffer, size_t framebuffer_len, const uint8_t *script,
+                                  size_t script_len, uint8_t *out, size_t out_len) {
+    struct script_call call = {{ram, ram_len, sram, sram_len, gpio, gpio_len, framebuffer, framebuffer_len},
+                               script, script_len, out, out_len, TG18_DONE};
+    uint32_t refusal = tg18_scrubbed(run_script, &call);
+    return refusal == TG18_DONE ? call.refusal : refusal;
 }

@@ -2,10 +2,9 @@
 
     .text
 
-# uint32_t tg18_call_on(const uintptr_t *arguments, void *top, enum tg18_vectors vectors)
-# Six arguments go in registers, six on the new stack, which is then a multiple of 16 at the call as it has to be. rbp
-# holds the way back; like the others that a callee keeps it comes back from the call as it was, so only those that a
-# callee may change are cleared.
+# void tg18_call_on(void (*work)(void *argument), void *argument, void *top, enum tg18_vectors vectors)
+# The new stack is a multiple of 16 at the call, as it has to be. rbp holds the way back; like the others that a callee
+# keeps it comes back from the call as it was, so only those that a callee may change are cleared.
     .globl tg18_call_on
     .type tg18_call_on, @function
     .p2align 4
@@ -16,24 +15,11 @@ tg18_call_on:
     .cfi_offset %rbp, -16
     mov %rsp, %rbp
     .cfi_def_cfa_register %rbp
-    push %rdx
+    push %rcx
     mov %rdi, %rax
-    mov %rsi, %rsp
-    pushq 88(%rax)
-    pushq 80(%rax)
-    pushq 72(%rax)
-    pushq 64(%rax)
-    pushq 56(%rax)
-    pushq 48(%rax)
-    mov 40(%rax), %r9
-    mov 32(%rax), %r8
-    mov 24(%rax), %rcx
-    mov 16(%rax), %rdx
-    mov 8(%rax), %rsi
-    mov (%rax), %rdi
-    call tg18_run_script@PLT
-    # The result is 32 bits; this clears the upper half of rax as well.
-    mov %eax, %eax
+    mov %rsi, %rdi
+    mov %rdx, %rsp
+    call *%rax
     mov -8(%rbp), %rcx
     mov %rbp, %rsp
     cmp $1, %ecx
@@ -54,6 +40,7 @@ tg18_call_on:
     .endr
 .Lgeneral:
     # x87 and MMX are left: floats of the port are in xmm registers, and the C library's copying uses no others.
+    xor %eax, %eax
     xor %ecx, %ecx
     xor %edx, %edx
     xor %esi, %esi

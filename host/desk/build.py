@@ -1,7 +1,6 @@
-"""The kit, and what is built with it and with nothing else: the archive of crate script, and the programs of host/
-around it.
+"""The kit, and what is built with it and with nothing else: the port's library, and the programs of host/ around it.
 
-Programs are x86-64 on every machine, as the archive is. They start under the kit's loader and C library, and on
+Programs are x86-64 on every machine, as the library is. They start under the kit's loader and C library, and on
 another processor in the kit's emulator.
 """
 
@@ -23,21 +22,45 @@ from .trouble import OTHER, USAGE, Trouble
 ROOT = Path(__file__).resolve().parents[2]
 HOST = ROOT / "host"
 BUILT = ROOT / "target" / "host"
-ARCHIVE = ROOT / "target" / "staticlib" / "libscript.a"
+# What the crates export is proved and compiled crate by crate: in one piece the compiler would not copy the bus into
+# each (docs/DECISIONS.md, 128).
+CRATES = ["script", "live", "chain"]
+ARCHIVE = ROOT / "target" / "staticlib" / "libtg18.a"
 SCRUBBED = ["scrubbed.c", "scrubbed_x86_64.S"]
+PORT = SCRUBBED + ["live.c"]
+EXAMPLES = ["../examples/live.c", "../examples/live.cpp"]
+KEY = ["tests/key_case.c", "tests/key_ways.c", "tests/key_search.c", "tests/key_x86_64.S", "tests/scripts.c",
+       "tests/lent.c"]
 PROGRAMS = {
-    "runner": ["runner.c"],
-    "scrub": ["tests/scrub.c", "tests/stand_in_x86_64.S", "tests/key_x86_64.S"],
-    "depth": ["tests/depth.c", "tests/scripts.c", "tests/lent.c"],
-    "guard": ["tests/guard.c", "tests/guard_edges.c", "tests/guard_wrong.c", "tests/guard_scrubbed.c",
-              "tests/scripts.c", "tests/lent.c"],
-    "replay": ["tests/replay.c", "tests/scripts.c", "tests/lent.c"],
-    "key": ["tests/key.c", "tests/key_search.c", "tests/key_x86_64.S", "tests/scripts.c", "tests/lent.c"],
+    "runner": PORT + ["runner.c"],
+    # A stand-in has the port's name here, so nothing may ask for the archive, and live.c does.
+    "scrub": SCRUBBED + ["tests/scrub.c", "tests/stand_in_x86_64.S", "tests/key_x86_64.S"],
+    "depth": PORT + ["tests/depth.c", "tests/live_steps.c", "tests/scripts.c", "tests/lent.c"],
+    "guard": PORT + ["tests/guard.c", "tests/guard_edges.c", "tests/guard_wrong.c", "tests/guard_scrubbed.c",
+                     "tests/guard_live.c", "tests/guard_live_tests.c", "tests/live_steps.c", "tests/scripts.c",
+                     "tests/lent.c"],
+    "replay": PORT + ["tests/replay.c", "tests/live_steps.c", "tests/scripts.c", "tests/lent.c"],
+    "live_alike": PORT + ["tests/live_alike.c", "tests/live_steps.c", "tests/scripts.c", "tests/lent.c"],
+    "live_wipe": PORT + ["tests/live_wipe.c", "tests/live_steps.c", "tests/scripts.c", "tests/lent.c"],
+    "live_looks": PORT + ["tests/live_looks.c", "tests/live_steps.c", "tests/scripts.c", "tests/lent.c"],
+    "live_long": PORT + ["tests/live_long.c", "tests/live_steps.c", "tests/scripts.c", "tests/lent.c"],
+    "live_threads": PORT + ["tests/live_threads.c", "tests/live_steps.c", "tests/scripts.c", "tests/lent.c"],
+    "example_c": PORT + EXAMPLES[:1],
+    "example_cpp": PORT + EXAMPLES[1:],
+    "key": PORT + ["tests/key.c"] + KEY,
+    "live_key": PORT + ["tests/live_key.c", "tests/live_steps.c"] + KEY,
 }
+COMPILE = ["--target=x86_64-linux-gnu", "-O2", "-Wall", "-Wextra", "-Werror", "-fPIC"]
+COMPILE += ["-nostdinc", "-isystem", "host/kit", "-I", "host", "-c"]
+# The kit has no library of C++, and needs none where there are neither exceptions nor types at run time.
+LANGUAGE = {".c": ["-std=c11"], ".S": [], ".cpp": ["-std=c++11", "-fno-exceptions", "-fno-rtti"]}
 # No vector instructions in our own C: the scrubbed runner leaves vector registers zero, and nothing after it shall
-# fill them.
-COMPILE = ["--target=x86_64-linux-gnu", "-std=c11", "-O2", "-Wall", "-Wextra", "-Werror", "-fPIC"]
-COMPILE += ["-mgeneral-regs-only", "-nostdinc", "-isystem", "host/kit", "-I", "host", "-c"]
+# fill them. Doubles are passed in those registers, so what has doubles can keep them out of all else only: the
+# compiler copies nothing by them and turns no loop into theirs.
+GENERAL = ["-mgeneral-regs-only"]
+DOUBLES = ["-mno-implicit-float", "-fno-vectorize", "-fno-slp-vectorize"]
+HAS_DOUBLES = ["live.c", "tests/live_steps.c", "tests/live_looks.c", "tests/guard_live.c", "tests/guard_live_tests.c",
+               *EXAMPLES]
 LINES_OF_A_FAILURE = 30
 
 
@@ -109,28 +132,36 @@ class Made:
         self.stamp.write_text(self.digest)
 
 
-def make_archive(kit: Kit) -> None:
-    said("proving and building target/staticlib/libscript.a; the first time takes some minutes")
-    rt = subprocess.Popen([kit.rt, "staticlib", "script"], cwd=ROOT, stdin=subprocess.DEVNULL, stdout=subprocess.PIPE,
+def proved(kit: Kit, crate: str) -> Path:
+    rt = subprocess.Popen([kit.rt, "staticlib", crate], cwd=ROOT, stdin=subprocess.DEVNULL, stdout=subprocess.PIPE,
                           stderr=subprocess.STDOUT, text=True, errors="replace")
     lines = []
     for line in rt.stdout or []:
         lines.append(line.rstrip("\n"))
         if line.startswith("rt: "):
             print(line, end="", file=sys.stderr, flush=True)
-    if rt.wait() != 0 or not ARCHIVE.exists():
-        raise Trouble(OTHER, *lines[-LINES_OF_A_FAILURE:], "tg18: rt staticlib script failed")
+    made = ARCHIVE.with_name(f"lib{crate}.a")
+    if rt.wait() != 0 or not made.exists():
+        raise Trouble(OTHER, *lines[-LINES_OF_A_FAILURE:], f"tg18: rt staticlib {crate} failed")
+    return made
+
+
+def make_archive(kit: Kit) -> None:
+    said("proving and building target/staticlib/libtg18.a; the first time takes some minutes")
+    parts = [proved(kit, crate) for crate in CRATES]
+    words = [f"create {ARCHIVE}", *[f"addlib {part}" for part in parts], "save", "end"]
+    ran([kit.tool("llvm-ar"), "-M"], "\n".join(words))
 
 
 def archive(kit: Kit) -> Made:
-    """rt proves crate script anew each time, which takes half a minute; so it is asked only when something has
+    """rt proves the three crates anew each time, which takes two minutes; so it is asked only when something has
     changed."""
-    return Made(ARCHIVE, digest_of(kit, [ROOT / "crates.txt", *sorted((ROOT / "crates").rglob("*"))]))
+    return Made(ARCHIVE, digest_of(kit, [Path(__file__), ROOT / "crates.txt", *sorted((ROOT / "crates").rglob("*"))]))
 
 
-def ran(words: List[str]) -> None:
-    done = subprocess.run(words, cwd=ROOT, stdin=subprocess.DEVNULL, stdout=subprocess.PIPE, stderr=subprocess.STDOUT,
-                          text=True, errors="replace")
+def ran(words: List[str], given: str = "") -> None:
+    done = subprocess.run(words, cwd=ROOT, input=given, stdout=subprocess.PIPE, stderr=subprocess.STDOUT, text=True,
+                          errors="replace")
     if done.returncode != 0:
         lines = done.stdout.splitlines()[-LINES_OF_A_FAILURE:]
         raise Trouble(OTHER, *lines, f"tg18: {Path(words[0]).name} failed: {done.returncode}")
@@ -138,7 +169,8 @@ def ran(words: List[str]) -> None:
 
 def compiled(kit: Kit, source: str) -> str:
     made = BUILT / (source.replace("/", "-") + ".o")
-    ran([kit.tool("clang"), *COMPILE, f"host/{source}", "-o", str(made)])
+    registers = DOUBLES if source in HAS_DOUBLES else GENERAL
+    ran([kit.tool("clang"), *COMPILE, *LANGUAGE[Path(source).suffix], *registers, f"host/{source}", "-o", str(made)])
     return str(made)
 
 
@@ -150,21 +182,28 @@ def linked(kit: Kit, made: Path, objects: List[str]) -> None:
 
 
 def program_of(kit: Kit, name: str) -> Made:
-    return Made(BUILT / name, digest_of(kit, [ARCHIVE, Path(__file__), *sorted(HOST.rglob("*.[chS]"))]))
+    sources = [*sorted(HOST.rglob("*.[chS]")), *[(HOST / example).resolve() for example in EXAMPLES]]
+    return Made(BUILT / name, digest_of(kit, [ARCHIVE, Path(__file__), *sources]))
+
+
+def library(kit: Kit) -> None:
+    """Made anew if anything that is proved has changed."""
+    with one_at_a_time():
+        made = archive(kit)
+        if not made.is_there():
+            make_archive(kit)
+            made.keep()
 
 
 def program(kit: Kit, name: str) -> Path:
     """The program, made anew if it or anything below it has changed."""
     if archive(kit).is_there() and program_of(kit, name).is_there():
         return BUILT / name
+    library(kit)
     with one_at_a_time():
-        below = archive(kit)
-        if not below.is_there():
-            make_archive(kit)
-            below.keep()
         made = program_of(kit, name)
         if not made.is_there():
             said(f"building target/host/{name}")
-            linked(kit, made.path, [compiled(kit, source) for source in SCRUBBED + PROGRAMS[name]])
+            linked(kit, made.path, [compiled(kit, source) for source in PROGRAMS[name]])
             made.keep()
     return made.path

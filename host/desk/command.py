@@ -12,7 +12,7 @@ from pathlib import Path
 from typing import List, Optional, Tuple
 
 from . import build, names, numbers
-from .layout import Entry, answers_in, packed, unpacked
+from .layout import Entry, answers_in, chain, framed, joined, unpacked
 from .lines import answer_lines
 from .png import png_of
 from .text import MOST_ERRORS, read_script
@@ -54,11 +54,12 @@ def script_bytes(path: str) -> bytes:
         raise file_trouble(path, error) from error
 
 
-def script_in(path: str, content: bytes) -> Tuple[bytes, Optional[List[Entry]], Optional[List[int]]]:
-    """The binary script, and of a text its entries and their lines. Every script that is not refused has a byte 0, and
-    no text has."""
+def scripts_in(path: str, content: bytes) -> Tuple[List[bytes], Optional[List[Entry]], Optional[List[int]]]:
+    """The binary scripts, and of a text its entries and their lines. Every script that is not refused has a byte 0, and
+    no text has. A text of any length is a chain of scripts; a binary file is one script, and what is too much for one
+    is for the port to refuse."""
     if b"\0" in content:
-        return content, None, None
+        return [content], None, None
     lines, errors = read_script(content)
     if errors:
         where = "standard input" if path == "-" else path
@@ -66,12 +67,12 @@ def script_in(path: str, content: bytes) -> Tuple[bytes, Optional[List[Entry]], 
         raise Trouble(USAGE, *[f"{where}:{number}: {what}" for number, what in errors[:MOST_ERRORS]], *more)
     entries = [line.entry for line in lines]
     presses = sum(line.is_press for line in lines)
-    return packed(entries[:presses], entries[presses:]), entries, [line.number for line in lines]
+    return chain(entries[:presses], entries[presses:]), entries, [line.number for line in lines]
 
 
-def ran(words: List[str], script: bytes) -> bytes:
-    """The answers, from host/runner.c."""
-    done = subprocess.run(words, input=script, stdout=subprocess.PIPE, stderr=subprocess.PIPE)
+def ran(words: List[str], scripts: List[bytes]) -> bytes:
+    """The answers, from host/runner.c, as those of one script."""
+    done = subprocess.run(words, input=framed(scripts), stdout=subprocess.PIPE, stderr=subprocess.PIPE)
     said = done.stderr.decode(errors="replace").splitlines()
     if done.returncode >= RUNNER_REFUSED:
         number = done.returncode - RUNNER_REFUSED
@@ -80,7 +81,7 @@ def ran(words: List[str], script: bytes) -> bytes:
         raise Trouble(USAGE, *said)
     if done.returncode != 0:
         raise Trouble(OTHER, *said, f"tg18: the runner failed: {done.returncode}")
-    return done.stdout
+    return joined(done.stdout)
 
 
 def write_screen(path: str, colours: Path) -> None:
@@ -100,20 +101,22 @@ def check_once(files: List[Tuple[str, str]]) -> None:
 
 def run(options: argparse.Namespace) -> None:
     check_once(options.memory)
-    script, entries, line_numbers = script_in(options.file, script_bytes(options.file))
+    scripts, entries, line_numbers = scripts_in(options.file, script_bytes(options.file))
     kit = build.Kit()
     words = kit.starts(build.program(kit, "runner"))
     for verb, files in (("load", options.memory), ("dump", options.dump)):
         words += [word for name, path in files for word in (verb, f"{name}={path}")]
     with tempfile.TemporaryDirectory() as folder:
         colours = Path(folder) / "colours"
-        out = ran(words + (["screen", str(colours)] if options.screen else []), script)
+        out = ran(words + (["screen", str(colours)] if options.screen else []), scripts)
         if options.screen:
             write_screen(options.screen, colours)
+    if len(scripts) > 1:
+        build.said(f"{len(entries or [])} presses and steps ran as {len(scripts)} scripts on one unit")
     if options.binary:
         sys.stdout.buffer.write(out)
     else:
-        for line in answer_lines(unpacked(script) if entries is None else entries, line_numbers, answers_in(out)):
+        for line in answer_lines(unpacked(scripts[0]) if entries is None else entries, line_numbers, answers_in(out)):
             print(line)
     sys.stdout.flush()
 

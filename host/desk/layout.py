@@ -1,11 +1,12 @@
-"""The binary form of scripts and answers: crates/runner/specs/Format.antt and Answers.antt."""
+"""The binary form of scripts and answers: Format.antt of crates/runner/specs and Answers.antt of crates/entries/specs;
+and the chains of scripts that host/runner.c takes."""
 
 from __future__ import annotations
 
 import struct
 from typing import List, NamedTuple
 
-from .numbers import ANSWER_BYTES, PRESS, PRESS_BYTES, STEP_BYTES
+from .numbers import ANSWER_BYTES, MOST_PRESSES, MOST_STEPS, PRESS, PRESS_BYTES, STEP_BYTES
 
 
 class Entry(NamedTuple):
@@ -51,3 +52,33 @@ def unpacked(script: bytes) -> List[Entry]:
 def answers_in(out: bytes) -> List[Answer]:
     count = struct.unpack_from("<I", out, 0)[0]
     return [Answer(*struct.unpack_from("<BQQQ", out, 4 + ANSWER_BYTES * i)) for i in range(count)]
+
+
+# ---- chains
+
+
+def parts(entries: List[Entry], most: int) -> List[List[Entry]]:
+    """One at least, and none with more than so many."""
+    return [entries[i:i + most] for i in range(0, len(entries), most)] or [[]]
+
+
+def chain(presses: List[Entry], steps: List[Entry]) -> List[bytes]:
+    """Scripts that do all of them in this order, the last presses with the first steps."""
+    first, rest = parts(presses, MOST_PRESSES), parts(steps, MOST_STEPS)
+    pairs = [(p, []) for p in first[:-1]] + [(first[-1], rest[0])] + [([], s) for s in rest[1:]]
+    return [packed(*pair) for pair in pairs]
+
+
+def framed(scripts: List[bytes]) -> bytes:
+    return b"".join(struct.pack("<Q", len(script)) + script for script in scripts)
+
+
+def joined(outs: bytes) -> bytes:
+    """Answers of scripts, one behind the other, as those of one script."""
+    answers, count, at = [], 0, 0
+    while at < len(outs):
+        more = struct.unpack_from("<I", outs, at)[0]
+        answers.append(outs[at + 4:at + 4 + ANSWER_BYTES * more])
+        at += 4 + ANSWER_BYTES * more
+        count += more
+    return struct.pack("<I", count) + b"".join(answers)

@@ -9,6 +9,7 @@ ssize_t read(int, void *, size_t);
 ssize_t write(int, const void *, size_t);
 int close(int);
 pid_t fork(void);
+unsigned alarm(unsigned);
 long syscall(long, ...);
 __attribute__((noreturn)) void _exit(int);
 

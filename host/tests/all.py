@@ -12,11 +12,12 @@ sys.path.insert(0, str(Path(__file__).resolve().parents[1]))
 from desk import build
 from desk.trouble import Trouble
 
-PROGRAMS = ["scrub", "depth", "key", "guard", "replay"]
+PROGRAMS = ["scrub", "depth", "key", "guard", "replay", "live_alike", "live_looks", "live_wipe", "live_threads",
+            "live_key"]
 GIVEN = {"replay": Path(__file__).with_name("replay.list")}
 # What looks at the process itself: it needs x86-64, as the kit's emulator breaks off where a program opens
 # /proc/self/maps.
-NOT_EMULATED = ["key"]
+NOT_EMULATED = ["key", "live_key"]
 
 
 class Count:

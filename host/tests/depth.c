@@ -1,6 +1,8 @@
-// How deep the port's stack goes: a stack full of one byte, scripts of every kind, and the lowest place that has
-// changed. It fails if an eighth of the scrubbed runner's stack is less.
+// How deep the port's stack goes: a stack full of one byte, scripts of every kind in three ways, and the lowest place
+// that has changed. It fails if an eighth of the scrubbed calls' stack is less.
+#include "addresses.h"
 #include "lent.h"
+#include "live_steps.h"
 #include "scripts.h"
 #include "scrubbed.h"
 #include "tg18.h"
@@ -8,6 +10,36 @@
 #include <string.h>
 
 enum { UNTOUCHED = 0xA7, ROOM = 1048576, SCRIPTS = 1500 };
+
+struct turn {
+    struct tg18_unit state;
+    struct unit unit;
+    struct lent script, out, rgb;
+    size_t script_bytes;
+    uint32_t refusal;
+};
+
+static void whole(void *argument) {
+    struct turn *turn = argument;
+    turn->refusal = run_over(tg18_run_script, &turn->unit, &turn->script, turn->script_bytes, &turn->out);
+}
+
+static void continued(void *argument) {
+    struct turn *turn = argument;
+    const struct tg18_memories memories = memories_of(&turn->unit);
+    turn->refusal = tg18_continue_script(&turn->state, &memories, turn->script.at, turn->script_bytes, turn->out.at,
+                                         turn->out.bytes);
+}
+
+static void live(void *argument) {
+    struct turn *turn = argument;
+    const struct tg18_memories memories = memories_of(&turn->unit);
+    uint32_t whole;
+    do_script(&turn->state, &memories, turn->script.at, turn->out.at, turn->rgb.at);
+    call_the_rest(&turn->state, &memories, FLASH_BASE, turn->rgb.at);
+    tg18_poke(&turn->state, &memories, FLASH_BASE, turn->script.at, turn->script_bytes);
+    tg18_read_block(&turn->state, &memories, FLASH_BASE, turn->out.at, turn->out.bytes, &whole);
+}
 
 static size_t depth_of(const struct lent *stack) {
     size_t i = 0;
@@ -17,28 +49,42 @@ static size_t depth_of(const struct lent *stack) {
     return stack->bytes - i;
 }
 
-int main(void) {
-    struct unit unit = unit_made();
-    struct lent stack = lend(ROOM, AFTER_GUARD), room = lend(65536, AFTER_GUARD), out = lend(131072, AFTER_GUARD);
-    struct lent *m = unit.memory;
-    memset(stack.at, UNTOUCHED, stack.bytes);
+// Bytes that the deepest of many scripts goes; 0 if one is refused.
+static size_t deepest(void (*work)(void *), struct turn *turn, struct lent *stack) {
     uint64_t state = 1;
+    memset(stack->at, UNTOUCHED, stack->bytes);
+    tg18_fresh(&turn->state);
     for (int i = 0; i < SCRIPTS; i++) {
-        struct script script = script_at(room.at);
+        struct script script = script_at(turn->script.at);
         script_any(&script, &state, 100);
-        const uintptr_t arguments[TG18_ARGUMENTS] = {
-            (uintptr_t)m[RAM].at,  m[RAM].bytes,  (uintptr_t)m[SRAM].at,        m[SRAM].bytes,
-            (uintptr_t)m[GPIO].at, m[GPIO].bytes, (uintptr_t)m[FRAMEBUFFER].at, m[FRAMEBUFFER].bytes,
-            (uintptr_t)room.at,    script_length(&script), (uintptr_t)out.at,   out.bytes};
-        uint32_t refusal = tg18_call_on(arguments, stack.at + stack.bytes, TG18_XMM);
-        if (refusal != TG18_DONE) {
-            printf("FAILED depth: script %d was refused: %u\n", i, refusal);
-            return 1;
+        turn->script_bytes = script_length(&script);
+        tg18_call_on(work, turn, stack->at + stack->bytes, TG18_XMM);
+        if (turn->refusal != TG18_DONE) {
+            return 0;
         }
     }
-    size_t depth = depth_of(&stack);
-    int enough = 8 * depth <= TG18_STACK_BYTES;
-    printf("%s depth: %d scripts go %zu bytes deep; the scrubbed runner's stack has %d\n", enough ? "ok" : "FAILED",
-           SCRIPTS, depth, TG18_STACK_BYTES);
-    return !enough;
+    return depth_of(stack);
+}
+
+static const struct {
+    const char *name;
+    void (*work)(void *);
+} ways[] = {{"scripts", whole}, {"scripts that continue a unit", continued}, {"scripts by live calls", live}};
+
+int main(void) {
+    static struct turn turn;
+    struct lent stack = lend(ROOM, AFTER_GUARD);
+    int good = 1;
+    turn.unit = unit_made();
+    turn.script = lend(65536, AFTER_GUARD);
+    turn.out = lend(131072, AFTER_GUARD);
+    turn.rgb = lend(TG18_SCREEN_BYTES, AFTER_GUARD);
+    for (size_t i = 0; i < sizeof ways / sizeof *ways; i++) {
+        size_t depth = deepest(ways[i].work, &turn, &stack);
+        int enough = depth > 0 && 8 * depth <= TG18_STACK_BYTES;
+        printf("%s depth: %d %s go %zu bytes deep; the scrubbed stack has %d\n", enough ? "ok" : "FAILED", SCRIPTS,
+               ways[i].name, depth, TG18_STACK_BYTES);
+        good &= enough;
+    }
+    return !good;
 }

@@ -12,6 +12,8 @@ runner *const entries[ENTRIES] = {tg18_run_script, tg18_run_script_scrubbed};
 const char *const entry_names[ENTRIES] = {"plain", "scrubbed"};
 const char *const edge_names[2] = {"after a guard", "before a guard"};
 
+enum { MOST_SECONDS = 600 };
+
 // Shared with the children.
 static struct {
     char at[160];
@@ -57,6 +59,14 @@ static const struct {
     {"nothing at no address", test_null},
     {"scrubbed, no memory for a stack", test_no_stack},
     {"scrubbed, signals blocked before and after", test_signals},
+    {"live, memories of other lengths", test_live_lengths},
+    {"live, other slices of other lengths", test_live_slices},
+    {"live, edges of memories and registers, sizes 0 to 5", test_live_addresses},
+    {"live, blocks across ends", test_live_blocks},
+    {"live, any doubles and keys", test_live_numbers},
+    {"live, sound events", test_live_events},
+    {"live, units of any bytes", test_live_units},
+    {"live, memories and slices at odd addresses", test_live_odd},
 };
 
 static int in_a_child(size_t i) {
@@ -65,6 +75,7 @@ static int in_a_child(size_t i) {
     fflush(stdout);
     pid_t child = fork();
     if (child == 0) {
+        alarm(MOST_SECONDS); // what does not end is killed
         tests[i].run();
         _exit(0);
     }

@@ -34,6 +34,16 @@ void test_out_lengths(void);
 void test_order(void);
 void test_null(void);
 
+// guard_live_tests.c
+void test_live_lengths(void);
+void test_live_slices(void);
+void test_live_addresses(void);
+void test_live_blocks(void);
+void test_live_numbers(void);
+void test_live_events(void);
+void test_live_units(void);
+void test_live_odd(void);
+
 // guard_scrubbed.c
 void test_no_stack(void);
 void test_signals(void);

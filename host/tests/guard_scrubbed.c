@@ -1,4 +1,4 @@
-// What the scrubbed runner alone has to see to.
+// What the scrubbed calls alone have to see to.
 #define _GNU_SOURCE
 #include "guard.h"
 #include "scripts.h"

@@ -1,8 +1,8 @@
-# uint32_t called(runner *run, const uintptr_t *arguments, uint8_t *registers, enum tg18_vectors vectors)
-# Calls a runner with twelve arguments, and stores directly afterwards the sixteen general registers, 8 bytes each,
-# and behind them the vector registers, 64 bytes each, as many of those as there are. The call is made 128 KiB below
-# the caller's frame, so that what it leaves on the stack is still there when the search is made, whose own frames lie
-# above.
+# uint32_t called(function *run, const uintptr_t *arguments, uint8_t *registers, enum tg18_vectors vectors)
+# Calls a function with twelve arguments, of which it may take fewer, and stores directly afterwards the sixteen
+# general registers, 8 bytes each, and behind them the vector registers, 64 bytes each, as many of those as there are.
+# The call is made 128 KiB below the caller's frame, so that what it leaves on the stack is still there when the search
+# is made, whose own frames lie above.
 
     .text
     .globl called

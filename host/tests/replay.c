@@ -1,17 +1,18 @@
-// Runs the scripts of a list on standard input by both entries, from memories that are zero, and compares what is
-// returned and what is left with the Rust device's. `oracle/script/compare -l` writes the list, replay.list; a line
-// of it is
+// Runs the scripts of a list on standard input in four ways, from memories that are zero, and compares what is
+// returned and what is left with the Rust device's. No live call refuses a script as a whole, so live calls do only
+// those that are not refused. `oracle/script/compare -l` writes the list, replay.list; a line of it is
 //     FAMILY OUT RETURNED ANSWERS RAM SRAM GPIO FRAMEBUFFER SCRIPT
 // OUT is the length of the slice for the answers, whose byte i is 37 * i before; ANSWERS and the next four are
 // digests of all of it and of the memories afterwards, in hex, as is the script; one of no bytes is -.
 #include "lent.h"
+#include "live_steps.h"
 #include "tg18.h"
 #include <stdio.h>
 #include <stdlib.h>
 #include <string.h>
 #include <unistd.h>
 
-enum { LIST_ROOM = 1 << 20, ENTRIES = 2 };
+enum { LIST_ROOM = 1 << 20, ENTRIES = 4 };
 static char list[LIST_ROOM];
 
 struct line {
@@ -21,8 +22,8 @@ struct line {
     uint64_t answers, memory[MEMORIES];
 };
 
-static runner *const entries[ENTRIES] = {tg18_run_script, tg18_run_script_scrubbed};
-static const char *const entry_names[ENTRIES] = {"plain", "scrubbed"};
+static runner *const entries[ENTRIES] = {tg18_run_script, tg18_run_script_scrubbed, run_continued, run_live};
+static const char *const entry_names[ENTRIES] = {"plain", "scrubbed", "continued", "live"};
 static uint32_t line_number, steps_run;
 
 // ---- reading
@@ -155,7 +156,7 @@ int main(void) {
         line_number++;
         struct line line = line_of(text);
         for (int entry = 0; entry < ENTRIES; entry++) {
-            good &= replayed(&line, &unit, entry);
+            good &= (entries[entry] == run_live && line.returned != TG18_DONE) || replayed(&line, &unit, entry);
         }
         steps_run += good ? answers_in(&line) : 0;
         give_back(&line.script);
@@ -164,7 +165,7 @@ int main(void) {
     }
     if (good) {
         printf("ok replay: scripts: %u, presses and steps in them: %u; "
-               "plain and scrubbed leave what the Rust device left\n",
+               "plain, scrubbed, continued and live calls leave what the Rust device left\n",
                line_number, steps_run);
     }
     return !good;

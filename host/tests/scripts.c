@@ -93,7 +93,7 @@ const uint32_t places[PLACES] = {
     0xFF000000, REGISTERS_END,
 };
 
-static const uint32_t registers[] = {
+const uint32_t registers[REGISTERS] = {
     TIMER_BASE, TIMER_RELOAD, TIMER_BASE + 0x10, SOUND_CONTROL, SOUND_RELOAD, SOUND_COMPARE, RTC_SECONDS,
     RTC_MINUTES, RTC_HOURS, RTC_IRQ_STATUS, RTC_IRQ_ENABLE, SPI2_SEND, SPI2_STATUS, SPI2_ANSWER, RTC_ADDRESS,
     RTC_DATA, RTC_COMMAND, RTC_OUT, ADC_CONTROL, ADC_RESULT, SPIFC_SELECT, SPIFC_STATUS, SPIFC_SEND,
@@ -112,20 +112,19 @@ uint64_t below(uint64_t *state, uint64_t n) { return any(state) % n; }
 
 static uint32_t near_place(uint64_t *state) { return places[below(state, PLACES)] + (uint32_t)below(state, 17) - 8; }
 
-static uint32_t any_address(uint64_t *state) {
+uint32_t any_address(uint64_t *state) {
     switch (below(state, 6)) {
     case 0:
         return (uint32_t)any(state);
     case 1:
     case 2:
-        return registers[below(state, sizeof registers / sizeof *registers)] + (uint32_t)below(state, 4);
+        return registers[below(state, REGISTERS)] + (uint32_t)below(state, 4);
     default:
         return near_place(state);
     }
 }
 
-// Bits of a time that is mostly a good one: 2^-8 to below 2^6 seconds.
-static uint64_t any_time(uint64_t *state) {
+uint64_t any_time(uint64_t *state) {
     uint64_t exponent = 1023 - 8 + below(state, 14);
     return below(state, 8) == 0 ? any(state) : exponent << 52 | any(state) >> 12;
 }

@@ -36,8 +36,14 @@ void picture(struct script *script, uint32_t source);
 enum { PLACES = 16 };
 extern const uint32_t places[PLACES];
 
+// Registers that do something, and two that only store.
+enum { REGISTERS = 36 };
+extern const uint32_t registers[REGISTERS];
+
 uint64_t any(uint64_t *state);               // splitmix64
 uint64_t below(uint64_t *state, uint64_t n); // 0 to n - 1
+uint32_t any_address(uint64_t *state);
+uint64_t any_time(uint64_t *state); // the bits of one that is mostly a good one: 2^-8 to below 2^6 seconds
 // At least `steps` of them, of all kinds, with addresses near those places; some presses before them.
 void script_any(struct script *script, uint64_t *state, uint32_t steps);
 

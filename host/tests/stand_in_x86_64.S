@@ -1,5 +1,6 @@
-# uint32_t tg18_run_script(...), in the place of the port: notes its arguments and its stack, and leaves the byte 0xEE
-# in 8 KiB of stack and in every register that it may change. Its answer is 0xEEEEEEEE.
+# Two functions that note their arguments and their stack, and leave the byte 0xEE in 8 KiB of stack and in every
+# register that they may change: uint32_t tg18_run_script(...), in the place of the port, whose answer is 0xEEEEEEEE,
+# and below it, as its end, void leave_all(void *argument).
 
     .text
     .globl tg18_run_script
@@ -17,6 +18,11 @@ tg18_run_script:
     mov 8 * \n(%rsp), %rcx
     mov %rcx, 40 + 8 * \n(%rax)
     .endr
+    .globl leave_all
+    .type leave_all, @function
+leave_all:
+    lea noted(%rip), %rax
+    mov %rdi, (%rax)
     mov %rsp, 96(%rax)
     sub $8200, %rsp
     mov %rsp, %rdi
@@ -53,6 +59,7 @@ tg18_run_script:
     .endr
     ret
     .size tg18_run_script, . - tg18_run_script
+    .size leave_all, . - leave_all
 
 # uint32_t masks_used(void): all of k0 to k7 in one
     .globl masks_used

@@ -5,7 +5,7 @@ import struct
 import unittest
 
 from desk import numbers
-from desk.layout import Answer, Entry, answers_in, bits_of, packed, unpacked
+from desk.layout import Answer, Entry, answers_in, bits_of, chain, joined, packed, unpacked
 from desk.lines import answer_lines, said
 from desk.text import read_entry, read_script, written
 
@@ -106,6 +106,29 @@ class Both(unittest.TestCase):
     def test_answers(self):
         out = struct.pack("<IBQQQBQQQ", 2, numbers.DONE, 1, 2, 3, numbers.NO_NEXT_TIME, 0, 0, 0) + b"later"
         self.assertEqual(answers_in(out), [Answer(numbers.DONE, 1, 2, 3), Answer(numbers.NO_NEXT_TIME, 0, 0, 0)])
+
+
+class Chains(unittest.TestCase):
+    def counts(self, presses, steps):
+        """Of presses and steps in each script, where each entry has its own number."""
+        first = [Entry(numbers.PRESS, 0, 1, i) for i in range(presses)]
+        rest = [Entry(numbers.READ, 4, 0, i) for i in range(steps)]
+        scripts = [unpacked(script) for script in chain(first, rest)]
+        self.assertEqual([entry for script in scripts for entry in script], first + rest)
+        kinds = [[entry.kind for entry in script] for script in scripts]
+        return [(kind.count(numbers.PRESS), kind.count(numbers.READ)) for kind in kinds]
+
+    def test_how_lists_are_cut(self):
+        self.assertEqual(self.counts(0, 0), [(0, 0)])
+        self.assertEqual(self.counts(4096, 4096), [(4096, 4096)])
+        self.assertEqual(self.counts(0, 4097), [(0, 4096), (0, 1)])
+        self.assertEqual(self.counts(4097, 0), [(4096, 0), (1, 0)])
+        self.assertEqual(self.counts(8193, 8192), [(4096, 0), (4096, 0), (1, 4096), (0, 4096)])
+
+    def test_answers_are_joined(self):
+        one = struct.pack("<BQQQ", numbers.DONE, 1, 2, 3)
+        outs = struct.pack("<I", 2) + one * 2 + struct.pack("<I", 0) + struct.pack("<I", 1) + one
+        self.assertEqual(joined(outs), struct.pack("<I", 3) + one * 3)
 
 
 class Lines(unittest.TestCase):

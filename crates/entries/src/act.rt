@@ -3,6 +3,7 @@ ghost use mathlib.Core.Path.{_≡_};
 ghost use mathlib.Core.List.{List};
 ghost use lib.Ieee.{Float};
 ghost use Rattle.state.specs.Bank.{devicesIn, partsIn};
+ghost use Rattle.state.specs.Packed.{StaysPacked};
 ghost use Rattle.system.specs.Bank.{machineOf};
 ghost use Rattle.entries.specs.Inner.{soundReply, countersReply, colourReply};
 ghost use Rattle.entries.specs.Turn.{runState, afterStep};
@@ -70,7 +71,7 @@ pub fn act(
     out: &mut [u8],
     to: usize,
 )
-    ensures { λ _. ⌜ runState
+    ensures { λ _. ⌜ (runState
         (machineOf (now (slots .exit)) (now (addresses .exit)) (now (values .exit)) (now (rtc .exit)) (now (page .exit))
         (now (onsets .exit)) (now (frequencies .exit)) (now (duties .exit)) (now (starts .exit)) (now (codes .exit))
         (partsIn (now (cells .exit)) (now (floats .exit)))
@@ -83,7 +84,8 @@ pub fn act(
         (now (codes .entry))
         (partsIn (now (cells .entry)) (now (floats .entry)))
         (now (ram .entry)) (now (sram .entry)) (now (gpio .entry)) (now (fb .entry))) (now (out .entry)))
-        to e ⌝ }
+        to e)
+        × StaysPacked (now (cells .entry)) (now (floats .entry)) (now (cells .exit)) (now (floats .exit)) ⌝ }
 {
     let kind = e.kind;
     match kind {

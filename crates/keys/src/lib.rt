@@ -2,9 +2,9 @@
 //
 // A press is a time and a key's code at one place of two lent arrays; `Keys` is the rest of the state. Any value is a
 // state: a count above 64 counts as 64.
+pub mod down;
 pub mod edges;
 pub mod gpio;
-pub mod live;
 pub mod presses;
 
 ghost use mathlib.Core.Path.{_≡_};

@@ -7,6 +7,7 @@ use mathlib.Core.Logic.{_≢_}
 use native.Mathlib.Nat.{add-sub-cancel-left}
 use native.Mathlib.Omega.{arith}
 use lib.Dec.{eqb, ltb, leb}
+use lib.Ieee.{Float}
 use lib.ListN.{length, getD, set, replicate}
 use lib.Seq.{getD-set-same, getD-set-other}
 use borrow.Author.Tests.{eq-eqb, ne-eqb, lt-ltb, le-ltb, lt-leb, le-leb, ltb-true, ltb-false, eqb-true}
@@ -15,8 +16,9 @@ use Rattle.map.specs.Numbers.{BAD-MEMORY, BAD-SCRIPT, OUT-TOO-SHORT, PRESS}
 use Rattle.memory.specs.Bytes.{loaded, storedAt}
 use Rattle.memory.proofs.Cases.{load-none, load-front}
 use Rattle.whole.proofs.Choice.{both, by-same, by-less}
+use Rattle.state.specs.Packed.{Answered}
 use Rattle.system.specs.declared.System.{System}
-use Rattle.system.specs.System.{machine, freshSystem}
+use Rattle.system.specs.System.{Machine, machine, freshSystem}
 use Rattle.entries.specs.declared.Entry.{Entry}
 use Rattle.entries.specs.Answers.{answerBytes}
 use Rattle.entries.specs.Turn.{kindIn, lastKind, RunState, runState, afterEntry}
@@ -24,7 +26,8 @@ use Rattle.runner.specs.Format.{pressBytes, stepBytes, mostPresses, most
 use Rattle.runner.specs.Format.{kindsFrom}
 use Rattle.runner.specs.Inner.{Kinds}
 use Rattle.runner.specs.Format.{behindPresses, badWith, badScript, pressFrom, stepFrom, entryAt, entriesFrom}
-use Rattle.runner.specs.Script.{afterEntries, Ended, ended, endOf, badMemory, outTooShort, runOf, scriptOf}
+use Rattle.runner.specs.Script.{afterEntries, badMemory, outTooShort, Continued, continued, stopOf}
+use Rattle.runner.specs.Script.{continuedOf, scriptFrom, Ended, ended, endOf, runOf, scriptOf}
 
 -- ---- the kinds of n steps, by a table of the known ones
 
@@ -290,43 +293,57 @@ module _ (s : List ℕ) (p : ℕ) where
       → afterEntries u (4 + answerBytes * p) (entriesFrom s p (p + k - p) p) ≡ t → v ≡ t
   both-run k u e f = e ∙ (rw (add-sub-cancel-left p k) at f)
 
--- from whatever turns out to be the fresh state
-pub run-fresh : (ram sram gpio fb out : List ℕ) (es : List Entry) {x : System} {t : RunState} → x ≡ freshSystem
-    → t ≡ afterEntries (runState (machine x ram sram gpio fb) out) 4 es
-    → t ≡ afterEntries (runState (machine freshSystem ram sram gpio fb) out) 4 es
-run-fresh ram sram gpio fb out es h e =
-    e ∙ ap (λ (z : System). afterEntries (runState (machine z ram sram gpio fb) out) 4 es) h
-
 -- ---- the ends of a script
 
-module _ (ram sram gpio fb script out : List ℕ) where
-  pub run-bad : {b : Bool} → b ≡ badScript script → b ≡ true
-      → ended BAD-SCRIPT ram sram gpio fb out ≡ runOf ram sram gpio fb script out
-  unfolding runOf
-  run-bad e h = rw (← e, h)
+-- of the bank's words where a script is refused
+pub unchanged : (n : ℕ) (l : List ℕ) (f : List Float) → Answered n l f l f
+unchanged n l f = record { packed = λ k. k; still = λ _. (refl, refl) }
+
+module _ (m : Machine) (script out : List ℕ) where
+  pub continue-bad : {b : Bool} → b ≡ badScript script → b ≡ true
+      → continued BAD-SCRIPT m out ≡ continuedOf m script out
+  unfolding continuedOf
+  continue-bad e h = rw (← e, h)
 
   module _ {b : Bool} (e : b ≡ badScript script) (h : b ≡ false) {p k : ℕ} (i : p ≡ pressesIn script)
       (j : k ≡ stepsIn script p) where
-    pub run-short : length out < 4 + answerBytes * (p + k)
-        → ended OUT-TOO-SHORT ram sram gpio fb out ≡ runOf ram sram gpio fb script out
-    unfolding runOf outTooShort
-    run-short d = rw (← e, h, ← i, ← j, lt-ltb _ _ d)
+    pub continue-short : length out < 4 + answerBytes * (p + k)
+        → continued OUT-TOO-SHORT m out ≡ continuedOf m script out
+    unfolding continuedOf outTooShort
+    continue-short d = rw (← e, h, ← i, ← j, lt-ltb _ _ d)
 
-    pub run-done : 4 + answerBytes * (p + k) ≤ length out → {out′ : List ℕ} {x : Ended}
+    pub continue-done : 4 + answerBytes * (p + k) ≤ length out → {out′ : List ℕ} {t : RunState}
         → out′ ≡ storedAt out 0 4 (p + k)
-        → x ≡ endOf (afterEntries (runState (machine freshSystem ram sram gpio fb) out′) 4
-        (entriesFrom script p (p + k) 0))
-        → x ≡ runOf ram sram gpio fb script out
-    unfolding runOf outTooShort
-    run-done d y x = rw (← e, h, ← i, ← j, le-ltb _ _ d, ← y) x
+        → t ≡ afterEntries (runState m out′) 4 (entriesFrom script p (p + k) 0)
+        → stopOf t ≡ continuedOf m script out
+    unfolding continuedOf outTooShort
+    continue-done d y x = rw (← e, h, ← i, ← j, le-ltb _ _ d, ← y) (ap stopOf x)
+
+module _ (ram sram gpio fb script out : List ℕ) where
+  -- from whatever turns out to be the fresh state
+  pub run-fresh : {s : System} {x : Continued} → s ≡ freshSystem
+      → x ≡ continuedOf (machine s ram sram gpio fb) script out → endOf x ≡ runOf ram sram gpio fb script out
+  unfolding runOf
+  run-fresh h e =
+      ap endOf e ∙ ap (λ (z : System). endOf (continuedOf (machine z ram sram gpio fb) script out)) h
 
   pub script-bad : {b : Bool} → b ≡ badMemory ram sram gpio fb → b ≡ true
       → ended BAD-MEMORY ram sram gpio fb out ≡ scriptOf ram sram gpio fb script out
-  unfolding scriptOf
+  unfolding scriptOf scriptFrom
   script-bad e h = rw (← e, h)
 
   pub script-run : {b : Bool} {x : Ended} → b ≡ badMemory ram sram gpio fb → b ≡ false
       → x ≡ runOf ram sram gpio fb script out
       → x ≡ scriptOf ram sram gpio fb script out
-  unfolding scriptOf
+  unfolding scriptOf scriptFrom runOf
   script-run e h x = rw (← e, h) x
+
+-- a script from where a unit stands
+module _ (m : Machine) (script out : List ℕ) {b : Bool} (e : b ≡ badMemory (m .ram) (m .sram) (m .gpio) (m .fb)) where
+  pub script-refused : b ≡ true → continued BAD-MEMORY m out ≡ scriptFrom m script out
+  unfolding scriptFrom
+  script-refused h = rw (← e, h)
+
+  pub script-goes : {x : Continued} → b ≡ false → x ≡ continuedOf m script out → x ≡ scriptFrom m script out
+  unfolding scriptFrom
+  script-goes h i = rw (← e, h) i

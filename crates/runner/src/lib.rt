@@ -1,3 +1,4 @@
-// The runner of scripts: presses and steps over lent memories of any length, from the fresh state. 01, Scripts.
+// The runner of scripts: presses and steps over lent memories of any length, from where the state stands or from the
+// fresh state. 01, Scripts.
 mod format;
 pub mod loops;

@@ -6,14 +6,13 @@ ghost use mathlib.Core.List.{List};
 ghost use Prim.Native.Nat.{ℕ, _+_, _-_, _*_, _≤_};
 ghost use lib.Ieee.{Float};
 ghost use lib.ListN.{length};
-ghost use Rattle.map.specs.Numbers.{DONE};
-ghost use Rattle.system.specs.System.{machine, freshSystem};
 ghost use Rattle.state.specs.Bank.{partsIn};
+ghost use Rattle.state.specs.Packed.{StaysPacked, Answered};
 ghost use Rattle.system.specs.Bank.{machineOf};
 ghost use Rattle.runner.specs.Format.{stepBytes, mostPresses, mostSteps, kindsFrom, behindPresses, entriesFrom};
 ghost use Rattle.entries.specs.Answers.{answerBytes};
 ghost use Rattle.entries.specs.Turn.{runState};
-ghost use Rattle.runner.specs.Script.{afterEntries, ended, endOf, runOf};
+ghost use Rattle.runner.specs.Script.{afterEntries, continued, continuedOf, ended, runOf};
 use crate::format::PRESS_BYTES;
 use crate::format::STEP_BYTES;
 use crate::format::bad_script;
@@ -56,7 +55,8 @@ fn run_presses(
         (machineOf slots addresses values rtc page onsets frequencies duties (now (starts .entry)) (now (codes .entry))
         (partsIn (now (cells .entry)) (now (floats .entry))) ram sram gpio fb) (now (out .entry)))
         4
-        (entriesFrom (now (script .entry)) p n 0)) ⌝ }
+        (entriesFrom (now (script .entry)) p n 0))
+        × StaysPacked (now (cells .entry)) (now (floats .entry)) (now (cells .exit)) (now (floats .entry)) ⌝ }
 {
     let mut from: usize = 4;
     let mut to: usize = 4;
@@ -97,7 +97,7 @@ fn run_entries(
 )
     requires { ⌜ (p ≤ mostPresses) × (k ≤ mostSteps) × (behindPresses p + stepBytes * k ≤ length (now script))
         × (4 + answerBytes * (p + k) ≤ length (now out)) × (kindsFrom (now script) (behindPresses p) k ≡ true) ⌝ }
-    ensures { λ _. ⌜ runState
+    ensures { λ _. ⌜ (runState
         (machineOf (now (slots .exit)) (now (addresses .exit)) (now (values .exit)) (now (rtc .exit)) (now (page .exit))
         (now (onsets .exit)) (now (frequencies .exit)) (now (duties .exit)) (now (starts .exit)) (now (codes .exit))
         (partsIn (now (cells .exit)) (now (floats .exit)))
@@ -110,7 +110,8 @@ fn run_entries(
         (partsIn (now (cells .entry)) (now (floats .entry)))
         (now (ram .entry)) (now (sram .entry)) (now (gpio .entry)) (now (fb .entry))) (now (out .entry)))
         4
-        (entriesFrom (now (script .entry)) p (p + k) 0) ⌝ }
+        (entriesFrom (now (script .entry)) p (p + k) 0))
+        × StaysPacked (now (cells .entry)) (now (floats .entry)) (now (cells .exit)) (now (floats .exit)) ⌝ }
 {
     run_presses(starts, codes, cells, floats, script, p, out);
     let mut from = 8 + PRESS_BYTES * p;
@@ -146,8 +147,14 @@ fn run_entries(
     }
 }
 
-// From the fresh state on, a script's p presses and k steps.
-fn run_all(
+// A script's refusals, as an entry for C answers them.
+const BAD_SCRIPT: u32 = map::BAD_SCRIPT as u32;
+
+const OUT_TOO_SHORT: u32 = map::OUT_TOO_SHORT as u32;
+
+// Runs a script from where the state stands, over memories of any length: what lies past the end of one reads as 0 and
+// is not stored.
+pub fn continue_script(
     slots: &mut [u32; 76],
     addresses: &mut [u32; 256],
     values: &mut [u32; 256],
@@ -165,38 +172,31 @@ fn run_all(
     gpio: &mut [u8],
     fb: &mut [u8],
     script: &[u8],
-    p: usize,
-    k: usize,
     out: &mut [u8],
-)
-    requires { ⌜ (p ≤ mostPresses) × (k ≤ mostSteps) × (behindPresses p + stepBytes * k ≤ length (now script))
-        × (4 + answerBytes * (p + k) ≤ length (now out)) × (kindsFrom (now script) (behindPresses p) k ≡ true) ⌝ }
-    ensures { λ _. ⌜ runState
+) -> u32
+    ensures { λ r. ⌜ (continued r
         (machineOf (now (slots .exit)) (now (addresses .exit)) (now (values .exit)) (now (rtc .exit)) (now (page .exit))
         (now (onsets .exit)) (now (frequencies .exit)) (now (duties .exit)) (now (starts .exit)) (now (codes .exit))
         (partsIn (now (cells .exit)) (now (floats .exit)))
         (now (ram .exit)) (now (sram .exit)) (now (gpio .exit)) (now (fb .exit))) (now (out .exit))
-        ≡ afterEntries
-        (runState
-        (machine freshSystem (now (ram .entry)) (now (sram .entry)) (now (gpio .entry)) (now (fb .entry)))
-        (now (out .entry)))
-        4
-        (entriesFrom (now (script .entry)) p (p + k) 0) ⌝ }
+        ≡ continuedOf
+        (machineOf (now (slots .entry)) (now (addresses .entry)) (now (values .entry)) (now (rtc .entry))
+        (now (page .entry)) (now (onsets .entry)) (now (frequencies .entry)) (now (duties .entry)) (now (starts .entry))
+        (now (codes .entry))
+        (partsIn (now (cells .entry)) (now (floats .entry)))
+        (now (ram .entry)) (now (sram .entry)) (now (gpio .entry)) (now (fb .entry)))
+        (now (script .entry)) (now (out .entry)))
+        × Answered r (now (cells .entry)) (now (floats .entry)) (now (cells .exit)) (now (floats .exit)) ⌝ }
 {
-    reset(
-        slots,
-        addresses,
-        values,
-        rtc,
-        page,
-        onsets,
-        frequencies,
-        duties,
-        starts,
-        codes,
-        cells,
-        floats,
-    );
+    if bad_script(script) {
+        return BAD_SCRIPT;
+    }
+    let p = presses(script);
+    let k = steps(script, p);
+    if out.len() < 4 + ANSWER_BYTES * (p + k) {
+        return OUT_TOO_SHORT;
+    }
+    memory::store(out, 0, 4, (p + k) as u32);
     run_entries(
         slots,
         addresses,
@@ -219,30 +219,22 @@ fn run_all(
         k,
         out,
     );
+    0
 }
 
-// The same, with arrays of its own for the state.
-fn run_fresh(
+// The same from the fresh state, with arrays of its own for the state.
+pub fn run_script(
     ram: &mut [u8],
     sram: &mut [u8],
     gpio: &mut [u8],
     fb: &mut [u8],
     script: &[u8],
-    p: usize,
-    k: usize,
     out: &mut [u8],
-)
-    requires { ⌜ (p ≤ mostPresses) × (k ≤ mostSteps) × (behindPresses p + stepBytes * k ≤ length (now script))
-        × (4 + answerBytes * (p + k) ≤ length (now out)) × (kindsFrom (now script) (behindPresses p) k ≡ true) ⌝ }
-    ensures { λ _. ⌜ ended DONE (now (ram .exit)) (now (sram .exit)) (now (gpio .exit)) (now (fb .exit))
+) -> u32
+    ensures { λ r. ⌜ ended r (now (ram .exit)) (now (sram .exit)) (now (gpio .exit)) (now (fb .exit))
         (now (out .exit))
-        ≡ endOf
-        (afterEntries
-        (runState
-        (machine freshSystem (now (ram .entry)) (now (sram .entry)) (now (gpio .entry)) (now (fb .entry)))
-        (now (out .entry)))
-        4
-        (entriesFrom (now (script .entry)) p (p + k) 0)) ⌝ }
+        ≡ runOf (now (ram .entry)) (now (sram .entry)) (now (gpio .entry)) (now (fb .entry)) (now (script .entry))
+        (now (out .entry)) ⌝ }
 {
     let mut slots = [0u32; 76];
     let mut addresses = [0u32; 256];
@@ -256,7 +248,21 @@ fn run_fresh(
     let mut codes = [0u8; 64];
     let mut cells = [0u64; CELLS];
     let mut floats = [0.0; FLOATS];
-    run_all(
+    reset(
+        &mut slots,
+        &mut addresses,
+        &mut values,
+        &mut rtc,
+        &mut page,
+        &mut onsets,
+        &mut frequencies,
+        &mut duties,
+        &mut starts,
+        &mut codes,
+        &mut cells,
+        &mut floats,
+    );
+    continue_script(
         &mut slots,
         &mut addresses,
         &mut values,
@@ -274,40 +280,6 @@ fn run_fresh(
         gpio,
         fb,
         script,
-        p,
-        k,
         out,
-    );
-}
-
-// A script's refusals, as an entry for C answers them.
-const BAD_SCRIPT: u32 = map::BAD_SCRIPT as u32;
-
-const OUT_TOO_SHORT: u32 = map::OUT_TOO_SHORT as u32;
-
-// Runs a script over memories of any length: what lies past the end of one reads as 0 and is not stored.
-pub fn run_script(
-    ram: &mut [u8],
-    sram: &mut [u8],
-    gpio: &mut [u8],
-    fb: &mut [u8],
-    script: &[u8],
-    out: &mut [u8],
-) -> u32
-    ensures { λ r. ⌜ ended r (now (ram .exit)) (now (sram .exit)) (now (gpio .exit)) (now (fb .exit))
-        (now (out .exit))
-        ≡ runOf (now (ram .entry)) (now (sram .entry)) (now (gpio .entry)) (now (fb .entry)) (now (script .entry))
-        (now (out .entry)) ⌝ }
-{
-    if bad_script(script) {
-        return BAD_SCRIPT;
-    }
-    let p = presses(script);
-    let k = steps(script, p);
-    if out.len() < 4 + ANSWER_BYTES * (p + k) {
-        return OUT_TOO_SHORT;
-    }
-    memory::store(out, 0, 4, (p + k) as u32);
-    run_fresh(ram, sram, gpio, fb, script, p, k, out);
-    0
+    )
 }

@@ -18,8 +18,9 @@ use Rattle.entries.specs.declared.Entry.{Entry}
 use Rattle.runner.specs.Format.{pressesIn, entriesIn, badScript, entriesFrom, entriesOf}
 use Rattle.entries.specs.Answers.{reply, inBits, replyOf, answerBytes, answerLaid, laidAll}
 use Rattle.entries.specs.Turn.{turn, opOf, turnOf, RunState, runState}
-use Rattle.runner.specs.Script.{afterEntries, Ended, ended, endOf, badMemory, outTooShort, startOf, runOf, scriptOf}
-use Rattle.script.specs.Fold.{Accepted, start, opsOf, repliesOf, answered, withCount, answerAt, fitted}
+use Rattle.runner.specs.Script.{afterEntries, badMemory, outTooShort, Continued, continued, startOf, stopOf}
+use Rattle.runner.specs.Script.{continuedOf, scriptFrom, Ended, ended, endOf, scriptOf}
+use Rattle.script.specs.Fold.{Runs, Accepted, start, opsOf, repliesOf, answered, withCount, answerAt, fitted}
 use Rattle.entries.proofs.Turns.{no-bits}
 use Rattle.runner.proofs.Runs.{few-entries}
 use Rattle.script.proofs.Laid.{laid-length, all-length, all-before, all-behind, all-first}
@@ -71,61 +72,54 @@ one-answer m (b ∷ before) e later l at h =
     (at + answerBytes) room ∙
     ap (λ (n : Machine). fitted (turnOf (after n (opsOf before)) e .answer)) (turn-step m b))
 
--- ---- the whole
+-- ---- a script from where a machine stands
 
-module _ (ram sram gpio fb script out : List ℕ) where
-  -- by whether it is 7, 10, 11
-  abbrev whole : Bool → Bool → Bool → Ended
-  whole a b c = cond a (ended BAD-MEMORY ram sram gpio fb out)
-      (cond b (ended BAD-SCRIPT ram sram gpio fb out) (cond c (ended OUT-TOO-SHORT ram sram gpio fb out)
-      (endOf (afterEntries (startOf ram sram gpio fb script out) 4 (entriesOf script)))))
+module _ (m : Machine) (script out : List ℕ) where
+  -- by whether it is 10, 11
+  abbrev continuing : Bool → Bool → Continued
+  continuing b c = cond b (continued BAD-SCRIPT m out) (cond c (continued OUT-TOO-SHORT m out)
+      (stopOf (afterEntries (startOf m script out) 4 (entriesOf script))))
 
-  -- 7, 10, 11 IN THIS ORDER, or done
-  pub refusals-in-order : scriptOf ram sram gpio fb script out .refusal ≡ cond (badMemory ram sram gpio fb) BAD-MEMORY
-      (cond (badScript script) BAD-SCRIPT (cond (outTooShort script out) OUT-TOO-SHORT DONE))
-  unfolding scriptOf runOf
-  refusals-in-order = by (badMemory ram sram gpio fb) (badScript script) (outTooShort script out)
+  -- 10, 11 in this order, or done
+  pub continued-in-order : continuedOf m script out .refusal
+      ≡ cond (badScript script) BAD-SCRIPT (cond (outTooShort script out) OUT-TOO-SHORT DONE)
+  unfolding continuedOf
+  continued-in-order = by (badScript script) (outTooShort script out)
     where
-      by : (a b c : Bool) → whole a b c .refusal ≡ cond a BAD-MEMORY (cond b BAD-SCRIPT (cond c OUT-TOO-SHORT DONE))
-      by true b c = refl
-      by false true c = refl
-      by false false true = refl
-      by false false false = refl
+      by : (b c : Bool) → continuing b c .refusal ≡ cond b BAD-SCRIPT (cond c OUT-TOO-SHORT DONE)
+      by true c = refl
+      by false true = refl
+      by false false = refl
 
-  -- A SCRIPT THAT IS REFUSED CHANGES NOTHING: memories and output as they were
-  pub script-unchanged : scriptOf ram sram gpio fb script out .refusal ≢ DONE
-      → scriptOf ram sram gpio fb script out
-      ≡ ended (scriptOf ram sram gpio fb script out .refusal) ram sram gpio fb out
-  unfolding scriptOf runOf
-  script-unchanged h = by (badMemory ram sram gpio fb) (badScript script) (outTooShort script out) h
+  -- A SCRIPT THAT IS REFUSED CHANGES NOTHING: machine and output as they were
+  pub continued-unchanged : continuedOf m script out .refusal ≢ DONE
+      → continuedOf m script out ≡ continued (continuedOf m script out .refusal) m out
+  unfolding continuedOf
+  continued-unchanged h = by (badScript script) (outTooShort script out) h
     where
-      by : (a b c : Bool) → whole a b c .refusal ≢ DONE
-          → whole a b c ≡ ended (whole a b c .refusal) ram sram gpio fb out
-      by true b c h = refl
-      by false true c h = refl
-      by false false true h = refl
-      by false false false h = absurd (h refl)
+      by : (b c : Bool) → continuing b c .refusal ≢ DONE → continuing b c ≡ continued (continuing b c .refusal) m out
+      by true c h = refl
+      by false true h = refl
+      by false false h = absurd (h refl)
 
-module _ (ram sram gpio fb script out : List ℕ) (ok : Accepted ram sram gpio fb script out) where
+module _ (m : Machine) (script out : List ℕ) (ok : Runs script out) where
   -- WHAT A SCRIPT LEAVES: the machine after its operations; the count, and their answers behind it
-  pub script-folds : scriptOf ram sram gpio fb script out
-      ≡ endOf (runState (after (start ram sram gpio fb) (opsOf (entriesOf script)))
-      (laidAll (withCount script out) 4 (answered ram sram gpio fb script)))
-  unfolding scriptOf runOf
-  script-folds = rw (ok .memory, ok .script, ok .room)
-      (ap endOf (runner-folds (startOf ram sram gpio fb script out) 4 (entriesOf script)))
+  pub continued-folds : continuedOf m script out
+      ≡ stopOf (runState (after m (opsOf (entriesOf script)))
+      (laidAll (withCount script out) 4 (repliesOf m (entriesOf script))))
+  unfolding continuedOf
+  continued-folds = rw (ok .script, ok .room) (ap stopOf (runner-folds (startOf m script out) 4 (entriesOf script)))
 
-  out-is : scriptOf ram sram gpio fb script out .out
-      ≡ laidAll (withCount script out) 4 (answered ram sram gpio fb script)
-  out-is = ap (λ (x : Ended). x .out) script-folds
+  out-is : continuedOf m script out .out ≡ laidAll (withCount script out) 4 (repliesOf m (entriesOf script))
+  out-is = ap (λ (x : Continued). x .out) continued-folds
 
   room : 4 + answerBytes * entriesIn script ≤ length out
   unfolding outTooShort
   room = ltb-false (length out) (4 + answerBytes * entriesIn script) (ok .room)
 
   -- the output begins with the count p + s
-  pub count-first : loaded (scriptOf ram sram gpio fb script out .out) 0 4 ≡ entriesIn script
-  count-first = rw out-is (all-before (withCount script out) 4 (answered ram sram gpio fb script) 0 4 four
+  pub count-leads : loaded (continuedOf m script out .out) 0 4 ≡ entriesIn script
+  count-leads = rw out-is (all-before (withCount script out) 4 (repliesOf m (entriesOf script)) 0 4 four
       ∙ load-store out 0 4 (entriesIn script) four enough ∙ small)
     where
       four : 4 ≤ 4
@@ -138,34 +132,102 @@ module _ (ram sram gpio fb script out : List ℕ) (ok : Accepted ram sram gpio f
       small = few-entries script (ok .script)
 
   -- EACH ANSWER IS THE BUS'S: that of the entry's operation in the machine after those before it
-  pub each-answer : (before later : List Entry) (e : Entry) → entriesOf script ≡ before ++ (e ∷ later)
-      → answerAt (scriptOf ram sram gpio fb script out .out) (4 + answerBytes * length before) ≡ fitted
-      (replyOf (inBits (e .kind)) (step (after (start ram sram gpio fb) (opsOf before)) (opOf e)))
+  pub continued-answer : (before later : List Entry) (e : Entry) → entriesOf script ≡ before ++ (e ∷ later)
+      → answerAt (continuedOf m script out .out) (4 + answerBytes * length before) ≡ fitted
+      (replyOf (inBits (e .kind)) (step (after m (opsOf before)) (opOf e)))
   unfolding turnOf
-  each-answer before later e split =
+  continued-answer before later e split =
       let full : 4 + answerBytes * length (before ++ (e ∷ later)) ≤ length (withCount script out) =
       rw (
         ← split,
         entries-count script (pressesIn script) (entriesIn script) 0,
         store-length out 0 4 (entriesIn script),
       ) room in
-      rw (out-is, split) (one-answer (start ram sram gpio fb) before e later (withCount script out) 4 full)
+      rw (out-is, split) (one-answer m before e later (withCount script out) 4 full)
+
+  -- later bytes stay, and so does the length
+  pub behind-stay : (p : ℕ) → 4 + answerBytes * entriesIn script ≤ p
+      → getD (continuedOf m script out .out) p 0 ≡ getD out p 0
+  behind-stay p h =
+      let n : length (repliesOf m (entriesOf script)) ≡ entriesIn script =
+      answers-count m (entriesOf script) ∙ entries-count script (pressesIn script) (entriesIn script) 0 in
+      let h₁ : 4 + answerBytes * length (repliesOf m (entriesOf script)) ≤ p = rw n h in
+      let h₂ : 0 + 4 ≤ p = omega arith in
+      rw out-is (all-behind (withCount script out) 4 (repliesOf m (entriesOf script)) p h₁
+      ∙ byte-other out 0 4 (entriesIn script) p (inr h₂))
+
+  pub out-length : length (continuedOf m script out .out) ≡ length out
+  out-length = rw out-is (all-length (withCount script out) 4 (repliesOf m (entriesOf script))
+      ∙ store-length out 0 4 (entriesIn script))
+
+-- ---- the whole, from the fresh state
+
+module _ (ram sram gpio fb script out : List ℕ) where
+  -- tg18_fresh AND tg18_continue_script IN ONE
+  pub script-continues : badMemory ram sram gpio fb ≡ false
+      → scriptOf ram sram gpio fb script out ≡ endOf (continuedOf (start ram sram gpio fb) script out)
+  unfolding scriptOf scriptFrom
+  script-continues h = rw h
+
+  -- by whether it is 7
+  abbrev whole : Bool → Ended
+  whole a = endOf (cond a (continued BAD-MEMORY (start ram sram gpio fb) out)
+      (continuedOf (start ram sram gpio fb) script out))
+
+  -- 7, 10, 11 IN THIS ORDER, or done
+  pub refusals-in-order : scriptOf ram sram gpio fb script out .refusal ≡ cond (badMemory ram sram gpio fb) BAD-MEMORY
+      (cond (badScript script) BAD-SCRIPT (cond (outTooShort script out) OUT-TOO-SHORT DONE))
+  unfolding scriptOf scriptFrom
+  refusals-in-order = by (badMemory ram sram gpio fb)
+    where
+      by : (a : Bool) → whole a .refusal ≡ cond a BAD-MEMORY (cond (badScript script) BAD-SCRIPT
+          (cond (outTooShort script out) OUT-TOO-SHORT DONE))
+      by true = refl
+      by false = continued-in-order (start ram sram gpio fb) script out
+
+  -- A SCRIPT THAT IS REFUSED CHANGES NOTHING: memories and output as they were
+  pub script-unchanged : scriptOf ram sram gpio fb script out .refusal ≢ DONE
+      → scriptOf ram sram gpio fb script out
+      ≡ ended (scriptOf ram sram gpio fb script out .refusal) ram sram gpio fb out
+  unfolding scriptOf scriptFrom
+  script-unchanged h = by (badMemory ram sram gpio fb) h
+    where
+      by : (a : Bool) → whole a .refusal ≢ DONE → whole a ≡ ended (whole a .refusal) ram sram gpio fb out
+      by true h = refl
+      by false h = ap endOf (continued-unchanged (start ram sram gpio fb) script out h)
+
+module _ (ram sram gpio fb script out : List ℕ) (ok : Accepted ram sram gpio fb script out) where
+  abbrev runs : Runs script out
+  runs = record { script = ok .script; room = ok .room }
+
+  -- WHAT A SCRIPT LEAVES: the machine after its operations; the count, and their answers behind it
+  pub script-folds : scriptOf ram sram gpio fb script out
+      ≡ endOf (stopOf (runState (after (start ram sram gpio fb) (opsOf (entriesOf script)))
+      (laidAll (withCount script out) 4 (answered ram sram gpio fb script))))
+  script-folds = script-continues ram sram gpio fb script out (ok .memory)
+      ∙ ap endOf (continued-folds (start ram sram gpio fb) script out runs)
+
+  same-out : scriptOf ram sram gpio fb script out .out ≡ continuedOf (start ram sram gpio fb) script out .out
+  same-out = ap (λ (x : Ended). x .out) (script-continues ram sram gpio fb script out (ok .memory))
+
+  -- the output begins with the count p + s
+  pub count-first : loaded (scriptOf ram sram gpio fb script out .out) 0 4 ≡ entriesIn script
+  count-first = rw same-out (count-leads (start ram sram gpio fb) script out runs)
+
+  -- EACH ANSWER IS THE BUS'S: that of the entry's operation in the machine after those before it
+  pub each-answer : (before later : List Entry) (e : Entry) → entriesOf script ≡ before ++ (e ∷ later)
+      → answerAt (scriptOf ram sram gpio fb script out .out) (4 + answerBytes * length before) ≡ fitted
+      (replyOf (inBits (e .kind)) (step (after (start ram sram gpio fb) (opsOf before)) (opOf e)))
+  each-answer before later e split =
+      rw same-out (continued-answer (start ram sram gpio fb) script out runs before later e split)
 
   -- later bytes stay, and so does the length
   pub later-stay : (p : ℕ) → 4 + answerBytes * entriesIn script ≤ p
       → getD (scriptOf ram sram gpio fb script out .out) p 0 ≡ getD out p 0
-  later-stay p h =
-      let n : length (answered ram sram gpio fb script) ≡ entriesIn script =
-      answers-count (start ram sram gpio fb) (entriesOf script)
-      ∙ entries-count script (pressesIn script) (entriesIn script) 0 in
-      let h₁ : 4 + answerBytes * length (answered ram sram gpio fb script) ≤ p = rw n h in
-      let h₂ : 0 + 4 ≤ p = omega arith in
-      rw out-is (all-behind (withCount script out) 4 (answered ram sram gpio fb script) p h₁
-      ∙ byte-other out 0 4 (entriesIn script) p (inr h₂))
+  later-stay p h = rw same-out (behind-stay (start ram sram gpio fb) script out runs p h)
 
   pub length-stays : length (scriptOf ram sram gpio fb script out .out) ≡ length out
-  length-stays = rw out-is (all-length (withCount script out) 4 (answered ram sram gpio fb script)
-      ∙ store-length out 0 4 (entriesIn script))
+  length-stays = rw same-out (out-length (start ram sram gpio fb) script out runs)
 
 -- ---- a refused entry
 

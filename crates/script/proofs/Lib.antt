@@ -2,5 +2,6 @@
 pub mod Laid
 pub mod Fold
 pub mod Wiped
+pub mod Cut
 pub mod Within
 pub mod Unique

@@ -2,9 +2,8 @@
 -- output.
 use Prim.Native.Nat.{ℕ, _+_, _*_}
 use mathlib.Core.Path.{_≡_, refl, sym, ap, _∙_}
-use mathlib.Core.Bool.{Bool, true, false, not, _||_}
+use mathlib.Core.Bool.{false, not}
 use mathlib.Core.List.{List, [], _∷_, _++_, append-assoc}
-use native.Mathlib.Omega.{arith}
 use lib.Dec.{eqb}
 use lib.ListN.{length}
 use borrow.Author.Tests.{not-false, eqb-true}
@@ -33,7 +32,7 @@ pub record Unit (ram sram gpio fb : List ℕ) : Type 0 where
   pub gpio-size : length gpio ≡ GPIO-SIZE
   pub fb-size : length fb ≡ FRAMEBUFFER-SIZE
 
-good-memory : (ram sram gpio fb : List ℕ) → badMemory ram sram gpio fb ≡ false → Unit ram sram gpio fb
+pub good-memory : (ram sram gpio fb : List ℕ) → badMemory ram sram gpio fb ≡ false → Unit ram sram gpio fb
 unfolding badMemory
 good-memory ram sram gpio fb h =
     let a = neither _ _ h in
@@ -48,7 +47,7 @@ good-memory ram sram gpio fb h =
 
 -- ---- operations
 
-ops-both : (es fs : List Entry) → opsOf (es ++ fs) ≡ opsOf es ++ opsOf fs
+pub ops-both : (es fs : List Entry) → opsOf (es ++ fs) ≡ opsOf es ++ opsOf fs
 unfolding opsOf
 ops-both [] fs = refl
 ops-both (e ∷ es) fs = ap (λ (os : List Op). opOf e ∷ os) (ops-both es fs)

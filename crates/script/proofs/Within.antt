@@ -17,7 +17,7 @@ use Rattle.entries.specs.Turn.{opOf, turnOf}
 use Rattle.script.specs.Fold.{start, opsOf}
 
 -- the limits are of the state alone, so whatever memories are lent
-start-limits : (ram sram gpio fb : List ℕ) → WithinLimits (start ram sram gpio fb)
+pub start-limits : (ram sram gpio fb : List ℕ) → WithinLimits (start ram sram gpio fb)
 unfolding wipedOf
 start-limits ram sram gpio fb =
     let w = fresh-limits 0 0 0 0 in record {

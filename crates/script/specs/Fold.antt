@@ -13,6 +13,11 @@ use Rattle.entries.specs.Answers.{reply}
 use Rattle.entries.specs.Turn.{opOf, turnOf}
 use Rattle.runner.specs.Script.{badMemory, outTooShort}
 
+-- a script that is run from where a machine stands: neither 10 nor 11
+pub record Runs (bytes out : List ℕ) : Type 0 where
+  pub script : badScript bytes ≡ false
+  pub room : outTooShort bytes out ≡ false
+
 -- no refusal as a whole
 pub record Accepted (ram sram gpio fb bytes out : List ℕ) : Type 0 where
   pub memory : badMemory ram sram gpio fb ≡ false

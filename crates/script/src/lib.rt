@@ -5,7 +5,7 @@ ghost use mathlib.Core.Path.{_≡_};
 ghost use Rattle.runner.specs.Script.{ended, badMemory, scriptOf};
 
 // 7: a memory has not the length that a unit's has.
-fn bad_memory(ram: &[u8], sram: &[u8], gpio: &[u8], fb: &[u8]) -> bool
+pub fn bad_memory(ram: &[u8], sram: &[u8], gpio: &[u8], fb: &[u8]) -> bool
     ensures { λ r. ⌜ r ≡ badMemory (now (ram .entry)) (now (sram .entry)) (now (gpio .entry)) (now (fb .entry)) ⌝ }
 {
     (ram.len() != map::RAM_SIZE)

@@ -8,7 +8,7 @@ use Rattle.system.proofs.Lengths.{step-lengths}
 
 -- ---- lengths over operations
 
-after-lengths : (m : Machine) (os : List Op) → SameLengths (after m os) m
+pub after-lengths : (m : Machine) (os : List Op) → SameLengths (after m os) m
 unfolding after
 after-lengths m [] = record { ram = refl; sram = refl; gpio = refl; fb = refl }
 after-lengths m (o ∷ os) =
@@ -21,7 +21,7 @@ after-lengths m (o ∷ os) =
       fb = rest .fb ∙ first .fb;
     }
 
-after-both : (m : Machine) (os ps : List Op) → after m (os ++ ps) ≡ after (after m os) ps
+pub after-both : (m : Machine) (os ps : List Op) → after m (os ++ ps) ≡ after (after m os) ps
 unfolding after
 after-both m [] ps = refl
 after-both m (o ∷ os) ps = after-both (step m o .machine) os ps

@@ -57,5 +57,5 @@ pub fn keys_held(s: System) -> Held
     let devices = s.devices;
     let clocks = devices.clocks;
     let moment = clocks.times;
-    keys::live::keys_held(&starts, &codes, s.keys, moment.now)
+    keys::down::keys_held(&starts, &codes, s.keys, moment.now)
 }

@@ -159,7 +159,7 @@ fn move_to(
 {
     devices_advance(slots, cells, floats, clock, t);
     let k = state::rests::keys_of(cells, floats);
-    let held = keys::live::keys_held(starts, codes, k, t.now);
+    let held = keys::down::keys_held(starts, codes, k, t.now);
     let applied = keys::gpio::sync_gpio(gpio, k.applied, held);
     state::rests::put_applied(cells, applied);
 }

@@ -32,7 +32,7 @@ pub fn set_live(cells: &mut Cells, floats: &mut Floats, key: u32, down: bool) ->
         (now (floats .entry))) key down))
         × Answered r (now (cells .entry)) (now (floats .entry)) (now (cells .exit)) (now (floats .exit)) ⌝ }
 {
-    let refusal = keys::live::check_key(key);
+    let refusal = keys::down::check_key(key);
     let n = key_number(refusal);
     if n != 0 {
         return n;
@@ -65,7 +65,7 @@ pub fn hold_until(cells: &mut Cells, floats: &mut Floats, key: u32, until: f64) 
         (now (floats .entry))) key until))
         × Answered r (now (cells .entry)) (now (floats .entry)) (now (cells .exit)) (now (floats .exit)) ⌝ }
 {
-    hold(floats, key, keys::live::check_hold(key, until))
+    hold(floats, key, keys::down::check_hold(key, until))
 }
 
 pub fn hold_bits(cells: &mut Cells, floats: &mut Floats, key: u32, bits: u64) -> u8
@@ -74,7 +74,7 @@ pub fn hold_bits(cells: &mut Cells, floats: &mut Floats, key: u32, bits: u64) ->
         (now (floats .entry))) key (ofBits binary64 bits)))
         × Answered r (now (cells .entry)) (now (floats .entry)) (now (cells .exit)) (now (floats .exit)) ⌝ }
 {
-    hold(floats, key, keys::live::check_hold_bits(key, bits))
+    hold(floats, key, keys::down::check_hold_bits(key, bits))
 }
 
 // A press of a key at a time.

@@ -33,7 +33,8 @@ pub enum Sounded {
 
 // ---- sound events
 
-// What sounds from a time on.
+// What sounds from a time on. Hosts lend records of it, so its layout is C's.
+#[repr(C)]
 pub struct Event {
     pub time: f64,
     pub frequency: f64,

@@ -8,6 +8,7 @@ use Rattle.runner.specs.Script.{afterEntries}
 use Rattle.runner.specs.Format.{stepBytes, behindPresses, entriesFrom}
 use Rattle.entries.specs.Answers.{answerBytes}
 use Rattle.state.specs.Bank.{partsIn}
+use Rattle.state.specs.Packed.{StaysPacked}
 use Rattle.system.specs.Bank.{machineOf}
 use Rattle.entries.proofs.Laying.{front-long, entry-front, step-entry}
 use Rattle.runner.proofs.Runs.{kind-known, step-next, step-start, step-end, both-run}
@@ -29,11 +30,14 @@ Inv-loop slots₀ addresses₀ values₀ rtc₀ page₀ onsets₀ frequencies₀
     (partsIn cells
     floats)
     ram sram gpio fb) out) to (entriesFrom script p left (p + (k - left))) ≡ afterEntries (runState (machineOf slots₀
-    addresses₀ values₀ rtc₀ page₀ onsets₀ frequencies₀ duties₀ starts₀ codes₀ (partsIn cells₀ floats₀) ram₀ sram₀ gpio₀
+    addresses₀ values₀ rtc₀ page₀ onsets₀ frequencies₀ duties₀ starts₀ codes₀ (partsIn cells₀ floats₀) ram₀ sram₀
+    gpio₀
     fb₀) out₀) (4 + answerBytes * p) (entriesFrom script p k p))
+    × StaysPacked cells₀ floats₀ cells floats
 
 abbrev μ-loop : tie.MeasureT-loop
-μ-loop slots₀ addresses₀ values₀ rtc₀ page₀ onsets₀ frequencies₀ duties₀ starts₀ codes₀ cells₀ floats₀ ram₀ sram₀ gpio₀
+μ-loop slots₀ addresses₀ values₀ rtc₀ page₀ onsets₀ frequencies₀ duties₀ starts₀ codes₀ cells₀ floats₀ ram₀ sram₀
+    gpio₀
     fb₀ script p k out₀ from₀ to₀ left₀ slots addresses values rtc page onsets frequencies duties starts codes cells
     floats ram sram gpio fb out from to left = left
 
@@ -67,7 +71,7 @@ add-to c =
     omega (arith, (c14 .pre .0))
 
 loop-holds : tie.Need-loop-holds Inv-loop μ-loop
-loop-holds c = (omega arith, refl, omega arith, refl, refl, refl, refl, refl, step-start _ _ _ _ _)
+loop-holds c = (omega arith, refl, omega arith, refl, refl, refl, refl, refl, step-start _ _ _ _ _, λ k. k)
 
 step-at-requires : tie.Need-step-at-requires Inv-loop μ-loop
 step-at-requires c κs =
@@ -158,7 +162,8 @@ loop-again c =
     let t = (c29 .loop-test .taken) in
     let e = (c28 .step-at .ensures) in
     let y = (c10 .act .kept .1 .1 .1 .1 .1 .1 .1 .1 .1 .1 .1 .1) in
-    let m = machineOf (l .slots) (l .addresses) (l .values) (l .rtc) (l .page) (l .onsets) (l .frequencies) (l .duties)
+    let m = machineOf (l .slots) (l .addresses) (l .values) (l .rtc) (l .page) (l .onsets) (l .frequencies) (l
+    .duties)
     (l .starts) (l .codes) (partsIn (l .cells) (l .floats)) (l .ram) (l .sram) (l .gpio) (l .fb) in
     let w = (c10 .act .last) in
     let m₁ = machineOf (w .0) (w .1 .0) (w .1 .1 .0) (w .1 .1 .1 .0) (w .1 .1 .1 .1 .0)
@@ -186,8 +191,9 @@ loop-again c =
       (c .before .out2 .given .1) ∙ i .7,
       step-next (a .script .now) (a .p) (l .left) (l .from) (l .to) (runState m (l .out)) t (a .k) (i .0) (i .1) e
           (entry-front m m₁ (l .out) (w .1 .1 .1 .1 .1 .1 .1 .1 .1 .1 .1 .1 .1 .1 .1 .1 .1 .0) (l .to)
-          (c28 .step-at .result) room ((c10 .act .ensures) ∙ step-entry m (take (l .to + answerBytes) (l .out))
+          (c28 .step-at .result) room ((c10 .act .ensures .0) ∙ step-entry m (take (l .to + answerBytes) (l .out))
           (l .to) (c28 .step-at .result) known (front-long (l .out) _ room))) ∙ i .8,
+      λ k. c10 .act .ensures .1 (i .9 k),
     )
 
 same-length : tie.Need-same-length Inv-loop μ-loop
@@ -205,18 +211,23 @@ same-length-4 c = (c .before .loop .inv .6)
 same-length-5 : tie.Need-same-length-5 Inv-loop μ-loop
 same-length-5 c =
     let c4 = c .before .before .before .before in
+    let c4 = c4 in
     (c .before .loop .inv .7) ∙ (c4 .run-presses .kept .1 .1 .1 .1 .1 .1 .0)
 
 returns : tie.Need-returns Inv-loop μ-loop
 returns c =
     let c4 = c .before .before .before .before in
+    let c4 = c4 in
     let c16 = c4 .before .before .before .before .before .before .before .before .before .before .before .before
     in
-    let a = (c16 .args) in
-    both-run (a .script .now) (a .p) (a .k) _ (step-end _ _ _ _ _ _ (c .loop-test .left) (c
-    .before .loop .inv .8)) ((c4 .run-presses .ensures) (a .slots .now) (a .addresses .now) (a .values .now)
-    (a .rtc .now) (a .page .now) (a .onsets .now) (a .frequencies .now) (a .duties .now) (a .ram .now) (a .sram .now)
-    (a .gpio .now) (a .fb .now) (a .p + a .k) (omega arith))
+    let a = (c16 .args) in (
+      both-run (a .script .now) (a .p) (a .k) _ (step-end _ _ _ _ _ _ (c .loop-test .left) (c
+          .before .loop .inv .8)) ((c4 .run-presses .ensures .0) (a .slots .now) (a .addresses .now) (a .values .now)
+          (a .rtc .now) (a .page .now) (a .onsets .now) (a .frequencies .now) (a .duties .now) (a .ram .now) (a .sram
+          .now)
+          (a .gpio .now) (a .fb .now) (a .p + a .k) (omega arith)),
+      λ k. c .before .loop .inv .9 (c4 .run-presses .ensures .1 k),
+    )
 
 pub run-entries-spec : {M : Type 1} → statement M
 run-entries-spec =

@@ -11,6 +11,7 @@ use Rattle.runner.specs.Script.{afterEntries}
 use Rattle.runner.specs.Format.{pressBytes, entriesFrom}
 use Rattle.entries.specs.Answers.{answerBytes}
 use Rattle.state.specs.Bank.{partsIn}
+use Rattle.state.specs.Packed.{StaysPacked}
 use Rattle.system.specs.Bank.{machineOf}
 use Rattle.system.specs.Inner.{partsOf}
 use Rattle.system.proofs.Banks.{press-done}
@@ -33,6 +34,7 @@ Inv-loop starts₀ codes₀ cells₀ floats script p out₀ from₀ to₀ left�
     ≡ afterEntries (runState (machineOf slots addresses values rtc page onsets frequencies duties starts₀ codes₀
     (partsIn cells₀
     floats) ram sram gpio fb) out₀) 4 (entriesFrom script p n 0))
+    × StaysPacked cells₀ floats cells floats
 
 abbrev μ-loop : tie.MeasureT-loop
 μ-loop starts₀ codes₀ cells₀ floats script p out₀ from₀ to₀ left₀ starts codes cells out from to left = left
@@ -45,6 +47,7 @@ loop-holds c = (
   refl,
   λ slots addresses values rtc page onsets frequencies duties ram sram gpio fb n h.
       press-start _ _ _ _,
+  λ k. k,
 )
 
 press-at-requires : tie.Need-press-at-requires Inv-loop μ-loop
@@ -133,16 +136,19 @@ loop-again c =
           (laid-front (l .out) _ (l .to) answer room (laid ∙ laid-room (take (l .to + answerBytes) (l .out)) (l .to)
           answer (front-long (l .out) _ room))))
           ∙ i .4 slots addresses values rtc page onsets frequencies duties ram sram gpio fb n h,
+      λ k. c5 .press-bits .ensures .1 .packed (i .5 k),
     )
 
 same-length : tie.Need-same-length Inv-loop μ-loop
 same-length c = (c .before .loop .inv .3)
 
 returns : tie.Need-returns Inv-loop μ-loop
-returns c =
-    λ slots addresses values rtc page onsets frequencies duties ram sram gpio fb n h. press-end _ _ n _ _ _
-    (c .loop-test .left) (c .before .loop .inv .2) ((c .before .loop .inv .4) slots addresses values rtc page onsets
-    frequencies duties ram sram gpio fb n h)
+returns c = (
+  λ slots addresses values rtc page onsets frequencies duties ram sram gpio fb n h. press-end _ _ n _ _ _
+      (c .loop-test .left) (c .before .loop .inv .2) ((c .before .loop .inv .4) slots addresses values rtc page onsets
+      frequencies duties ram sram gpio fb n h),
+  c .before .loop .inv .5,
+)
 
 pub run-presses-spec : {M : Type 1} → statement M
 run-presses-spec =
