@@ -1,7 +1,7 @@
 //! Times the port's library and the Rust device on the same scripts, in one
 //! process and by turns.
 
-// `live` is set by bench/common.sh.
+// `live` and `session` are set by bench/common.sh.
 #![allow(unknown_lints, unexpected_cfgs)]
 
 #[path = "../oracle/bus/mod.rs"]
@@ -23,6 +23,8 @@ mod memories;
 #[path = "../oracle/script/port.rs"]
 mod port;
 mod rust_side;
+#[cfg(session)]
+mod session;
 
 use std::env;
 use std::hint::black_box;
@@ -173,7 +175,8 @@ fn counted(number: &str, side: &str, count: fn(usize, &str) -> Option<()>) -> Re
 }
 
 const USAGE: &str = "usage: time|agree|live [PART OF A NAME] | families | count NUMBER rust|port
-       live_families | live_count NUMBER rust|port";
+       live_families | live_count NUMBER rust|port
+       session | session_families | session_count NUMBER out|save|in|resume";
 
 /// Of live calls, where they are built in: `bench/run -l` does that, and then
 /// the crate of `host/rust` is needed.
@@ -187,12 +190,31 @@ fn live_calls(words: &[&str]) -> Result<(), String> {
             Ok(())
         }
         ["live_count", number, side] => counted(number, side, live::count),
-        _ => Err(USAGE.to_string()),
+        _ => sessions(words),
     }
 }
 
 #[cfg(not(live))]
-fn live_calls(_: &[&str]) -> Result<(), String> {
+fn live_calls(words: &[&str]) -> Result<(), String> {
+    sessions(words)
+}
+
+/// Of sessions, where they are built in: `bench/run -s` does that.
+#[cfg(session)]
+fn sessions(words: &[&str]) -> Result<(), String> {
+    match *words {
+        ["session"] => session::time_all(),
+        ["session_families"] => {
+            session::list();
+            Ok(())
+        }
+        ["session_count", number, side] => counted(number, side, session::count),
+        _ => Err(USAGE.to_string()),
+    }
+}
+
+#[cfg(not(session))]
+fn sessions(_: &[&str]) -> Result<(), String> {
     Err(USAGE.to_string())
 }
 

@@ -56,3 +56,16 @@ table() {
         }'
     done
 }
+
+# Instructions of saving and of resuming a session, beside those of copying the
+# memories to a buffer and back.
+session_counts() {
+    printf '\n%-14s%12s%12s%8s%12s%12s%8s\n' instructions copy save ratio back resume ratio
+    "$out/bench" session_families | while read -r number name; do
+        for side in out save in resume; do instructions "$number" "$side" session_; done |
+            awk -v name="$name" '{ n[NR] = $1 } END {
+                printf "%-14s%12d%12d%8.2f%12d%12d%8.2f\n",
+                    name, n[1], n[2], n[2] / n[1], n[3], n[4], n[4] / n[3]
+            }'
+    done
+}

@@ -31,6 +31,13 @@ static uint32_t run_nothing(void) {
                            out, sizeof out);
 }
 
+/* There is no room for a session. */
+static uint32_t save_nowhere(void) {
+    uint64_t written = 1;
+    uint32_t refusal = tg18_save_scrubbed(&unit, &memories, NULL, 0, &written);
+    return written == 0 ? refusal : 0;
+}
+
 int main(void) {
     uint32_t value = 0;
     memories.ram = bytes(memories.ram_len = TG18_RAM_BYTES);
@@ -39,6 +46,7 @@ int main(void) {
     memories.framebuffer = bytes(memories.framebuffer_len = TG18_FRAMEBUFFER_BYTES);
     tg18_fresh(&unit);
     printf("%s %d %u ", TG18_VERSION, tg18_unit_bytes() == sizeof unit, (unsigned)tg18_scrubbed(work, &value));
-    printf("0x%x %u %u\n", (unsigned)value, (unsigned)tg18_pending_irq(&unit), (unsigned)run_nothing());
+    printf("0x%x %u %u ", (unsigned)value, (unsigned)tg18_pending_irq(&unit), (unsigned)run_nothing());
+    printf("%u\n", (unsigned)save_nowhere());
     return 0;
 }

@@ -1,11 +1,16 @@
-// The live entries of tg18.h: C that takes structs apart. Each calls one proved function of the archive (crates/live),
-// which has the same name but for `lent`: arrays go as pointers, slices as pointer and length, in the order of its
-// parameters. Nothing here reads or writes a byte of the unit or of a memory.
+// The live entries of tg18.h: C that takes structs apart. Each calls one proved function of the archive (crates/live,
+// chain and session), which has the same name but for `lent`: arrays go as pointers, slices as pointer and length, in
+// the order of its parameters. Nothing here reads or writes a byte of the unit or of a memory.
 #include "tg18.h"
 
 _Static_assert(sizeof(struct tg18_unit) == 10120, "a unit has no padding");
 _Static_assert(_Alignof(struct tg18_unit) == 8, "a unit is 8-aligned");
 _Static_assert(sizeof(struct tg18_event) == 3 * sizeof(double), "an event has no padding");
+
+// docs/SESSIONS.md: what has one length, and the three tables full.
+_Static_assert(TG18_SAVE_MOST == 1109 + TG18_RAM_BYTES + TG18_SRAM_BYTES + TG18_GPIO_BYTES + TG18_FRAMEBUFFER_BYTES +
+                                     8 * 256 + 9 * 64 + 24 * 256,
+               "the greatest session");
 
 typedef const uint32_t *words;
 typedef const double *doubles;
@@ -53,6 +58,9 @@ uint64_t tg18_lent_tod(bank, doubles);
 uint64_t tg18_lent_ticks(bank, doubles);
 uint32_t tg18_lent_alarm_ticks(bytes, uint64_t *);
 uint32_t tg18_lent_continue_script(ARRAYS, MEMORIES, bytes, size_t, uint8_t *, size_t);
+uint32_t tg18_lent_save(words, words, words, bytes, bytes, doubles, doubles, doubles, doubles, bytes, bank, doubles,
+                        SEEN, uint8_t *, size_t, uint64_t *);
+uint32_t tg18_lent_resume(ARRAYS, MEMORIES, bytes, size_t);
 
 size_t tg18_unit_bytes(void) {
     return sizeof(struct tg18_unit);
@@ -160,4 +168,13 @@ uint32_t tg18_alarm_ticks(const struct tg18_unit *u, int64_t *ticks) {
 uint32_t tg18_continue_script(struct tg18_unit *u, const struct tg18_memories *m, const uint8_t *script,
                               size_t script_len, uint8_t *out, size_t out_len) {
     return tg18_lent_continue_script(OF(u), IN(m), script, script_len, out, out_len);
+}
+
+uint32_t tg18_save(const struct tg18_unit *u, const struct tg18_memories *m, uint8_t *out, size_t out_len,
+                   uint64_t *written) {
+    return tg18_lent_save(OF(u), IN(m), out, out_len, written);
+}
+
+uint32_t tg18_resume(struct tg18_unit *u, const struct tg18_memories *m, const uint8_t *saved, size_t saved_len) {
+    return tg18_lent_resume(OF(u), IN(m), saved, saved_len);
 }

@@ -1,8 +1,8 @@
 /* The tg18 register bus for hosts in C and C++ on x86-64.
  *
  * Link target/staticlib/libtg18.a (host/archive makes it) for tg18_run_script; beside it host/live.c for the calls of a
- * live unit; and host/scrubbed.c and host/scrubbed_x86_64.S for tg18_scrubbed and tg18_run_script_scrubbed, which are
- * about what is left behind. host/install puts all of them into one library.
+ * live unit; and host/scrubbed.c, host/scrubbed_x86_64.S and, for sessions, host/scrubbed_session.c for tg18_scrubbed
+ * and the calls that are named so, which are about what is left behind. host/install puts all of them into one library.
  *
  * A script, little-endian, without gaps:
  *     u32             p, how many presses (at most 4,096)
@@ -52,7 +52,9 @@ enum tg18_refusal {
     TG18_OUT_TOO_SHORT = 11,  /* of a whole script */
     TG18_NO_EVENT = 12,       /* no sound event waits */
     TG18_NO_NEXT_TIME = 13,   /* the next event's time is not finite */
-    /* of tg18_scrubbed and tg18_run_script_scrubbed alone: no memory for a stack; nothing was run or has changed */
+    TG18_BAD_SAVE = 14,       /* bytes that are no saved session; docs/SESSIONS.md says when */
+    TG18_SAVE_TOO_SHORT = 15, /* too few bytes for the session */
+    /* of tg18_scrubbed and the calls named so alone: no memory for a stack; nothing was run or has changed */
     TG18_NO_STACK = 256
 };
 
@@ -84,6 +86,7 @@ enum tg18_size {
     TG18_PRESS_BYTES = 9,
     TG18_STEP_BYTES = 16,
     TG18_ANSWER_BYTES = 25,
+    TG18_SAVE_MOST = 17872533, /* bytes that a saved session has at most */
     TG18_SCRUBBED_BYTES = 262144 /* of stack, for tg18_scrubbed */
 };
 
@@ -118,18 +121,19 @@ uint32_t tg18_run_script_scrubbed(uint8_t *ram, size_t ram_len, uint8_t *sram, s
  *
  * A call ends, and answers 0 or the number of its refusal, but where it is said to answer the value itself. A call that
  * is lent the memories answers 7 where one has not the length of a unit's. A refused call changes nothing but what it
- * answers through a pointer, which is then 0; tg18_read_block, tg18_screen and tg18_continue_script leave the bytes
- * that they were lent. Two calls with the same unit, or over the same memories, must not run at once. Calls with units
- * and memories of their own may, in as many threads as one likes: there is nothing else that they share.
+ * answers through a pointer, which is then 0; tg18_read_block, tg18_screen, tg18_continue_script and tg18_save leave
+ * the bytes that they were lent. Two calls with the same unit, or over the same memories, must not run at once. Calls
+ * with units and memories of their own may, in as many threads as one likes: there is nothing else that they share.
  *
  * Proved of the functions that live.c calls: for every input the unit, the memories and the answers are afterwards
- * what crates/live/specs say, which is what a script's step of the same kind does. live.c passes pointers on; it is
- * tested, not proved. Bits of a NaN that is in the unit are not promised: they may become another NaN's.
+ * what crates/live/specs say, which is what a script's step of the same kind does; for sessions it is what
+ * crates/session/specs say. live.c passes pointers on; it is tested, not proved. Bits of a NaN that is in the unit are
+ * not promised: they may become another NaN's.
  */
 
 #define TG18_VERSION_MAJOR 1
-#define TG18_VERSION_MINOR 0
-#define TG18_VERSION "1.0"
+#define TG18_VERSION_MINOR 1
+#define TG18_VERSION "1.1"
 
 struct tg18_memories {
     uint8_t *ram;
@@ -230,6 +234,26 @@ uint32_t tg18_alarm_ticks(const struct tg18_unit *unit, int64_t *ticks);
  * gone afterwards. */
 uint32_t tg18_continue_script(struct tg18_unit *unit, const struct tg18_memories *memories, const uint8_t *script,
                               size_t script_len, uint8_t *out, size_t out_len);
+
+/* Saves the session: all of the unit but how many periods each timer has seen, and the four memories, as bytes by the
+ * layout of docs/SESSIONS.md. `written` is how many. TG18_SAVE_MOST are always room enough, and what `out` has behind
+ * them stays as it was. 0, 7 or 15. A unit of any bytes is saved, but one that no run has left may be refused as a
+ * session.
+ *
+ * tg18_resume reads such bytes: unit and memories are then as they were saved, whatever they held. Only the timers'
+ * periods are counted anew, as the Rust's timers_resync does, and entries of tables stand in their first places. So a
+ * timer whose words or clock were changed since the last advance may raise its interrupt sooner or later than it would
+ * have; all else goes on as it would have. Saving again gives the same bytes. 0, 7 or 14. */
+uint32_t tg18_save(const struct tg18_unit *unit, const struct tg18_memories *memories, uint8_t *out, size_t out_len,
+                   uint64_t *written);
+uint32_t tg18_resume(struct tg18_unit *unit, const struct tg18_memories *memories, const uint8_t *saved,
+                     size_t saved_len);
+
+/* The same two inside tg18_scrubbed (below): also TG18_NO_STACK, and then nothing has changed, and `written` is 0. */
+uint32_t tg18_save_scrubbed(const struct tg18_unit *unit, const struct tg18_memories *memories, uint8_t *out,
+                            size_t out_len, uint64_t *written);
+uint32_t tg18_resume_scrubbed(struct tg18_unit *unit, const struct tg18_memories *memories, const uint8_t *saved,
+                              size_t saved_len);
 
 /* Calls `work` with this argument on a stack of its own, which is cleared and given back afterwards, as are the
  * registers: after it no copy of what live calls in `work` moved is left outside of unit, memories and what `work`

@@ -24,13 +24,14 @@ HOST = ROOT / "host"
 BUILT = ROOT / "target" / "host"
 # What the crates export is proved and compiled crate by crate: in one piece the compiler would not copy the bus into
 # each (docs/DECISIONS.md, 128).
-CRATES = ["script", "live", "chain"]
+CRATES = ["script", "live", "chain", "session"]
 ARCHIVE = ROOT / "target" / "staticlib" / "libtg18.a"
 SCRUBBED = ["scrubbed.c", "scrubbed_x86_64.S"]
-PORT = SCRUBBED + ["live.c"]
+PORT = SCRUBBED + ["live.c", "scrubbed_session.c"]
 EXAMPLES = ["../examples/live.c", "../examples/live.cpp"]
 KEY = ["tests/key_case.c", "tests/key_ways.c", "tests/key_search.c", "tests/key_x86_64.S", "tests/scripts.c",
        "tests/lent.c"]
+SESSIONS = ["tests/sessions.c", "tests/live_steps.c", "tests/scripts.c", "tests/lent.c"]
 PROGRAMS = {
     "runner": PORT + ["runner.c"],
     # A stand-in has the port's name here, so nothing may ask for the archive, and live.c does.
@@ -40,11 +41,15 @@ PROGRAMS = {
                      "tests/guard_live.c", "tests/guard_live_tests.c", "tests/live_steps.c", "tests/scripts.c",
                      "tests/lent.c"],
     "replay": PORT + ["tests/replay.c", "tests/live_steps.c", "tests/scripts.c", "tests/lent.c"],
+    "replay_session": PORT + ["tests/replay_session.c", "tests/live_steps.c", "tests/scripts.c", "tests/lent.c"],
     "live_alike": PORT + ["tests/live_alike.c", "tests/live_steps.c", "tests/scripts.c", "tests/lent.c"],
     "live_wipe": PORT + ["tests/live_wipe.c", "tests/live_steps.c", "tests/scripts.c", "tests/lent.c"],
     "live_looks": PORT + ["tests/live_looks.c", "tests/live_steps.c", "tests/scripts.c", "tests/lent.c"],
     "live_long": PORT + ["tests/live_long.c", "tests/live_steps.c", "tests/scripts.c", "tests/lent.c"],
     "live_threads": PORT + ["tests/live_threads.c", "tests/live_steps.c", "tests/scripts.c", "tests/lent.c"],
+    "session": PORT + ["tests/session.c"] + SESSIONS,
+    "session_damaged": PORT + ["tests/session_damaged.c"] + SESSIONS,
+    "session_key": PORT + ["tests/session_key.c", "tests/live_steps.c"] + KEY,
     "example_c": PORT + EXAMPLES[:1],
     "example_cpp": PORT + EXAMPLES[1:],
     "key": PORT + ["tests/key.c"] + KEY,
@@ -154,7 +159,7 @@ def make_archive(kit: Kit) -> None:
 
 
 def archive(kit: Kit) -> Made:
-    """rt proves the three crates anew each time, which takes two minutes; so it is asked only when something has
+    """rt proves the four crates anew each time, which takes two minutes; so it is asked only when something has
     changed."""
     return Made(ARCHIVE, digest_of(kit, [Path(__file__), ROOT / "crates.txt", *sorted((ROOT / "crates").rglob("*"))]))
 

@@ -1,8 +1,9 @@
-"""./tg18 run: its options, and what it does with them."""
+"""./tg18 run and ./tg18 show: their options, and what they do with them."""
 
 from __future__ import annotations
 
 import argparse
+import contextlib
 import os
 import subprocess
 import sys
@@ -15,6 +16,7 @@ from . import build, names, numbers
 from .layout import Entry, answers_in, chain, framed, joined, unpacked
 from .lines import answer_lines
 from .png import png_of
+from .session import file_trouble, opened, page_lines, replacing
 from .text import MOST_ERRORS, read_script
 from .trouble import OTHER, RAN, REFUSED, USAGE, Trouble
 
@@ -32,19 +34,20 @@ def memory_file(word: str) -> Tuple[str, str]:
 
 def parser() -> argparse.ArgumentParser:
     whole = argparse.ArgumentParser(prog="tg18", description="Runs scripts on the proved tg18 register bus.")
-    run = whole.add_subparsers(dest="command", required=True, metavar="run").add_parser("run", help="run a script")
+    commands = whole.add_subparsers(dest="command", required=True, metavar="run | show")
+    run = commands.add_parser("run", help="run a script")
     run.add_argument("file", metavar="FILE", help="the script, text or binary; - is standard input")
     run.add_argument("--screen", metavar="FILE", help="write the screen as PNG afterwards")
     run.add_argument("--memory", metavar="NAME=FILE", type=memory_file, action="append", default=[],
                      help="a memory's first bytes before the run (ram, sram, gpio, framebuffer); the rest is zero")
     run.add_argument("--dump", metavar="NAME=FILE", type=memory_file, action="append", default=[],
                      help="write a memory as it is afterwards")
+    run.add_argument("--resume", metavar="SESSION", help="start from this saved session, its memories too")
+    run.add_argument("--save", metavar="SESSION", help="save the session afterwards; may be the one resumed")
     run.add_argument("--binary", action="store_true", help="print the raw answers and no lines")
+    show = commands.add_parser("show", help="show what a saved session holds, but no byte of a memory")
+    show.add_argument("file", metavar="SESSION", help="the saved session")
     return whole
-
-
-def file_trouble(path: str, error: OSError) -> Trouble:
-    return Trouble(USAGE, f"{path}: {error.strerror or error}")
 
 
 def script_bytes(path: str) -> bytes:
@@ -70,18 +73,20 @@ def scripts_in(path: str, content: bytes) -> Tuple[List[bytes], Optional[List[En
     return chain(entries[:presses], entries[presses:]), entries, [line.number for line in lines]
 
 
-def ran(words: List[str], scripts: List[bytes]) -> bytes:
-    """The answers, from host/runner.c, as those of one script."""
-    done = subprocess.run(words, input=framed(scripts), stdout=subprocess.PIPE, stderr=subprocess.PIPE)
+def runner_ran(words: List[str], given: bytes, files: List[int], session: Optional[str]) -> bytes:
+    """What host/runner.c writes. The files stay open for it."""
+    done = subprocess.run(words, input=given, stdout=subprocess.PIPE, stderr=subprocess.PIPE, pass_fds=files)
     said = done.stderr.decode(errors="replace").splitlines()
     if done.returncode >= RUNNER_REFUSED:
         number = done.returncode - RUNNER_REFUSED
-        raise Trouble(REFUSED, f"tg18: the script was refused as a whole: {names.refusal_name(number)} ({number})")
+        is_session = number == numbers.BAD_SAVE
+        what = f"{session}: no saved session" if is_session else "tg18: the script was refused as a whole"
+        raise Trouble(REFUSED, f"{what}: {names.refusal_name(number)} ({number})")
     if done.returncode == RUNNER_BAD_FILE:
         raise Trouble(USAGE, *said)
     if done.returncode != 0:
         raise Trouble(OTHER, *said, f"tg18: the runner failed: {done.returncode}")
-    return joined(done.stdout)
+    return done.stdout
 
 
 def write_screen(path: str, colours: Path) -> None:
@@ -92,39 +97,63 @@ def write_screen(path: str, colours: Path) -> None:
         raise file_trouble(path, error) from error
 
 
-def check_once(files: List[Tuple[str, str]]) -> None:
-    loaded = [name for name, _ in files]
+def check_memories(options: argparse.Namespace) -> None:
+    loaded = [name for name, _ in options.memory]
     for name in loaded:
         if loaded.count(name) > 1:
             raise Trouble(USAGE, f"tg18: --memory {name} is given twice")
+    if loaded and options.resume is not None:
+        raise Trouble(USAGE, "tg18: --memory and --resume in one run: the memories are the session's")
+
+
+def print_answers(out: bytes, entries: List[Entry], line_numbers: Optional[List[int]], is_binary: bool) -> None:
+    if is_binary:
+        sys.stdout.buffer.write(out)
+    else:
+        for line in answer_lines(entries, line_numbers, answers_in(out)):
+            print(line)
+    sys.stdout.flush()
 
 
 def run(options: argparse.Namespace) -> None:
-    check_once(options.memory)
+    """The later session gets its name last, so that who could not be told the answers can run the script again."""
+    check_memories(options)
     scripts, entries, line_numbers = scripts_in(options.file, script_bytes(options.file))
     kit = build.Kit()
     words = kit.starts(build.program(kit, "runner"))
-    for verb, files in (("load", options.memory), ("dump", options.dump)):
-        words += [word for name, path in files for word in (verb, f"{name}={path}")]
-    with tempfile.TemporaryDirectory() as folder:
+    for verb, paths in (("load", options.memory), ("dump", options.dump)):
+        words += [word for name, path in paths for word in (verb, f"{name}={path}")]
+    with contextlib.ExitStack() as open_files:
+        files = []
+        for verb, path, way in (("resume", options.resume, opened), ("save", options.save, replacing)):
+            if path is not None:
+                files.append(open_files.enter_context(way(path)))
+                words += [verb, str(files[-1])]
+        folder = open_files.enter_context(tempfile.TemporaryDirectory())
         colours = Path(folder) / "colours"
-        out = ran(words + (["screen", str(colours)] if options.screen else []), scripts)
+        words += ["screen", str(colours)] if options.screen else []
+        out = joined(runner_ran(words, framed(scripts), files, options.resume))
         if options.screen:
             write_screen(options.screen, colours)
-    if len(scripts) > 1:
-        build.said(f"{len(entries or [])} presses and steps ran as {len(scripts)} scripts on one unit")
-    if options.binary:
-        sys.stdout.buffer.write(out)
-    else:
-        for line in answer_lines(unpacked(scripts[0]) if entries is None else entries, line_numbers, answers_in(out)):
-            print(line)
+        if len(scripts) > 1:
+            build.said(f"{len(entries or [])} presses and steps ran as {len(scripts)} scripts on one unit")
+        print_answers(out, unpacked(scripts[0]) if entries is None else entries, line_numbers, options.binary)
+
+
+def show(options: argparse.Namespace) -> None:
+    kit = build.Kit()
+    words = kit.starts(build.program(kit, "runner"))
+    with opened(options.file) as file:
+        content = runner_ran([*words, "show", str(file)], b"", [file], options.file)
+    for line in page_lines(content):
+        print(line)
     sys.stdout.flush()
 
 
 def main(words: List[str]) -> int:
     options = parser().parse_args(words)
     try:
-        run(options)
+        show(options) if options.command == "show" else run(options)
     except Trouble as trouble:
         for line in trouble.lines:
             print(line, file=sys.stderr)

@@ -17,6 +17,8 @@ REFUSALS = {
     numbers.OUT_TOO_SHORT: "OutTooShort",
     numbers.NO_EVENT: "NoEvent",
     numbers.NO_NEXT_TIME: "NoNextTime",
+    numbers.BAD_SAVE: "BadSave",
+    numbers.SAVE_TOO_SHORT: "SaveTooShort",
 }
 
 KEYS = ["A", "B", "C"]

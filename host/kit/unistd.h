@@ -8,6 +8,7 @@ typedef int pid_t;
 ssize_t read(int, void *, size_t);
 ssize_t write(int, const void *, size_t);
 int close(int);
+int fsync(int);
 pid_t fork(void);
 unsigned alarm(unsigned);
 long syscall(long, ...);

@@ -13,11 +13,13 @@ from desk import build
 from desk.trouble import Trouble
 
 PROGRAMS = ["scrub", "depth", "key", "guard", "replay", "live_alike", "live_looks", "live_wipe", "live_threads",
-            "live_key"]
+            "live_key", "session", "session_damaged", "session_key"]
 GIVEN = {"replay": Path(__file__).with_name("replay.list")}
+PROGRAMS.append("replay_session")
+GIVEN["replay_session"] = Path(__file__).with_name("replay_session.list")
 # What looks at the process itself: it needs x86-64, as the kit's emulator breaks off where a program opens
 # /proc/self/maps.
-NOT_EMULATED = ["key", "live_key"]
+NOT_EMULATED = ["key", "live_key", "session_key"]
 
 
 class Count:

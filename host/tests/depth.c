@@ -9,12 +9,12 @@
 #include <stdio.h>
 #include <string.h>
 
-enum { UNTOUCHED = 0xA7, ROOM = 1048576, SCRIPTS = 1500 };
+enum { UNTOUCHED = 0xA7, ROOM = 1048576, SCRIPTS = 1500, SESSIONS = 60 };
 
 struct turn {
     struct tg18_unit state;
     struct unit unit;
-    struct lent script, out, rgb;
+    struct lent script, out, rgb, session;
     size_t script_bytes;
     uint32_t refusal;
 };
@@ -41,6 +41,16 @@ static void live(void *argument) {
     tg18_read_block(&turn->state, &memories, FLASH_BASE, turn->out.at, turn->out.bytes, &whole);
 }
 
+// The unit goes on by a script, and is saved and resumed.
+static void sessions(void *argument) {
+    struct turn *turn = argument;
+    const struct tg18_memories memories = memories_of(&turn->unit);
+    uint64_t written;
+    continued(turn);
+    turn->refusal |= tg18_save(&turn->state, &memories, turn->session.at, turn->session.bytes, &written);
+    turn->refusal |= tg18_resume(&turn->state, &memories, turn->session.at, (size_t)written);
+}
+
 static size_t depth_of(const struct lent *stack) {
     size_t i = 0;
     while (i < stack->bytes && stack->at[i] == UNTOUCHED) {
@@ -50,11 +60,11 @@ static size_t depth_of(const struct lent *stack) {
 }
 
 // Bytes that the deepest of many scripts goes; 0 if one is refused.
-static size_t deepest(void (*work)(void *), struct turn *turn, struct lent *stack) {
+static size_t deepest(void (*work)(void *), int scripts, struct turn *turn, struct lent *stack) {
     uint64_t state = 1;
     memset(stack->at, UNTOUCHED, stack->bytes);
     tg18_fresh(&turn->state);
-    for (int i = 0; i < SCRIPTS; i++) {
+    for (int i = 0; i < scripts; i++) {
         struct script script = script_at(turn->script.at);
         script_any(&script, &state, 100);
         turn->script_bytes = script_length(&script);
@@ -69,7 +79,11 @@ static size_t deepest(void (*work)(void *), struct turn *turn, struct lent *stac
 static const struct {
     const char *name;
     void (*work)(void *);
-} ways[] = {{"scripts", whole}, {"scripts that continue a unit", continued}, {"scripts by live calls", live}};
+    int scripts;
+} ways[] = {{"scripts", whole, SCRIPTS},
+            {"scripts that continue a unit", continued, SCRIPTS},
+            {"scripts by live calls", live, SCRIPTS},
+            {"scripts that continue a unit, saved and resumed,", sessions, SESSIONS}};
 
 int main(void) {
     static struct turn turn;
@@ -79,11 +93,12 @@ int main(void) {
     turn.script = lend(65536, AFTER_GUARD);
     turn.out = lend(131072, AFTER_GUARD);
     turn.rgb = lend(TG18_SCREEN_BYTES, AFTER_GUARD);
+    turn.session = lend(TG18_SAVE_MOST, AFTER_GUARD);
     for (size_t i = 0; i < sizeof ways / sizeof *ways; i++) {
-        size_t depth = deepest(ways[i].work, &turn, &stack);
+        size_t depth = deepest(ways[i].work, ways[i].scripts, &turn, &stack);
         int enough = depth > 0 && 8 * depth <= TG18_STACK_BYTES;
-        printf("%s depth: %d %s go %zu bytes deep; the scrubbed stack has %d\n", enough ? "ok" : "FAILED", SCRIPTS,
-               ways[i].name, depth, TG18_STACK_BYTES);
+        printf("%s depth: %d %s go %zu bytes deep; the scrubbed stack has %d\n", enough ? "ok" : "FAILED",
+               ways[i].scripts, ways[i].name, depth, TG18_STACK_BYTES);
         good &= enough;
     }
     return !good;

@@ -61,6 +61,7 @@ static const struct {
     {"scrubbed, signals blocked before and after", test_signals},
     {"live, memories of other lengths", test_live_lengths},
     {"live, other slices of other lengths", test_live_slices},
+    {"live, sessions of other lengths", test_live_sessions},
     {"live, edges of memories and registers, sizes 0 to 5", test_live_addresses},
     {"live, blocks across ends", test_live_blocks},
     {"live, any doubles and keys", test_live_numbers},

@@ -37,6 +37,7 @@ void test_null(void);
 // guard_live_tests.c
 void test_live_lengths(void);
 void test_live_slices(void);
+void test_live_sessions(void);
 void test_live_addresses(void);
 void test_live_blocks(void);
 void test_live_numbers(void);

@@ -158,6 +158,22 @@ static uint32_t continue_script(struct stage *s) {
     return tg18_continue_script(state_of(s), table_of(s), s->script.at, s->script.bytes, s->bytes.at, s->bytes.bytes);
 }
 
+static uint32_t save(struct stage *s) {
+    return tg18_save(state_of(s), table_of(s), s->bytes.at, s->bytes.bytes, (uint64_t *)s->wide.at);
+}
+
+static uint32_t save_scrubbed(struct stage *s) {
+    return tg18_save_scrubbed(state_of(s), table_of(s), s->bytes.at, s->bytes.bytes, (uint64_t *)s->wide.at);
+}
+
+static uint32_t resume(struct stage *s) {
+    return tg18_resume(state_of(s), table_of(s), s->bytes.at, s->bytes.bytes);
+}
+
+static uint32_t resume_scrubbed(struct stage *s) {
+    return tg18_resume_scrubbed(state_of(s), table_of(s), s->bytes.at, s->bytes.bytes);
+}
+
 const struct live_call live_calls[LIVE_CALLS] = {
     {"fresh", fresh, 0, 0, 0},
     {"wipe", wipe, 1, 0, 0},
@@ -182,6 +198,10 @@ const struct live_call live_calls[LIVE_CALLS] = {
     {"tod and ticks", clocks, 0, 1, 0},
     {"alarm ticks", alarm_ticks, 0, 1, 0},
     {"continue script", continue_script, 1, 0, 0},
+    {"save", save, 1, 1, 8},
+    {"save scrubbed", save_scrubbed, 1, 1, 8},
+    {"resume", resume, 1, 0, 0},
+    {"resume scrubbed", resume_scrubbed, 1, 0, 0},
 };
 
 // ---- what holds of every call
@@ -205,7 +225,7 @@ uint32_t call_checked(struct stage *s, const struct live_call *call) {
         memset(answers[i]->at, PATTERN, answers[i]->bytes);
     }
     uint32_t refusal = call->call(s);
-    if (refusal > TG18_NO_NEXT_TIME) {
+    if (refusal > TG18_SAVE_TOO_SHORT) {
         fail("refusal %u", refusal);
     }
     if (!is_kept(&s->table) || ((refusal != TG18_DONE || call->keeps_unit) && !is_kept(&s->state))) {

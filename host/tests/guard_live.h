@@ -11,7 +11,7 @@ struct stage {
     struct lent state, table; // a struct tg18_unit, and a struct tg18_memories
     struct unit unit;
     struct lent byte, word, wide, wide2; // what answers through pointers go to
-    struct lent bytes, records, script;  // whatever else is lent; bytes are also for the screen and for answers
+    struct lent bytes, records, script;  // whatever else is lent; bytes are also screens, answers and sessions
     // the other arguments
     uint32_t address, size, value, key;
     double number;
@@ -25,7 +25,7 @@ struct live_call {
     size_t answer_bytes;  // 1, 4, 8: of the one answer through a pointer that is 0 when it is refused
 };
 
-enum { LIVE_CALLS = 23 };
+enum { LIVE_CALLS = 27 };
 extern const struct live_call live_calls[LIVE_CALLS];
 
 struct stage stage_made(enum edge edge);

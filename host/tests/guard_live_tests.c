@@ -141,6 +141,8 @@ static void try_nothing(struct stage *s) {
     expect(s, "poke", TG18_DONE);
     expect(s, "take events", TG18_DONE);
     expect(s, "continue script", TG18_BAD_SCRIPT);
+    expect(s, "save", TG18_SAVE_TOO_SHORT);
+    expect(s, "resume", TG18_BAD_SAVE);
     s->script = script;
     expect(s, "continue script", TG18_OUT_TOO_SHORT);
     s->bytes = bytes;
@@ -152,6 +154,89 @@ void test_live_slices(void) {
         struct stage s = stage_made((enum edge)edge);
         try_slices(&s);
         try_nothing(&s);
+        stage_given_back(&s);
+    }
+}
+
+// ---- sessions
+
+enum { AN_EVENT = 24, MORE = 9 };
+
+// Some presses, other words and sound events, so that every section has something. The length is odd, so that before a
+// guard the address is too.
+static void session_begun(struct stage *s) {
+    tg18_fresh(state_of(s));
+    for (uint32_t i = 0; i < 4; i++) {
+        s->key = i % 3;
+        s->number = i;
+        call_checked(s, named("press"));
+        s->address = 0xC0100000 + 4 * i;
+        call_checked(s, named("write"));
+        s->address = SOUND_CONTROL;
+        s->value = i % 2 ? 0 : 0x2000;
+        call_checked(s, named("write"));
+    }
+}
+
+// The bytes that stand there are kept, but for the first so many.
+static void check_behind(struct stage *s, size_t used) {
+    if (memcmp(s->bytes.at + used, s->bytes.copy + used, s->bytes.bytes - used) != 0) {
+        fail("bytes behind have changed");
+    }
+}
+
+static void try_saves(struct stage *s, const char *name, const struct lent *right) {
+    const size_t shorter[] = {0, 1, 57, 1109, right->bytes - AN_EVENT, right->bytes - 1};
+    for (size_t i = 0; i < sizeof shorter / sizeof *shorter; i++) {
+        relend(s, &s->bytes, shorter[i]);
+        expect(s, name, TG18_SAVE_TOO_SHORT);
+    }
+    for (size_t more = 0; more <= MORE; more += MORE) {
+        relend(s, &s->bytes, right->bytes + more);
+        expect(s, name, TG18_DONE);
+        if (memcmp(s->bytes.at, right->at, right->bytes) != 0 || *(const uint64_t *)s->wide.at != right->bytes) {
+            fail("another session, or another length");
+        }
+        check_behind(s, right->bytes);
+    }
+}
+
+static void try_resumes(struct stage *s, const char *name, const struct lent *right) {
+    const size_t others[] = {0, 1, 57, 1109, right->bytes - AN_EVENT, right->bytes - 1, right->bytes + 1,
+                             right->bytes + AN_EVENT};
+    fill_any(&s->state, 3);
+    keep_all(s);
+    for (size_t i = 0; i < sizeof others / sizeof *others; i++) {
+        relend(s, &s->bytes, others[i]);
+        memcpy(s->bytes.at, right->at, others[i] < right->bytes ? others[i] : right->bytes);
+        expect(s, name, TG18_BAD_SAVE);
+        check_kept(s);
+    }
+    relend(s, &s->bytes, right->bytes);
+    memcpy(s->bytes.at, right->at, right->bytes);
+    expect(s, name, TG18_DONE);
+    check_behind(s, 0);
+}
+
+void test_live_sessions(void) {
+    for (int edge = AFTER_GUARD; edge <= BEFORE_GUARD; edge++) {
+        struct stage s = stage_made((enum edge)edge);
+        struct lent right = lend(TG18_SAVE_MOST, AFTER_GUARD);
+        for (int i = 0; i < MEMORIES; i++) {
+            fill_any(&s.unit.memory[i], 90 + (uint64_t)i);
+        }
+        session_begun(&s);
+        const struct tg18_memories memories = memories_of(&s.unit);
+        uint64_t written = 0;
+        if (tg18_save(state_of(&s), &memories, right.at, right.bytes, &written) != TG18_DONE) {
+            fail("no session");
+        }
+        right.bytes = (size_t)written;
+        try_saves(&s, "save", &right);
+        try_resumes(&s, "resume", &right);
+        try_saves(&s, "save scrubbed", &right);
+        try_resumes(&s, "resume scrubbed", &right);
+        try_saves(&s, "save", &right);
         stage_given_back(&s);
     }
 }

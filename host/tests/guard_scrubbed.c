@@ -1,6 +1,7 @@
 // What the scrubbed calls alone have to see to.
 #define _GNU_SOURCE
 #include "guard.h"
+#include "live_steps.h"
 #include "scripts.h"
 #include "tg18.h"
 #include <string.h>
@@ -35,25 +36,39 @@ static uint32_t wipe(struct unit *unit, struct lent *lent, struct lent *out) {
     return refusal;
 }
 
+// The one for sessions of any bytes, as there is no stack for either.
+static uint32_t session(struct unit *unit, struct lent *state, struct lent *out) {
+    const struct tg18_memories memories = memories_of(unit);
+    struct tg18_unit *here = (struct tg18_unit *)state->at;
+    uint64_t written = 1;
+    uint32_t saved = tg18_save_scrubbed(here, &memories, out->at, out->bytes, &written);
+    uint32_t resumed = tg18_resume_scrubbed(here, &memories, out->at, out->bytes);
+    count_case();
+    return written == 0 && saved == resumed ? saved : TG18_DONE;
+}
+
 void test_no_stack(void) {
     struct unit unit = unit_made();
     struct lent lent = lend(64, AFTER_GUARD), out = lend(64, AFTER_GUARD);
+    struct lent state = lend(sizeof(struct tg18_unit), AFTER_GUARD);
     for (int i = 0; i < MEMORIES; i++) {
         fill_any(&unit.memory[i], 1);
         keep(&unit.memory[i]);
     }
     fill_any(&out, 2);
     keep(&out);
+    fill_any(&state, 3);
+    keep(&state);
     no_memory = 1;
     now_at("no memory for a stack");
-    uint32_t refusal = wipe(&unit, &lent, &out);
+    uint32_t refusal = wipe(&unit, &lent, &out), of_session = session(&unit, &state, &out);
     no_memory = 0;
-    int same = is_kept(&out);
+    int same = is_kept(&out) && is_kept(&state);
     for (int i = 0; i < MEMORIES; i++) {
         same &= is_kept(&unit.memory[i]);
     }
-    if (refusal != TG18_NO_STACK || !same) {
-        fail("answer %u, or something has changed", refusal);
+    if (refusal != TG18_NO_STACK || of_session != TG18_NO_STACK || !same) {
+        fail("answer %u, of sessions %u, or something has changed", refusal, of_session);
     }
 }
 

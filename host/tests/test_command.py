@@ -4,24 +4,16 @@ import os
 import random
 import struct
 import subprocess
-import sys
-import tempfile
-import unittest
 import zlib
-from pathlib import Path
 
 from desk import build, numbers
 from desk.build import ROOT
 from desk.layout import Entry, bits_of, packed
 from desk.text import written
+from outside import Outside, tg18
 
 WIPE = struct.pack("<BBxxIQ", numbers.WIPE, 0, 0, 0)
 FOUR_BYTES = b"write 4 0x20000000 0x11223344\nread 4 0x20000000\n"
-
-
-def tg18(*words, stdin=b"", env=None):
-    command = [sys.executable, "-B", str(ROOT / "tg18"), *map(str, words)]
-    return subprocess.run(command, input=stdin, stdout=subprocess.PIPE, stderr=subprocess.PIPE, env=env)
 
 
 def picture_in(png):
@@ -62,24 +54,7 @@ def any_step(source, i):
     return Entry(kind, 4 if kind == numbers.READ else 0, address if kind in (numbers.READ, numbers.COLOUR) else 0)
 
 
-class Command(unittest.TestCase):
-    def setUp(self):
-        folder = tempfile.TemporaryDirectory()
-        self.addCleanup(folder.cleanup)
-        self.folder = Path(folder.name)
-
-    def file(self, name, content):
-        path = self.folder / name
-        path.write_bytes(content)
-        return path
-
-    def expect(self, done, status, *said):
-        self.assertEqual(done.returncode, status, done.stderr)
-        for part in said:
-            self.assertIn(part, done.stderr.decode())
-        if status != 0:
-            self.assertEqual(done.stdout, b"")
-
+class Command(Outside):
     def test_examples(self):
         examples = sorted((ROOT / "examples").glob("*.steps"))
         self.assertGreaterEqual(len(examples), 3)

@@ -160,3 +160,5 @@ pub const BAD_SCRIPT: u8 = 10;
 pub const OUT_TOO_SHORT: u8 = 11;
 pub const NO_EVENT: u8 = 12;
 pub const NO_NEXT_TIME: u8 = 13;
+pub const BAD_SAVE: u8 = 14;
+pub const SAVE_TOO_SHORT: u8 = 15;

@@ -13,14 +13,20 @@ pub fn run_script(memories: &mut Memories, script: &[u8], out: &mut [u8]) -> u32
     if !memories.have_right_lengths() {
         return BAD_MEMORY.into();
     }
+    let mut board = Board::start();
+    memories.swap(&mut board.system);
+    let returned = continue_script(&mut board, script, out);
+    memories.swap(&mut board.system);
+    returned
+}
+
+/// The same from where the board stands; its memories have their lengths.
+pub fn continue_script(board: &mut Board, script: &[u8], out: &mut [u8]) -> u32 {
     let Some(script) = Script::read(script) else { return BAD_SCRIPT.into() };
     if out.len() < out_length(script.answers()) {
         return OUT_TOO_SHORT.into();
     }
-    let mut board = Board::start();
-    memories.swap(&mut board.system);
-    work(&mut board, &script, out);
-    memories.swap(&mut board.system);
+    work(board, &script, out);
     0
 }
 

@@ -1,13 +1,14 @@
 -- Within the limits the RTC's ticks are exact and below 2 ^ 63; and the chip stays within them, and does not go back.
 use mathlib.Core.Path.{_≡_, sym, ap, _∙_}
-use mathlib.Core.Bool.{false, cond}
+use mathlib.Core.Bool.{false, cond, _&&_}
 use mathlib.Core.List.{List, [], _∷_}
-use Prim.Native.Nat.{ℕ, zero, suc, _+_, _*_, _%_, _^_, _≤_, _<_}
+use Prim.Native.Nat.{ℕ, zero, suc, _+_, _-_, _*_, _/_, _%_, _^_, _≤_, _<_}
 use native.Mathlib.Nat.{le-trans, le-of-eq, lt-of-le-of-lt, lt-of-lt-of-le, mod-eq-of-lt, mod-lt}
 use native.Mathlib.Omega.{arith}
 use lib.IntN.{pos}
-use lib.Dec.{T, eqb, lit<, lit≤}
-use lib.ListN.{getD, set, replicate}
+use lib.Bits.{bitAnd, and-le-r}
+use lib.Dec.{T, eqb, leb, lit<, lit≤}
+use lib.ListN.{length, getD, set, replicate, length-set, length-replicate}
 use lib.Ieee.{Float, fin, binary64, ofBits, add, sub, mul, le, toUnsigned}
 use Rattle.whole.specs.Bounds.{AtMost, WholePart}
 use Rattle.whole.specs.Cut.{twos}
@@ -19,7 +20,7 @@ use Rattle.whole.proofs.Round.{mul-at-most, sub-at-most, cut-at-most}
 use Rattle.whole.proofs.Mono.{sub-mono, mul-mono, cut-mono}
 use Rattle.clock.specs.declared.Latch.{Latch}
 use Rattle.clock.specs.declared.Rtc.{Rtc}
-use Rattle.clock.specs.Rtc.{ticksOf, sixBytes, freshRtc, latchedOf, putOf, askedOf, commandedOf}
+use Rattle.clock.specs.Rtc.{ticksOf, sixBytes, freshRtc, latchedOf, outputOf, putOf, askedOf, commandedOf}
 use Rattle.clock.specs.Within.{Past, Latched}
 use Rattle.clock.proofs.TimeLimits.{past-later, past-now, past-start}
 
@@ -101,6 +102,20 @@ six-limit regs from h = joined (h from) (h (from + 1)) (h (from + 2)) (h (from +
         → a + b * 2 ^ 8 + c * 2 ^ 16 + d * 2 ^ 24 + e * 2 ^ 32 + f * 2 ^ 40 < 2 ^ 48
     joined p q r s t u = omega arith
 
+-- what is put out is a byte
+output-limit : (latch : Latch) (regs : List ℕ) (game : Float) (at : ℕ) → ((i : ℕ) → getD regs i 0 < 2 ^ 8)
+    → outputOf latch regs game at < 2 ^ 8
+unfolding outputOf
+output-limit latch regs game at h =
+    either Byte (leb 0x30 at && leb at 0x35) _ _ (masked (ticksOf latch game / 2 ^ (8 * (at - 0x30))) 0xFF (lit< tt))
+    (either Byte (eqb at 0) _ _ (masked (getD regs 0 0) 0xEF (lit< tt)) (h at))
+  where
+    Byte : ℕ → Type 0
+    Byte n = n < 2 ^ 8
+
+    masked : (n mask : ℕ) → mask < 2 ^ 8 → Byte (bitAnd n mask)
+    masked n mask l = lt-of-le-of-lt (and-le-r n mask) l
+
 -- A COMMAND KEEPS THEM
 pub commands-latched : (rtc : Rtc) (game : Float) (address word cmd : ℕ) → Latched (rtc .regs) (rtc .latch) game
     → AtMost game (2 ^ 31)
@@ -108,7 +123,14 @@ pub commands-latched : (rtc : Rtc) (game : Float) (address word cmd : ℕ) → L
 unfolding commandedOf
 commands-latched rtc game address word cmd h g =
     either In (has cmd 1) (putOf rtc game at byte) (cond (has cmd 2) (askedOf rtc game at) rtc) put
-    (either In (has cmd 2) (askedOf rtc game at) rtc (record { bytes = h .bytes; base = h .base; since = h .since }) h)
+    (either In (has cmd 2) (askedOf rtc game at) rtc
+    (record {
+      size = h .size;
+      bytes = h .bytes;
+      base = h .base;
+      since = h .since;
+      out = output-limit (rtc .latch) (rtc .regs) game at (h .bytes);
+    }) h)
   where
     In : Rtc → Type 0
     In r = Latched (r .regs) (r .latch) game
@@ -122,26 +144,42 @@ commands-latched rtc game address word cmd h g =
     bytes : (i : ℕ) → getD (set (rtc .regs) at byte) i 0 < 2 ^ 8
     bytes = set-byte (rtc .regs) at byte (mod-lt word (lit< tt)) (h .bytes)
 
+    size : length (set (rtc .regs) at byte) ≡ 256
+    size = length-set (rtc .regs) at byte ∙ h .size
+
     put : In (putOf rtc game at byte)
     put =
         either (λ (l : Latch). Latched (set (rtc .regs) at byte) l game) (eqb at 0x15)
         (latchedOf (rtc .latch) (set (rtc .regs) at byte) game) (rtc .latch)
-        (record { bytes = bytes; base = six-limit (set (rtc .regs) at byte) 0x10 bytes; since = past-now game g })
-        (record { bytes = bytes; base = h .base; since = h .since })
+        (record {
+          size = size;
+          bytes = bytes;
+          base = six-limit (set (rtc .regs) at byte) 0x10 bytes;
+          since = past-now game g;
+          out = h .out;
+        })
+        (record { size = size; bytes = bytes; base = h .base; since = h .since; out = h .out })
 
 pub later-latched : (regs : List ℕ) (latch : Latch) (game later : Float) → AtMost game (2 ^ 31)
     → AtMost later (2 ^ 31) → T (le game later)
     → Latched regs latch game → Latched regs latch later
 later-latched regs latch game later g k l h = record {
+  size = h .size;
   bytes = h .bytes;
   base = h .base;
-  since = past-later
-      (latch .since) game later g k l (h .since);
+  since = past-later (latch .since) game later g k l (h .since);
+  out = h .out;
 }
 
 pub fresh-latched : (game : Float) → AtMost game (2 ^ 31) → Latched (freshRtc .regs) (freshRtc .latch) game
 unfolding freshRtc
-fresh-latched game g = record { bytes = zeros 256; base = lit< tt; since = past-start game g }
+fresh-latched game g = record {
+  size = length-replicate {A = ℕ} 256 0;
+  bytes = zeros 256;
+  base = lit< tt;
+  since = past-start game g;
+  out = lit< tt;
+}
   where
     zeros : (n i : ℕ) → getD (replicate n 0) i 0 < 2 ^ 8
     zeros zero i = lit< tt

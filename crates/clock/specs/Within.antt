@@ -3,7 +3,7 @@ use mathlib.Core.Path.{_≡_}
 use mathlib.Core.List.{List}
 use Prim.Native.Nat.{ℕ, _^_, _<_}
 use lib.Dec.{T}
-use lib.ListN.{getD}
+use lib.ListN.{length, getD}
 use lib.Ieee.{Float, binary64, ofBits, fits, mul, div, le, toUnsigned}
 use Rattle.whole.specs.Bounds.{AtMost}
 use Rattle.whole.specs.Limits.{goodTime, goodTurbo}
@@ -28,11 +28,13 @@ pub record Past (then game : Float) : Type 0 where
   pub limit : AtMost then (2 ^ 31)
   pub before : T (le then game)
 
--- the RTC's registers are bytes, six of them were latched, and that was not after game time
+-- the RTC's 256 registers are bytes, six of them were latched, and that was not after game time; it puts out a byte
 pub record Latched (regs : List ℕ) (latch : Latch) (game : Float) : Type 0 where
+  pub size : length regs ≡ 256
   pub bytes : (i : ℕ) → getD regs i 0 < 2 ^ 8
   pub base : latch .base < 2 ^ 48
   pub since : Past (latch .since) game
+  pub out : latch .out < 2 ^ 8
 
 -- the time of day was set to one, and not after game time
 pub record DaySet (irq : RtcIrq) (game : Float) : Type 0 where

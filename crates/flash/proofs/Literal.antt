@@ -215,9 +215,9 @@ finished-is w n m (c ∷ bs) s z y =
 
 -- ---- one step
 -- a state that has been sent bytes
-record Fit (s : Sys) : Type 0 where
-  good : Good (s .ram)
-  bytes : Bytes (s .buf)
+pub record Fit (s : Sys) : Type 0 where
+  pub good : Good (s .ram)
+  pub bytes : Bytes (s .buf)
 
 one-byte : (b : ℕ) → b < 256 → Bytes (b ∷ [])
 one-byte b h zero = h
@@ -284,7 +284,7 @@ fit-byte : (s : Sys) (b : ℕ) → b < 256 → Fit s → Fit (listAfter Rust s (
 fit-byte s b h f = record { good = f .good; bytes = append-bytes (s .buf) (b ∷ []) (f .bytes) (one-byte b h) }
 
 -- ---- every run
-ran-is : (xs : List Step) (s : Sys) → Fit s → ByteSteps xs → rustAfterSteps s xs ≡ listRun Rust s xs
+pub ran-is : (xs : List Step) (s : Sys) → Fit s → ByteSteps xs → rustAfterSteps s xs ≡ listRun Rust s xs
 ran-is [] s f y = refl
 ran-is (cs on ∷ xs) s f y =
     ap (λ (z : Sys). rustAfterSteps z xs) (select-is s on f) ∙ ran-is xs (listAfter Rust s (cs on)) (fit-cs s on f) y
@@ -297,7 +297,7 @@ rx-is s b f h =
     ap (λ (z : Sys). z .rx) (xfer-is s b f h) ∙ answer-exact Rust (s .wel) (s .buf) (s .ram)
     (good-sized (length (s .ram)) (f .good .size))
 
-rxs-is : (xs : List Step) (s : Sys) → Fit s → ByteSteps xs → rxs s xs ≡ listAnswers Rust s xs
+pub rxs-is : (xs : List Step) (s : Sys) → Fit s → ByteSteps xs → rxs s xs ≡ listAnswers Rust s xs
 rxs-is [] s f y = refl
 rxs-is (cs on ∷ xs) s f y =
     ap (λ (z : Sys). rxs z xs) (select-is s on f) ∙ rxs-is xs (listAfter Rust s (cs on)) (fit-cs s on f) y

@@ -66,11 +66,11 @@ module _ (starts : List Float) (now : Float) where
   abbrev many : ℕ → ℕ
   many n = waitingIn starts now n
 
-  many-step : (n : ℕ) (b : Bool) → waitsAt n ≡ b → many (suc n) ≡ cond b (many n + 1) (many n)
+  pub many-step : (n : ℕ) (b : Bool) → waitsAt n ≡ b → many (suc n) ≡ cond b (many n + 1) (many n)
   unfolding waitingIn
   many-step n b h = rw h
 
-  many-most : (n : ℕ) → many n ≤ n
+  pub many-most : (n : ℕ) → many n ≤ n
   unfolding waitingIn
   many-most zero = omega arith
   many-most (suc n) = by (waitsAt n) refl (many-most n)

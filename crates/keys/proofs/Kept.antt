@@ -24,7 +24,7 @@ use Rattle.whole.proofs.Choice.{lt-or-ge}
 use Rattle.keys.proofs.Expired.{down-at-once}
 
 -- ---- the count
-places-is : (n : ℕ) → n ≤ 64 → placesOf n ≡ n
+pub places-is : (n : ℕ) → n ≤ 64 → placesOf n ≡ n
 places-is n l = by (ltb n 64) refl
   where
     by : (b : Bool) → ltb n 64 ≡ b → cond b n 64 ≡ n

@@ -1,6 +1,7 @@
 pub mod Ahead
 pub mod Canonical
 pub mod Cases
+pub mod Closed
 pub mod Driven
 pub mod Expired
 pub mod Finite

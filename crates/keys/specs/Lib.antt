@@ -1,3 +1,4 @@
+pub mod Closed
 pub mod Edges
 pub mod Keys
 pub mod Lines

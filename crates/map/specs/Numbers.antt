@@ -268,6 +268,12 @@ NO-EVENT = 12
 abbrev pub NO-NEXT-TIME : ℕ
 NO-NEXT-TIME = 13
 
+abbrev pub BAD-SAVE : ℕ
+BAD-SAVE = 14
+
+abbrev pub SAVE-TOO-SHORT : ℕ
+SAVE-TOO-SHORT = 15
+
 -- ---- scripts: the greatest counts, and the bytes of what stands in them and in their answers
 
 abbrev pub MOST-PRESSES : ℕ

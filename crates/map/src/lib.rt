@@ -187,6 +187,10 @@ pub const NO_EVENT: u8 = 12;
 
 pub const NO_NEXT_TIME: u8 = 13;
 
+pub const BAD_SAVE: u8 = 14;
+
+pub const SAVE_TOO_SHORT: u8 = 15;
+
 // ---- scripts: the greatest counts, and the bytes of what stands in them and in their answers
 
 pub const MOST_PRESSES: usize = 4096;

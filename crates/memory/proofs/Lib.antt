@@ -1,4 +1,5 @@
 pub mod Access
+pub mod Aligned
 pub mod Cases
 pub mod Judged
 pub mod Stored

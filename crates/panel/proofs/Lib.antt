@@ -2,6 +2,7 @@ pub mod Cases
 pub mod Drawn
 pub mod Heals
 pub mod Judged
+pub mod Limits
 pub mod Literal
 pub mod Pens
 pub mod Stray

@@ -6,3 +6,4 @@ pub mod Runs
 pub mod Rust
 pub mod Table
 pub mod Inner
+pub mod Within

@@ -10,6 +10,7 @@ pub mod Order
 pub mod Moving
 pub mod Wider
 pub mod Tidy
+pub mod Every
 pub mod Reading
 pub mod Same
 pub mod Count

@@ -21,7 +21,7 @@ use Rattle.registers.proofs.Wider.{Wider, wider-removed, wider-inserted
 
 -- ---- fresh
 
-zeros : (n i : ℕ) → _≡_ {A = ℕ} (getD (replicate n 0) i 0) 0
+pub zeros : (n i : ℕ) → _≡_ {A = ℕ} (getD (replicate n 0) i 0) 0
 zeros zero i = refl
 zeros (suc n) zero = refl
 zeros (suc n) (suc i) = zeros n i
@@ -131,7 +131,7 @@ module _ (l : List ℕ) (i v : ℕ) (some-before : getD l i 0 ≢ 0) (some-after
       (λ e. absurd (some-after (sym set-here ∙ ap (λ (m : ℕ). getD (set l i v) m 0) (sym e) ∙ z)))
       (λ n. sym (getD-set-other l i j v 0 n) ∙ z)
 
-  free-after : (j : ℕ) → getD l j 0 ≡ 0 → getD (set l i v) j 0 ≡ 0
+  pub free-after : (j : ℕ) → getD l j 0 ≡ 0 → getD (set l i v) j 0 ≡ 0
   free-after j z =
       by-same j i
       (λ e. absurd (some-before (ap (λ (m : ℕ). getD l m 0) (sym e) ∙ z)))

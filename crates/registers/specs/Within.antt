@@ -29,6 +29,10 @@ pub record Tidy (r : Registers) : Type 0 where
   pub slots : length (r .slots) ≡ 76
   pub others : TidyOthers (othersOf r)
 
+-- what holds of the address of each word that takes a place
+abbrev pub EachOther : (ℕ → Type 0) → Others → Type 0
+EachOther P o = (i : ℕ) → getD (o .values) i 0 ≢ 0 → P (getD (o .addresses) i 0)
+
 -- 1 for a word that is not zero
 unfoldable pub countOf : ℕ → ℕ
 countOf v = cond (eqb v 0) 0 1

@@ -4,11 +4,10 @@ use mathlib.Core.Path.{_≡_, refl, _∙_}
 use mathlib.Core.Bool.{Bool, true, false}
 use mathlib.Core.List.{List}
 use Prim.Native.Nat.{ℕ}
-use Rattle.system.specs.Calls.{wipedOf}
 use Rattle.system.specs.Steps.{Outcome, step, after}
 use Rattle.system.specs.Limits.{WithinLimits}
 use Rattle.system.specs.Refusals.{refusalOf}
-use Rattle.system.proofs.Kept.{fresh-limits}
+use Rattle.system.proofs.Kept.{fresh-limits-over}
 use Rattle.system.proofs.Limits.{after-limits}
 use Rattle.system.proofs.Refusals.{refused-in-order}
 use Rattle.entries.specs.declared.Entry.{Entry}
@@ -16,18 +15,9 @@ use Rattle.entries.specs.Answers.{inBits, replyOf}
 use Rattle.entries.specs.Turn.{opOf, turnOf}
 use Rattle.script.specs.Fold.{start, opsOf}
 
--- the limits are of the state alone, so whatever memories are lent
+-- whatever memories are lent
 pub start-limits : (ram sram gpio fb : List ℕ) → WithinLimits (start ram sram gpio fb)
-unfolding wipedOf
-start-limits ram sram gpio fb =
-    let w = fresh-limits 0 0 0 0 in record {
-      registers = w .registers;
-      clocks = w .clocks;
-      rtc = w .rtc;
-      tone = w .tone;
-      queue = w .queue;
-      keys = w .keys;
-    }
+start-limits = fresh-limits-over
 
 pub script-limits : (ram sram gpio fb : List ℕ) (es : List Entry)
     → WithinLimits (after (start ram sram gpio fb) (opsOf es))

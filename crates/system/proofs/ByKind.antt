@@ -12,7 +12,8 @@ use Rattle.system.specs.Calls.{readOf, writeOf, advanceOf, turboOf, paci
 use Rattle.system.specs.Calls.{wipedOf}
 use Rattle.system.specs.Steps.{Op, read, write, advance, nextEvent, pending, turbo, live, hold, press}
 use Rattle.system.specs.Steps.{takeEvent, counters, pixel, wipe, peek8, peek32, poke, keysHeld, irqWanted}
-use Rattle.system.specs.Steps.{byPoke, withSystem, step}
+use Rattle.system.specs.Steps.{carryOn, byPoke, withSystem, step}
+use Rattle.system.specs.Normal.{systemNormal, normal}
 use Rattle.system.specs.Carried.{boardIn, screenIn, Kind, writes, lays, wipes, other, kindOf}
 
 -- a turbo that is taken, or refused
@@ -29,7 +30,7 @@ pub by-kind : (m : Machine) (P : Kind → Machine → Type 0) → ((x : Machine)
     (byPoke m (laidOf (plain (m .ram) (m .sram) (m .gpio)) a bytes) .machine))
     → P wipes (wipedOf (length (m .ram)) (length (m .sram)) (length (m .gpio)) (length (m .fb)))
     → (o : Op) → P (kindOf o) (step m o .machine)
-unfolding step readOf advanceOf turboOf liveOf holdOf pressOf takeOf
+unfolding step readOf advanceOf turboOf liveOf holdOf pressOf takeOf systemNormal normal
 by-kind m P f g l w (read a n) = f (step m (read a n) .machine) refl refl
 by-kind m P f g l w (write a n v) = g a n v
 by-kind m P f g l w (advance t) = f (step m (advance t) .machine) refl refl
@@ -48,3 +49,4 @@ by-kind m P f g l w (peek32 a) = f (step m (peek32 a) .machine) refl refl
 by-kind m P f g l w (poke a bytes) = l a bytes
 by-kind m P f g l w keysHeld = f (step m keysHeld .machine) refl refl
 by-kind m P f g l w irqWanted = f (step m irqWanted .machine) refl refl
+by-kind m P f g l w carryOn = f (step m carryOn .machine) refl refl

@@ -38,7 +38,7 @@ use Rattle.system.proofs.ByKind.{by-kind}
 -- ---- the array in RAM
 
 -- from here on `arrayIn` stays folded, since comparing what it unfolds to would count to 8,388,608
-abbrev boardOn : World → Board
+abbrev pub boardOn : World → Board
 boardOn w = board (w .devices .flash) (w .page) (arrayIn (w .ram))
 
 abbrev left : Chipped → Board
@@ -60,8 +60,8 @@ store-on m o n v h = store-past m FLASH-SIZE o n v h
 
 -- ---- a write
 
-flash-port : (w : World) (full : Bool) (word old new part : ℕ) → boardOn (portWritten w full word old new part .world)
-    ≡ afterSteps (boardOn w) (flashWord word new)
+pub flash-port : (w : World) (full : Bool) (word old new part : ℕ)
+    → boardOn (portWritten w full word old new part .world) ≡ afterSteps (boardOn w) (flashWord word new)
 unfolding flashWord selectWritten sendWritten storedWord
 flash-port w full word old new part =
     by-port (λ (x : Out). boardOn (x .world) ≡ afterSteps (boardOn w) (flashWord word new)) w full word old new part

@@ -3,9 +3,8 @@ use Prim.Native.Nat.{ℕ}
 use mathlib.Core.Path.{_≡_, refl, _∙_}
 use mathlib.Core.Bool.{Bool}
 use mathlib.Core.List.{List}
-use lib.ListN.{length}
-use lib.Dec.{lit≤}
-use lib.Ieee.{Float, ofBits, le}
+use lib.ListN.{length, replicate}
+use lib.Ieee.{Float, ofBits}
 use Rattle.whole.proofs.Words.{either}
 use Rattle.registers.specs.declared.Registers.{Registers}
 use Rattle.registers.specs.declared.View.{View}
@@ -18,14 +17,19 @@ use Rattle.registers.specs.Words.{registersOf}
 use Rattle.registers.specs.Within.{Tidy}
 use Rattle.registers.proofs.Own.{own-length}
 use Rattle.registers.proofs.Tidy.{tidy-fresh}
+use Rattle.registers.proofs.Every.{each-fresh}
 use Rattle.memory.specs.declared.Place.{Place}
 use Rattle.memory.specs.declared.Place.the-variants.{Ram, Sram, Gpio, Register, Stray}
 use Rattle.memory.specs.Places.{placeOf}
 use Rattle.memory.specs.Access.{goodSize}
 use Rattle.memory.proofs.Stored.{load-fits}
-use Rattle.timer.specs.Within.{ToneWithin}
+use Rattle.flash.specs.declared.Mode.the-variants.{Rust}
+use Rattle.reach.proofs.Kept.{made-reached}
+use Rattle.timer.specs.Within.{ToneFinite}
 use Rattle.timer.specs.Sound.{silence}
 use Rattle.timer.proofs.Tidy.{empty-canonical, take-canonical}
+use Rattle.timer.proofs.Finite.{empty-events, take-events}
+use Rattle.panel.proofs.Limits as panel-limits
 use Rattle.clock.specs.declared.Moved.{Moved}
 use Rattle.clock.specs.declared.Moved.the-variants.{To, BadTime}
 use Rattle.clock.specs.declared.Paced.{Paced}
@@ -46,27 +50,38 @@ use Rattle.state.specs.declared.Devices.{Devices}
 use Rattle.time.specs.Clocks.{clockIn}
 use Rattle.bus.specs.Read as read
 use Rattle.bus.specs.Read.{ReadOut, viewOf, readBy, wordRead, regRead, readAt}
-use Rattle.system.specs.System.{Machine, machine, freshDevices, freshSystem}
+use Rattle.system.specs.System.{Machine, machine, buttonsIn, freshDevices, freshSystem}
 use Rattle.system.specs.Calls.{readOf, advanceOf, pacing, turboOf, takeOf, liveOf, holdOf, pressOf, wipedOf}
 use Rattle.system.specs.Steps.{withSystem}
-use Rattle.system.specs.Limits.{WithinLimits, buttonsIn}
+use Rattle.system.specs.Carried.{arrayIn}
+use Rattle.system.specs.Limits.{RegisterWord, WithinLimits}
 
 -- ---- after a wipe
 
-silence-held : ToneWithin silence
-unfolding ofBits le
-silence-held = record { frequency = lit≤ tt; from = tt; to = tt }
+silence-finite : ToneFinite silence
+unfolding ofBits
+silence-finite = record { frequency = tt; duty = tt }
 
-pub fresh-limits : (ram sram gpio fb : ℕ) → WithinLimits (wipedOf ram sram gpio fb)
-unfolding wipedOf freshSystem freshDevices
-fresh-limits ram sram gpio fb = record {
+-- over memories of any contents: the limits ask only for how long the flash's array is
+pub fresh-limits-over : (ram sram gpio fb : List ℕ) → WithinLimits (machine freshSystem ram sram gpio fb)
+unfolding freshSystem freshDevices
+fresh-limits-over ram sram gpio fb = record {
   registers = tidy-fresh;
+  others = each-fresh RegisterWord;
   clocks = time-limits.fresh-within;
   rtc = fresh-latched _ (time-limits.fresh-within .times .game-limit);
-  tone = silence-held;
+  tone = silence-finite;
   queue = empty-canonical;
+  events = empty-events;
   keys = keys-limits.fresh-within;
+  panel = panel-limits.fresh-within;
+  flash = record { mode = refl; reached = made-reached Rust (arrayIn ram) };
 }
+
+pub fresh-limits : (ram sram gpio fb : ℕ) → WithinLimits (wipedOf ram sram gpio fb)
+unfolding wipedOf
+fresh-limits ram sram gpio fb =
+    fresh-limits-over (replicate ram 0) (replicate sram 0) (replicate gpio 0) (replicate fb 0)
 
 -- ---- words with storage of their own are replaced
 
@@ -124,11 +139,15 @@ module _ (m : Machine) (w : WithinLimits m) where
   read-limits a n = record {
     registers = own-tidy (m .system .registers) _ (w .registers) (given-length (m .system .registers) (m .ram)
         (m .sram) (m .gpio) (m .system .devices) a n);
+    others = w .others;
     clocks = w .clocks;
     rtc = w .rtc;
     tone = w .tone;
     queue = w .queue;
+    events = w .events;
     keys = w .keys;
+    panel = w .panel;
+    flash = w .flash;
   }
 
   -- ---- keys and events
@@ -137,44 +156,60 @@ module _ (m : Machine) (w : WithinLimits m) where
   unfolding liveOf
   live-limits key down = record {
     registers = w .registers;
+    others = w .others;
     clocks = w .clocks;
     rtc = w .rtc;
     tone = w .tone;
     queue = w .queue;
+    events = w .events;
     keys = keys-limits.live-within (buttonsIn (m .system)) key down (w .keys);
+    panel = w .panel;
+    flash = w .flash;
   }
 
   pub hold-limits : (key : ℕ) (until : Float) → WithinLimits (withSystem m (holdOf (m .system) key until .system))
   unfolding holdOf
   hold-limits key until = record {
     registers = w .registers;
+    others = w .others;
     clocks = w .clocks;
     rtc = w .rtc;
     tone = w .tone;
     queue = w .queue;
+    events = w .events;
     keys = keys-limits.hold-within (buttonsIn (m .system)) key until (w .keys);
+    panel = w .panel;
+    flash = w .flash;
   }
 
   pub press-limits : (key : ℕ) (at : Float) → WithinLimits (withSystem m (pressOf (m .system) key at .system))
   unfolding pressOf
   press-limits key at = record {
     registers = w .registers;
+    others = w .others;
     clocks = w .clocks;
     rtc = w .rtc;
     tone = w .tone;
     queue = w .queue;
+    events = w .events;
     keys = press-within (buttonsIn (m .system)) key at (m .system .devices .clocks .times .now) (w .keys);
+    panel = w .panel;
+    flash = w .flash;
   }
 
   pub take-limits : WithinLimits (withSystem m (takeOf (m .system) .system))
   unfolding takeOf
   take-limits = record {
     registers = w .registers;
+    others = w .others;
     clocks = w .clocks;
     rtc = w .rtc;
     tone = w .tone;
     queue = take-canonical (m .system .queue) (w .queue);
+    events = take-events (m .system .queue) (w .queue .most) (w .events);
     keys = w .keys;
+    panel = w .panel;
+    flash = w .flash;
   }
 
   -- ---- another turbo
@@ -187,11 +222,15 @@ module _ (m : Machine) (w : WithinLimits m) where
           → WithinLimits (withSystem m (pacing (m .system) p .system))
       by (By t) e = record {
         registers = w .registers;
+        others = w .others;
         clocks = time-limits.turbo-within (m .system .devices .clocks) (w .clocks) t to e;
         rtc = rw (paces-within (m .system .devices .clocks .times) t to (w .clocks .times) e .2) (w .rtc);
         tone = w .tone;
         queue = w .queue;
+        events = w .events;
         keys = w .keys;
+        panel = w .panel;
+        flash = w .flash;
       }
       by BadTurbo e = w
 
@@ -227,12 +266,16 @@ advance-limits m to w =
       registers = own-tidy (m .system .registers) _ (w .registers)
           (moved-length slots (m .gpio) (m .system .presses .starts) (m .system .presses .codes) c (m .system .keys)
           clock (movedOf (c .times) to));
+      others = w .others;
       clocks = within;
       rtc = later-latched (m .system .rtc) (m .system .devices .latch) (c .times .game) _
           (w .clocks .times .game-limit) (within .times .game-limit)
           (later .game-later) (w .rtc);
       tone = w .tone;
       queue = w .queue;
+      events = w .events;
       keys = moved-keys slots (m .gpio) (m .system .presses .starts) (m .system .presses .codes) c (m .system .keys)
           clock (movedOf (c .times) to) (w .keys);
+      panel = w .panel;
+      flash = w .flash;
     }

@@ -47,7 +47,8 @@ use Rattle.system.specs.System.{Machine, worldIn}
 use Rattle.system.specs.Calls.{writing, writeOf, advanceOf, wipedOf}
 use Rattle.system.specs.Steps.{Op, read, write, advance, nextEvent, pending, turbo, live, hold, press}
 use Rattle.system.specs.Steps.{takeEvent, counters, pixel, wipe}
-use Rattle.system.specs.Steps.{peek8, peek32, poke, keysHeld, irqWanted, step, withSystem, byPoke}
+use Rattle.system.specs.Steps.{peek8, peek32, poke, keysHeld, irqWanted, carryOn, step, withSystem, byPoke}
+use Rattle.system.specs.Normal.{normal}
 use Rattle.system.specs.Lengths.{SameLengths}
 
 -- ---- the flash's part of RAM
@@ -197,7 +198,7 @@ module _ (m : Machine) where
 -- ---- every operation
 
 pub step-lengths : (m : Machine) (o : Op) → SameLengths (step m o .machine) m
-unfolding step laidOf wipedOf
+unfolding step laidOf wipedOf normal
 step-lengths m (read a n) = same-memories m _
 step-lengths m (write a n v) = write-lengths m a n v
 step-lengths m (advance t) = record { ram = refl; sram = refl; gpio = advance-length m t; fb = refl }
@@ -222,3 +223,4 @@ step-lengths m (poke a bytes) = laid-lengths m (plain (m .ram) (m .sram) (m .gpi
     (same-memories m (m .system))
 step-lengths m keysHeld = same-memories m _
 step-lengths m irqWanted = same-memories m _
+step-lengths m carryOn = same-memories m _

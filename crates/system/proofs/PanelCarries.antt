@@ -70,7 +70,7 @@ control-sent r ram sram gpio t val = by-both (Shows r ram sram gpio t) (has val 
 
 -- ---- a write
 
-abbrev screenOn : World → Screen
+abbrev pub screenOn : World → Screen
 screenOn w = screen (w .devices .panel) (w .fb)
 
 panel-port : (m : Machine) (full : Bool) (word old new part : ℕ)
@@ -89,7 +89,7 @@ panel-port m full word old new part =
     (λ p e s. rw e (by-stores (λ (q : Port). screenIn m ≡ later (screenIn m) (panelAt q m new)) (λ v. refl) refl refl
     p s))
 
-panel-write : (m : Machine) (full : Bool) (a n v : ℕ) → screenOn (bus.writeOf (worldIn m) full a n v .world) ≡ later
+pub panel-write : (m : Machine) (full : Bool) (a n v : ℕ) → screenOn (bus.writeOf (worldIn m) full a n v .world) ≡ later
     (screenIn m) (panelBy m (writes a n v))
 unfolding lands regWritten later
 panel-write m full a n v =

@@ -23,7 +23,7 @@ use Rattle.system.specs.System.{Machine, worldIn}
 use Rattle.system.specs.Calls.{writeOf}
 use Rattle.system.specs.Steps.{Op, read, write, advance, nextEvent, pending, turbo, live, hold, press}
 use Rattle.system.specs.Steps.{takeEvent, counters, pixel, wipe}
-use Rattle.system.specs.Steps.{peek8, peek32, poke, keysHeld, irqWanted, step}
+use Rattle.system.specs.Steps.{peek8, peek32, poke, keysHeld, irqWanted, carryOn, step}
 use Rattle.system.specs.Limits.{WithinLimits}
 use Rattle.system.specs.Refusals.{noRoom, soundWord, newWord, order, given, firstOf, refusalOf}
 use Rattle.system.proofs.Ordered.{read-order, advance-order, next-order, turbo-order, live-order, hold-order}
@@ -106,3 +106,4 @@ refused-in-order m (peek32 a) w = refl
 refused-in-order m (poke a bytes) w = refl
 refused-in-order m keysHeld w = refl
 refused-in-order m irqWanted w = refl
+refused-in-order m carryOn w = refl

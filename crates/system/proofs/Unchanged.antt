@@ -47,7 +47,8 @@ use Rattle.system.specs.Calls.{changed, reading, moving, readOf, writing
 use Rattle.system.specs.Calls.{turboOf, taking, takeOf, liveOf, holdOf, pressing, pressOf}
 use Rattle.system.specs.Steps.{Op, read, write, advance, nextEvent, pending, turbo, live, hold, press}
 use Rattle.system.specs.Steps.{takeEvent, counters, pixel, wipe}
-use Rattle.system.specs.Steps.{peek8, peek32, poke, keysHeld, irqWanted, step, Outcome, plainly, byChange}
+use Rattle.system.specs.Steps.{peek8, peek32, poke, keysHeld, irqWanted, carryOn, step, Outcome, plainly}
+use Rattle.system.specs.Steps.{byChange}
 use Rattle.system.specs.Steps.{byRead, byLeft, byMove, byNext, byTaken}
 
 -- ---- a word that is put
@@ -219,3 +220,4 @@ refused-unchanged m (peek32 a) h = absurd (h refl)
 refused-unchanged m (poke a bytes) h = absurd (h refl)
 refused-unchanged m keysHeld h = absurd (h refl)
 refused-unchanged m irqWanted h = absurd (h refl)
+refused-unchanged m carryOn h = absurd (h refl)

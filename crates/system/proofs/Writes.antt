@@ -1,6 +1,6 @@
 -- A write keeps the limits, whatever its address, its size and its value.
 use Prim.Native.Nat.{ℕ, _^_, _<_}
-use mathlib.Core.Path.{_≡_, refl, ap, subst, _∙_}
+use mathlib.Core.Path.{_≡_, refl, sym, ap, subst, _∙_}
 use mathlib.Core.Bool.{Bool, true, false, cond}
 use mathlib.Core.List.{List}
 use native.Mathlib.Omega.{arith}
@@ -15,24 +15,32 @@ use Rattle.registers.specs.declared.Effect.{Effect}
 use Rattle.registers.specs.declared.Port.the-variants.{Acts}
 use Rattle.registers.specs.Ports.{portOf, timerOf}
 use Rattle.registers.proofs.Slots.{port-timer}
-use Rattle.registers.specs.Words.{registersOf, ownAt, ownWith, wordAt}
-use Rattle.registers.specs.Within.{Tidy}
+use Rattle.registers.specs.Words.{registersOf, ownAt, ownWith, othersOf, wordAt}
+use Rattle.registers.specs.Within.{Tidy, EachOther}
 use Rattle.registers.proofs.Own.{own-length}
 use Rattle.registers.proofs.Tidy.{tidy-put}
+use Rattle.registers.proofs.Every.{each-put}
+use Rattle.memory.specs.declared.Place.the-variants.{Register}
+use Rattle.memory.specs.Places.{placeOf}
 use Rattle.memory.specs.Access.{mergedOf, writtenOf}
 use Rattle.memory.proofs.Stored.{load-fits}
+use Rattle.memory.proofs.Aligned.{word-register}
 use Rattle.flash.specs.declared.Chip.{Chip}
 use Rattle.panel.specs.declared.Panel.{Panel}
 use Rattle.panel.specs.Entries.{Screen}
+use Rattle.panel.specs.Within.{PanelWithin}
+use Rattle.panel.proofs.Limits.{later-within}
 use Rattle.timer.specs.declared.Tone.{Tone}
+use Rattle.timer.specs.declared.Queue.{Queue}
 use Rattle.timer.specs.declared.Sounded.the-variants.{Same, Change, SoundFull}
 use Rattle.timer.specs.Canonical.{Canonical}
 use Rattle.timer.specs.Events.{fullOf}
 use Rattle.timer.specs.Timers as timers
 use Rattle.timer.specs.Sound.{toneOf, differOf, soundedOf}
-use Rattle.timer.specs.Within.{ToneWithin}
-use Rattle.timer.proofs.Tones.{tone-within}
+use Rattle.timer.specs.Within.{ToneWithin, ToneFinite, EventsWithin}
+use Rattle.timer.proofs.Tones.{tone-within, within-finite}
 use Rattle.timer.proofs.Tidy.{put-canonical}
+use Rattle.timer.proofs.Finite.{put-events}
 use Rattle.clock.specs.Within.{Latched}
 use Rattle.clock.specs.Rtc.{rtcOf}
 use Rattle.clock.proofs.RtcLimits.{commands-latched}
@@ -54,15 +62,19 @@ use Rattle.bus.proofs.Branches.{by-write, by-port, by-word, by-sound, by-timer}
 use Rattle.bus.specs.Sounds.{soundNow, noted}
 use Rattle.system.specs.System.{Machine, worldIn}
 use Rattle.system.specs.Calls.{writeOf}
-use Rattle.system.specs.Limits.{WithinLimits}
+use Rattle.system.specs.Carried.{screenIn, writes, panelBy}
+use Rattle.system.specs.Limits.{RegisterWord, WithinLimits}
 use Rattle.system.proofs.Kept.{own-tidy}
+use Rattle.system.proofs.PanelCarries.{panel-write}
+use Rattle.system.proofs.FlashKept.{write-flash}
 
--- what a write on the bus can reach of the limits
+-- what a write on the bus can reach of the limits, beside the panel's and the flash's
 record BusWithin (r : Registers) (c : List ℕ) (d : Devices) : Type 0 where
   registers : Tidy r
+  others : EachOther RegisterWord (othersOf r)
   clocks : ClocksWithin (d .clocks)
   rtc : Latched c (d .latch) (d .clocks .times .game)
-  tone : ToneWithin (d .tone)
+  tone : ToneFinite (d .tone)
 
 -- ---- the panel's words keep their number
 
@@ -94,9 +106,9 @@ controlled-length r ram sram gpio t val =
     either (λ (x : Copied). length (x .slots) ≡ length (r .slots)) (has val 1) _ _
     (own-length _ _ _ ∙ acted-length _ ram sram gpio t val ∙ own-length (r .slots) _ _) (own-length (r .slots) _ _)
 
--- ---- the tone of a change is one that timer 4's words give
+-- ---- the tone of a change is one that timer 4's words give, so its duty is held within 0.05 and 0.95
 
-changed-held : (slots : List ℕ) (state tone : Tone) (clock : ℕ) (full : Bool) (word v : ℕ) → clock < 2 ^ 32
+pub changed-held : (slots : List ℕ) (state tone : Tone) (clock : ℕ) (full : Bool) (word v : ℕ) → clock < 2 ^ 32
     → soundOf slots state clock full word v ≡ Change tone
     → ToneWithin tone
 unfolding soundOf soundedOf
@@ -124,10 +136,10 @@ module _ (r : Registers) (rtc : List ℕ) (d : Devices) (w : BusWithin r rtc d) 
       → Kept slots (devicesOf f p (d .clocks) (d .latch) (d .tone) off)
   apart slots f p off e = record {
     registers = own-tidy r slots (w .registers) e;
+    others = w .others;
     clocks = w .clocks;
     rtc = w .rtc;
-    tone =
-        w .tone;
+    tone = w .tone;
   }
 
   -- of the clocks all but game time may change
@@ -136,10 +148,10 @@ module _ (r : Registers) (rtc : List ℕ) (d : Devices) (w : BusWithin r rtc d) 
       → Kept slots (withClocks d k)
   clocked slots k e t h = record {
     registers = own-tidy r slots (w .registers) e;
+    others = w .others;
     clocks = h;
     rtc = rw t (w .rtc);
-    tone =
-        w .tone;
+    tone = w .tone;
   }
 
   module _ (clock : ℕ) (full : Bool) (small : clock < 2 ^ 32) where
@@ -152,9 +164,10 @@ module _ (r : Registers) (rtc : List ℕ) (d : Devices) (w : BusWithin r rtc d) 
         by-sound SaidKept (r .slots) d clock full next word v (λ e. w) (λ e. h)
         (λ tone e. record {
           registers = h .registers;
+          others = h .others;
           clocks = h .clocks;
           rtc = h .rtc;
-          tone = changed-held (r .slots) (d .tone) tone clock full word v small e;
+          tone = within-finite tone (changed-held (r .slots) (d .tone) tone clock full word v small e);
         })
 
     timer-kept : (n word old new : ℕ) → n < 6 → SaidKept (timerWritten (r .slots) d clock full n word old new)
@@ -182,10 +195,14 @@ module _ (r : Registers) (rtc : List ℕ) (d : Devices) (w : BusWithin r rtc d) 
 abbrev WorldKept : Out → Type 0
 WorldKept x = BusWithin (x .world .registers) (x .world .rtc) (x .world .devices)
 
-reg-kept : (w : World) (full : Bool) (a n v : ℕ) → BusWithin (w .registers) (w .rtc) (w .devices)
-    → WorldKept (regWritten w full a n v)
+-- the word that a register's address lies in
+word-placed : (a : ℕ) → placeOf a ≡ Register → RegisterWord (wordAddress a)
+word-placed a e = record { register = word-register a e; aligned = omega arith }
+
+reg-kept : (w : World) (full : Bool) (a n v : ℕ) → placeOf a ≡ Register
+    → BusWithin (w .registers) (w .rtc) (w .devices) → WorldKept (regWritten w full a n v)
 unfolding regWritten selectWritten sendWritten commandWritten storedWord
-reg-kept w full a n v h =
+reg-kept w full a n v here h =
     let r = w .registers in
     let old = wordAt r (wordAddress a) in
     let new = mergedOf old a n v in
@@ -195,6 +212,7 @@ reg-kept w full a n v h =
     (λ e. apart r (w .rtc) (w .devices) h _ _ _ _ (controlled-length r (w .ram) (w .sram) (w .gpio) _ new))
     (λ e. record {
       registers = own-tidy r _ (h .registers) (own-length (r .slots) _ _);
+      others = h .others;
       clocks = h .clocks;
       rtc = commands-latched (rtcOf (w .rtc) (w .devices .latch)) (w .devices .clocks .times .game) _ _ new (h .rtc)
           (h .clocks .times .game-limit);
@@ -204,6 +222,7 @@ reg-kept w full a n v h =
     (wordAddress a) old new (writtenOf a n v) e)
     (λ p e s. record {
       registers = tidy-put r (wordAddress a) new (h .registers);
+      others = each-put RegisterWord r (wordAddress a) new (h .registers) (word-placed a here) (h .others);
       clocks = h .clocks;
       rtc = h .rtc;
       tone = h .tone;
@@ -212,32 +231,49 @@ reg-kept w full a n v h =
 write-kept : (w : World) (full : Bool) (a n v : ℕ) → BusWithin (w .registers) (w .rtc) (w .devices)
     → WorldKept (write.writeOf w full a n v)
 write-kept w full a n v h =
-    by-write WorldKept w full a n v (λ g. h) (λ o g e. h) (λ o g e. h) (λ o g e. h) (λ g e. reg-kept w full a n v h)
+    by-write WorldKept w full a n v (λ g. h) (λ o g e. h) (λ o g e. h) (λ o g e. h) (λ g e. reg-kept w full a n v e h)
     (λ g e. h)
 
 -- ---- a write of the machine
 
-pub write-limits : (m : Machine) (a n v : ℕ) → WithinLimits m → WithinLimits (writeOf m a n v .machine)
-unfolding writeOf
-write-limits m a n v w =
-    let x = write.writeOf (worldIn m) (fullOf (m .system .queue .ring)) a n v in
-    let h : WorldKept x =
-    write-kept (worldIn m) _ a n v (record {
-      registers = w .registers;
-      clocks = w .clocks;
-      rtc = w .rtc;
-      tone =
-          w .tone;
-    }) in
-    record {
-      registers = h .registers;
-      clocks = h .clocks;
-      rtc = h .rtc;
-      tone = h .tone;
-      queue = event (x .world .devices) (x .event);
-      keys = w .keys;
-    }
-  where
-    event : (d : Devices) (b : Bool) → Canonical (noted (m .system .queue) d b)
-    event d true = put-canonical (m .system .queue) (soundNow d) (w .queue)
-    event d false = w .queue
+module _ (m : Machine) (w : WithinLimits m) where
+  -- the queue after a write: its event, if there is one, is of now and of the tone
+  abbrev Noted : Queue → Type 0
+  Noted q = Canonical q × EventsWithin q
+
+  note-kept : (d : Devices) (b : Bool) → ClocksWithin (d .clocks) → ToneFinite (d .tone)
+      → Noted (noted (m .system .queue) d b)
+  note-kept d true c t = (
+    put-canonical (m .system .queue) (soundNow d) (w .queue),
+    put-events (m .system .queue) (soundNow d) (w .queue) (w .events)
+        (record { time = c .times .now-good; frequency = t .frequency; duty = t .duty }),
+  )
+  note-kept d false c t = (w .queue, w .events)
+
+  pub write-limits : (a n v : ℕ) → WithinLimits (writeOf m a n v .machine)
+  unfolding writeOf
+  write-limits a n v =
+      let full = fullOf (m .system .queue .ring) in
+      let x = write.writeOf (worldIn m) full a n v in
+      let h : WorldKept x =
+      write-kept (worldIn m) full a n v (record {
+        registers = w .registers;
+        others = w .others;
+        clocks = w .clocks;
+        rtc = w .rtc;
+        tone = w .tone;
+      }) in
+      let q = note-kept (x .world .devices) (x .event) (h .clocks) (h .tone) in
+      record {
+        registers = h .registers;
+        others = h .others;
+        clocks = h .clocks;
+        rtc = h .rtc;
+        tone = h .tone;
+        queue = q .0;
+        events = q .1;
+        keys = w .keys;
+        panel = subst (λ (s : Screen). PanelWithin (s .panel)) (sym (panel-write m full a n v))
+            (later-within (screenIn m) (panelBy m (writes a n v)) (w .panel));
+        flash = write-flash (worldIn m) full a n v (w .flash);
+      }

@@ -47,6 +47,7 @@ use Rattle.system.specs.Steps.{
   poke,
   keysHeld,
   irqWanted,
+  carryOn,
   step,
 }
 
@@ -90,6 +91,7 @@ kindOf (peek32 a) = other
 kindOf (poke a bytes) = lays a bytes
 kindOf keysHeld = other
 kindOf irqWanted = other
+kindOf carryOn = other
 
 -- ---- a word that is written
 

@@ -6,6 +6,7 @@ pub mod Bank
 pub mod Table
 pub mod Starred
 pub mod Limits
+pub mod Normal
 pub mod Refusals
 pub mod Lengths
 pub mod Carried

@@ -32,7 +32,7 @@ use Rattle.system.specs.declared.System.{System}
 use Rattle.system.specs.System.{Machine}
 use Rattle.system.specs.Steps.{Op, read, write, advance, nextEvent, pending, turbo, live, hold, press}
 use Rattle.system.specs.Steps.{takeEvent, counters, pixel, wipe}
-use Rattle.system.specs.Steps.{peek8, peek32, poke, keysHeld, irqWanted}
+use Rattle.system.specs.Steps.{peek8, peek32, poke, keysHeld, irqWanted, carryOn}
 
 -- ---- what an operation is given
 
@@ -170,6 +170,7 @@ reasonsOf m (peek32 a) = []
 reasonsOf m (poke a bytes) = []
 reasonsOf m keysHeld = []
 reasonsOf m irqWanted = []
+reasonsOf m carryOn = []
 
 -- Order: 9, 8, 1, 2, 6, 4, 5, 3; the last two come alone
 unfoldable pub order : List ℕ

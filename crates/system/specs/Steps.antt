@@ -18,10 +18,12 @@ use Rattle.system.specs.declared.Read.{Read}
 use Rattle.system.specs.declared.Taken.{Taken}
 use Rattle.system.specs.declared.Counters.{Counters}
 use Rattle.system.specs.System.{Machine, machine, Left}
+use Rattle.system.specs.Normal.{normal}
 use Rattle.system.specs.Calls.{Moved, readOf, writeOf, advanceOf, nextOf, turboOf, pendingOf, wantedOf, takeOf}
 use Rattle.system.specs.Calls.{liveOf, holdOf, pressOf, heldOf, countersOf, wipedOf}
 
--- read and write: address, size, value; keys: the key, and whether it is down or its time
+-- read and write: address, size, value; keys: the key, and whether it is down or its time; carryOn: saved and resumed
+-- at once
 pub data Op : Type 0 where
   read : ℕ → ℕ → Op
   write : ℕ → ℕ → ℕ → Op
@@ -41,6 +43,7 @@ pub data Op : Type 0 where
   poke : ℕ → List ℕ → Op
   keysHeld : Op
   irqWanted : Op
+  carryOn : Op
 
 -- 01's number, three whole numbers and three floats; what an operation does not answer is zero
 pub record Outcome : Type 0 where
@@ -119,6 +122,7 @@ step m (peek32 a) = words m 0 (peeked32 (m .system .registers) (m .ram) (m .sram
 step m (poke a bytes) = byPoke m (laidOf (plain (m .ram) (m .sram) (m .gpio)) a bytes)
 step m keysHeld = byHeld m (heldOf (m .system))
 step m irqWanted = words m 0 (bit (wantedOf (m .system))) 0 0
+step m carryOn = plainly (normal m) 0
 
 -- the machine after operations
 unfoldable pub after : Machine → List Op → Machine

@@ -14,7 +14,7 @@ use Rattle.timer.specs.declared.Queue.{Queue}
 use Rattle.timer.specs.Sound.{silence}
 use Rattle.timer.specs.Events.{emptyQueue}
 use Rattle.keys.specs.declared.Keys.{Keys}
-use Rattle.keys.specs.Keys.{freshButtons}
+use Rattle.keys.specs.Keys.{Buttons, buttons, freshButtons}
 use Rattle.state.specs.declared.Clocks.{Clocks}
 use Rattle.time.specs.Clocks.{freshClocks}
 use Rattle.state.specs.Parts.{timesWith, devicesOf}
@@ -50,6 +50,10 @@ systemOf r c p d q x k = record { registers = r; rtc = c; page = p; devices = d;
 
 abbrev pub presses : List Float → List ℕ → Presses
 presses t c = record { starts = t; codes = c }
+
+-- the keys, and the presses that wait for them
+abbrev pub buttonsIn : System → Buttons
+buttonsIn s = buttons (s .presses .starts) (s .presses .codes) (s .keys)
 
 abbrev pub withSlots : System → List ℕ → System
 withSlots s slots =

@@ -1,15 +1,15 @@
 -- Time over the bank.
-use Prim.Native.Nat.{ℕ, zero, suc, _<_}
+use Prim.Native.Nat.{ℕ, zero, suc, _+_, _<_}
 use mathlib.Core.Path.{_≡_, refl, sym, ap, _∙_}
 use mathlib.Core.Bool.{Bool, true, false, cond, not, false≢true}
 use mathlib.Core.List.{List, [], _∷_}
 use native.Mathlib.Omega.{arith}
 use lib.Bits.{bitAnd, bitOr}
 use lib.Dec.{ltb}
-use lib.Ieee.{Float}
+use lib.Ieee.{Float, nan}
 use lib.ListN.{getD, set}
-use borrow.Author.Tests.{eq-eqb, ltb-true}
-use Rattle.map.specs.Numbers.{DONE, BAD-TIME, ADC-CONTROL, ADC-RESULT, LCD-STATUS, RTC-IRQ-STATUS}
+use borrow.Author.Tests.{eq-eqb, lt-ltb, ltb-true}
+use Rattle.map.specs.Numbers.{DONE, BAD-TIME, TIMER-COUNT, ADC-CONTROL, ADC-RESULT, LCD-STATUS, RTC-IRQ-STATUS}
 use Rattle.registers.specs.Words.{ownAt, ownWith}
 use Rattle.registers.specs.Ports.{slotOf}
 use Rattle.clock.specs.declared.Times.{Times}
@@ -27,16 +27,20 @@ use Rattle.keys.specs.declared.Keys.{Keys}
 use Rattle.keys.specs.Live.{heldOf}
 use Rattle.keys.specs.Lines.{lines, syncOf}
 use Rattle.timer.specs.declared.Timer.{Timer}
-use Rattle.timer.specs.Timers.{advancedOf}
+use Rattle.timer.specs.Timers.{advancedOf, resyncedOf}
 use Rattle.time.specs.Clocks.{clockIn, controlWord, reloadWord}
 use Rattle.time.specs.Advance as move
 use Rattle.time.specs.Advance.{timerAfter, timersAfter, syncedOf, convertedIn, tickedIn, devicesOf, Outcome}
 use Rattle.time.specs.Advance.{outcome, movedTo, byMove, advanceOf}
+use Rattle.time.specs.Resync.{timersResynced, clocksResynced}
 use Rattle.state.specs.declared.Clocks.{Clocks}
 use Rattle.state.specs.declared.Parts.{Parts}
 use Rattle.state.specs.Parts.{none, timersPut, timerPut, timesPut, vsyncPut, convertingPut, irqPut, appliedPut}
 use Rattle.state.specs.Parts.{clocksPut}
-use Rattle.state.specs.Bank.{timersIn, partsIn}
+use Rattle.state.specs.Each.{listOf}
+use Rattle.state.specs.Bank.{timesIn, timerIn, timersIn, clocksIn, partsIn}
+use Rattle.state.specs.Packed.{timerFloats}
+use Rattle.state.proofs.Puts.{timer-got}
 use Rattle.time.specs.Bank.{MovedBank, movedBank, movesOf}
 use Rattle.time.specs.Inner.{Went, went, syncedPut, convertedPut, tickedPut, wentOf}
 
@@ -85,16 +89,62 @@ timer-stays slots l f n now clock {control} c h =
     timer-stepped slots l f n now clock {reload = reloadWord slots n} {t = t} {r = t} c refl refl (rw (eq-eqb _ _ h))
     (ap (λ (z : List Timer). timersPut (partsIn l f) z) (sym (put-same (timersIn l f) n none)))
 
-abbrev stepped : List ℕ → Float → ℕ → Parts → ℕ → Parts
-stepped slots now clock x n = timerPut x n (timerAfter slots n (getD (x .devices .clocks .timers) n none) now clock)
+-- timer n by a step of its own, and the six one after the other
+abbrev stepped : (ℕ → Timer → Timer) → Parts → ℕ → Parts
+stepped s x n = timerPut x n (s n (getD (x .devices .clocks .timers) n none))
+
+timers-by : (s : ℕ → Timer → Timer) (l : List ℕ) (f : List Float) {a b c d e g : Parts}
+    → a ≡ stepped s (partsIn l f) 0 → b ≡ stepped s a 1 → c ≡ stepped s b 2 → d ≡ stepped s c 3 → e ≡ stepped s d 4
+    → g ≡ stepped s e 5
+    → g ≡ timersPut (partsIn l f) (listOf (λ n. s n (getD (timersIn l f) n none)) 0 TIMER-COUNT)
+timers-by s l f h i j k m n = rw (n, m, k, j, i, h)
+
+abbrev advancing : List ℕ → Float → ℕ → ℕ → Timer → Timer
+advancing slots now clock n t = timerAfter slots n t now clock
 
 pub timers-stepped : (slots l : List ℕ) (f : List Float) (now : Float) (clock : ℕ) {a b c d e g : Parts}
-    → a ≡ stepped slots now clock (partsIn l f) 0 → b ≡ stepped slots now clock a 1
-    → c ≡ stepped slots now clock b 2 → d ≡ stepped slots now clock c 3 → e ≡ stepped slots now clock d 4
-    → g ≡ stepped slots now clock e 5
+    → a ≡ stepped (advancing slots now clock) (partsIn l f) 0 → b ≡ stepped (advancing slots now clock) a 1
+    → c ≡ stepped (advancing slots now clock) b 2 → d ≡ stepped (advancing slots now clock) c 3
+    → e ≡ stepped (advancing slots now clock) d 4 → g ≡ stepped (advancing slots now clock) e 5
     → g ≡ timersPut (partsIn l f) (timersAfter slots (timersIn l f) now clock)
 unfolding timersAfter
-timers-stepped slots l f now clock h i j k m n = rw (n, m, k, j, i, h)
+timers-stepped slots l f now clock h i j k m n = timers-by (advancing slots now clock) l f h i j k m n
+
+-- ---- the timers counted anew
+
+pub timer-resynced : (slots l : List ℕ) (f : List Float) (n : ℕ) (now : Float) (clock : ℕ) {control reload : ℕ}
+    {t r : Timer} {y : Parts}
+    → control ≡ controlWord slots n → reload ≡ reloadWord slots n → t ≡ getD (timersIn l f) n none
+    → r ≡ resyncedOf t now clock control reload → y ≡ timerPut (partsIn l f) n r
+    → y ≡ timerPut (partsIn l f) n
+    (resyncedOf (getD (timersIn l f) n none) now clock (controlWord slots n) (reloadWord slots n))
+timer-resynced slots l f n now clock c d e h i = rw (i, h, e, c, d)
+
+-- its start is put back as it was
+pub start-same : (l : List ℕ) (f : List Float) (n : ℕ) (now : Float) (clock control reload : ℕ) {t r : Timer}
+    {g : List Float} → n < TIMER-COUNT → t ≡ getD (timersIn l f) n none → r ≡ resyncedOf t now clock control reload
+    → g ≡ timerFloats f n r → g ≡ f
+unfolding resyncedOf timerFloats timerIn
+start-same l f n now clock control reload less e h i =
+    rw (i, h, e, ← timer-got l f n less, lt-ltb n TIMER-COUNT less) (put-same f (3 + n) nan)
+
+abbrev resyncing : List ℕ → Float → ℕ → ℕ → Timer → Timer
+resyncing slots now clock n t = resyncedOf t now clock (controlWord slots n) (reloadWord slots n)
+
+pub timers-resynced : (slots l : List ℕ) (f : List Float) (now : Float) (clock : ℕ) {a b c d e g : Parts}
+    → a ≡ stepped (resyncing slots now clock) (partsIn l f) 0 → b ≡ stepped (resyncing slots now clock) a 1
+    → c ≡ stepped (resyncing slots now clock) b 2 → d ≡ stepped (resyncing slots now clock) c 3
+    → e ≡ stepped (resyncing slots now clock) d 4 → g ≡ stepped (resyncing slots now clock) e 5
+    → g ≡ timersPut (partsIn l f) (timersResynced slots (timersIn l f) now clock)
+unfolding timersResynced
+timers-resynced slots l f now clock h i j k m n = timers-by (resyncing slots now clock) l f h i j k m n
+
+pub clocks-resynced : (slots l : List ℕ) (f : List Float) (sram : List ℕ) {times : Times} {clock : ℕ} {y : Parts}
+    → times ≡ timesIn f → clock ≡ clockIn sram
+    → y ≡ timersPut (partsIn l f) (timersResynced slots (timersIn l f) (times .now) clock)
+    → y ≡ clocksPut (partsIn l f) (clocksResynced slots (clocksIn l f) (clockIn sram))
+unfolding clocksResynced
+clocks-resynced slots l f sram e c h = rw (h, c, e)
 
 module _ (slots : List ℕ) (x : Parts) where
   pub vsync-went : (now : Float) {status last : ℕ} {s : Signal} {o : List ℕ} {y : Parts}

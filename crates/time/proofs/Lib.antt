@@ -3,4 +3,5 @@ pub mod Cases
 pub mod Clockwork
 pub mod Asks
 pub mod Limits
+pub mod Recount
 pub mod Unique

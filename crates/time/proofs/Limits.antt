@@ -10,9 +10,9 @@ use lib.Ieee.{Float, ofBits}
 use Rattle.whole.proofs.Clear.{at-most-clear}
 use Rattle.whole.proofs.Order.{good-clear, le-refl-clear}
 use Rattle.timer.specs.declared.Timer.{Timer}
-use Rattle.timer.specs.Timers.{freshTimer, writtenOf}
+use Rattle.timer.specs.Timers.{freshTimer, writtenOf, resyncedOf}
 use Rattle.timer.specs.Within.{Started}
-use Rattle.timer.proofs.Limits.{advance-started, fresh-started, write-started, later-started}
+use Rattle.timer.proofs.Limits.{advance-started, resync-started, fresh-started, write-started, later-started}
 use Rattle.clock.specs.declared.Times.{Times}
 use Rattle.clock.specs.declared.Moved.{Moved}
 use Rattle.clock.specs.declared.Moved.the-variants.{To, BadTime}
@@ -30,6 +30,7 @@ use Rattle.time.specs.Clocks.{freshClocks, controlWord, reloadWord}
 use Rattle.state.specs.Parts.{none, timesWith, timerWith, irqWith, convertingWith}
 use Rattle.time.specs.Advance.{timerAfter, timersAfter, syncedOf, convertedIn, tickedIn, devicesOf, movedTo}
 use Rattle.time.specs.Advance.{byMove, advanceOf}
+use Rattle.time.specs.Resync.{timersResynced, clocksResynced}
 use Rattle.time.specs.Within.{ClocksWithin}
 
 -- ---- what holds of each of six timers
@@ -125,6 +126,26 @@ module _ (slots gpio : List ℕ) (starts : List Float) (codes : List ℕ) (c : C
         now-later = le-refl-clear (c .times .now) (good-clear (c .times .now) (w .times .now-good));
         game-later = le-refl-clear (c .times .game) (at-most-clear (c .times .game) (2 ^ 31) (w .times .game-limit));
       }
+
+-- ---- the periods seen, counted anew
+pub resynced-within : (slots : List ℕ) (c : Clocks) (clock : ℕ) → clock < 2 ^ 32 → ClocksWithin c
+    → ClocksWithin (clocksResynced slots c clock)
+unfolding clocksResynced timersResynced
+resynced-within slots c clock h w = record {
+  times = w .times;
+  timers = six (λ (t : Timer). Started t (c .times .now)) _ _ _ _ _ _ (each 0 (lit< tt)) (each 1 (lit< tt))
+      (each 2 (lit< tt)) (each 3 (lit< tt)) (each 4 (lit< tt)) (each 5 (lit< tt));
+  day = w .day;
+  seconds = w .seconds;
+  syncs = w .syncs;
+}
+  where
+    each : (n : ℕ) → n < 6
+        → Started (resyncedOf (getD (c .timers) n none) (c .times .now) clock (controlWord slots n)
+        (reloadWord slots n)) (c .times .now)
+    each n i =
+        resync-started (getD (c .timers) n none) (c .times .now) clock (controlWord slots n) (w .timers n i)
+        (w .times .now-good) h (reloadWord slots n)
 
 -- ---- a write of a register, and another turbo
 module _ (c : Clocks) (w : ClocksWithin c) where

@@ -1,5 +1,5 @@
-// Time over all devices: interrupts, advance, next_event and set_turbo of core/src/sys.rs; the keys; and the sound
-// events that wait.
+// Time over all devices: interrupts, advance, timers_resync, next_event and set_turbo of core/src/sys.rs; the keys; and
+// the sound events that wait.
 //
 // The scalars are the bank's (crate state). Every word that is read or set here has storage of its own, so those words
 // alone are lent and not the table of the others.
@@ -11,6 +11,7 @@ pub mod buttons;
 pub mod irq;
 pub mod next;
 pub mod pace;
+pub mod resync;
 pub mod tones;
 
 use timer::Event;

@@ -12,6 +12,7 @@ use Rattle.timer.specs.declared.Timer.{Timer}
 use Rattle.timer.specs.declared.Tone.{Tone}
 use Rattle.timer.specs.declared.Sounded.the-variants.{Same, Change, SoundFull}
 use Rattle.timer.specs.Timers.{ticks, periodOf, rateOf, elapsedOf, counterOf, noted, advancedOf}
+use Rattle.timer.specs.Timers.{resyncedOf}
 use Rattle.timer.specs.Sound.{differOf, soundedOf}
 
 pub elapsed-some : (start now rate : Float) (n : ℕ) → lt (ofBits binary64 0) (ticks start now rate) ≡ true
@@ -56,6 +57,16 @@ module _ (t : Timer) (now : Float) (clock control reload e p : ℕ) (r : Float) 
       → record { start = t .start; seen = e / p; pending = t .pending || has control 0x4000 } ≡ advancedOf t now clock
       control reload
   advance-counts l = sym (runs ∙ rw (lt-ltb (t .seen) (e / p) l))
+
+  pub resync-counts : record { start = t .start; seen = e / p; pending = t .pending }
+      ≡ resyncedOf t now clock control reload
+  unfolding resyncedOf
+  resync-counts = rw (has-some control 0x2000 h, ← k, ← i, ← j)
+
+pub resync-stands : (t : Timer) (now : Float) (clock control reload : ℕ) → bitAnd control 0x2000 ≡ 0
+    → record { start = t .start; seen = 0; pending = t .pending } ≡ resyncedOf t now clock control reload
+unfolding resyncedOf
+resync-stands t now clock control reload h = rw (has-not control 0x2000 h)
 
 -- ---- the buzzer
 pub differ-first : (a b : Tone) → ne (a .frequency) (b .frequency) ≡ true → true ≡ differOf a b

@@ -10,5 +10,7 @@ pub mod Laid
 pub mod Places
 pub mod Waiting
 pub mod Tidy
+pub mod Finite
+pub mod Straight
 pub mod Fifo
 pub mod Unique

@@ -21,7 +21,7 @@ use Rattle.whole.proofs.Order.{good-clear, le-trans-clear, le-refl-clear, zero-
 use Rattle.whole.proofs.Mono.{sub-mono, mul-mono, cut-mono}
 use Rattle.timer.specs.declared.Timer.{Timer}
 use Rattle.timer.specs.Timers.{sysclkOf, rateOf, ticks, elapsedOf, writtenOf, clearedOf, noted, advancedOf}
-use Rattle.timer.specs.Timers.{periodOf, freshTimer}
+use Rattle.timer.specs.Timers.{periodOf, freshTimer, resyncedOf}
 use Rattle.timer.specs.Within.{Started}
 
 -- ---- the rate, for every clock word
@@ -100,6 +100,17 @@ module _ (t : Timer) (now : Float) (clock control : ℕ) (s : Started t now) (g 
         limit = le-trans (div-le-self (elapsedOf (t .start) now (rateOf clock control)) (periodOf reload))
             elapsed-limit;
       }) s) s
+
+  -- and so do period counts that are recomputed
+  pub resync-started : (reload : ℕ) → Started (resyncedOf t now clock control reload) now
+  unfolding resyncedOf
+  resync-started reload = record {
+    good = s .good;
+    before = s .before;
+    limit = either (λ (n : ℕ). n ≤ 2 ^ 52) (has control 0x2000) _ 0
+        (le-trans (div-le-self (elapsedOf (t .start) now (rateOf clock control)) (periodOf reload)) elapsed-limit)
+        (lit≤ tt);
+  }
 
 -- a fresh timer, a write of the control word, and time that goes on
 pub fresh-started : (now : Float) → T (goodTime now) → Started freshTimer now

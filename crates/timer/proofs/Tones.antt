@@ -1,4 +1,4 @@
--- The numbers of a tone: the frequency is finite, and the duty is tone-within within 0.05 and 0.95, whatever the four
+-- The numbers of a tone: the frequency is finite, and the duty is held within 0.05 and 0.95, whatever the four
 -- words.
 use mathlib.Core.Path.{_≡_, refl}
 use mathlib.Core.Bool.{Bool, true, false, cond}
@@ -9,11 +9,12 @@ use lib.Dec.{T, lit<, lit≤}
 use lib.Ieee.{Float, binary64, ofBits, ofInt, div, le, lt}
 use Rattle.whole.specs.Bounds.{Clear, AtMost, AtLeast}
 use Rattle.whole.specs.Words.{has}
-use Rattle.whole.proofs.Clear.{at-most-clear}
+use Rattle.whole.proofs.Clear.{at-most-clear, at-most-finite, between-finite}
 use Rattle.whole.proofs.Round.{ofInt-at-most, ofInt-at-least, div-at-most}
 use Rattle.whole.proofs.Order.{le-of-not-lt}
 use Rattle.timer.specs.Timers.{periodOf, rateOf}
-use Rattle.timer.specs.Within.{low, high, ToneWithin}
+use Rattle.timer.specs.declared.Tone.{Tone}
+use Rattle.timer.specs.Within.{low, high, ToneWithin, ToneFinite}
 use Rattle.timer.specs.Sound.{clampOf, toneOf, silence}
 use Rattle.timer.proofs.Limits.{rate-at-most}
 
@@ -57,3 +58,11 @@ tone-within clock control reload compare h = by (has control 0x2000)
           to = c .1;
         }
     by false = unfold ofBits le in record { frequency = lit≤ tt; from = tt; to = tt }
+
+-- so both are finite
+pub within-finite : (tone : Tone) → ToneWithin tone → ToneFinite tone
+unfolding ofBits
+within-finite tone w = record {
+  frequency = at-most-finite (tone .frequency) (2 ^ 31) (w .frequency);
+  duty = between-finite (tone .duty) _ _ _ _ _ _ (w .from) (w .to);
+}

@@ -36,12 +36,12 @@ waiting-count q = from-length q 0 (q .ring .count)
 -- ---- out
 
 -- the arrays with n places given back, and the ring that starts after them
-abbrev oldestGone : Queue → ℕ → Queue
+abbrev pub oldestGone : Queue → ℕ → Queue
 oldestGone q n =
     queueOf (cleared (q .ring) n (q .onsets)) (cleared (q .ring) n (q .frequencies)) (cleared (q .ring) n (q .duties))
     (ringOf (placeOf (q .ring) n) (q .ring .count - n))
 
-event-moves : (q : Queue) (n i : ℕ) → n + i < 256 → eventOf (oldestGone q n) i ≡ eventOf q (n + i)
+pub event-moves : (q : Queue) (n i : ℕ) → n + i < 256 → eventOf (oldestGone q n) i ≡ eventOf q (n + i)
 event-moves q n i small =
     ap (eventAt (oldestGone q n)) (place-moves (q .ring) n i (q .ring .count - n))
     ∙ rw (
@@ -62,7 +62,7 @@ from-drops q zero i m = rw (zero-add i, sub-zero m)
 from-drops q (suc n) i zero = rw (zero-sub (suc n))
 from-drops q (suc n) i (suc m) = rw (suc-sub-suc m n, suc-add n i, ← add-suc n i) (from-drops q n (suc i) m)
 
-without-some : (q : Queue) (n : ℕ) → n < q .ring .count → without q n ≡ oldestGone q n
+pub without-some : (q : Queue) (n : ℕ) → n < q .ring .count → without q n ≡ oldestGone q n
 without-some q n less = rw (skipped-some (q .ring) n less)
 
 without-waits : (q : Queue) (n : ℕ) (t : Bool) → ltb n (q .ring .count) ≡ t → q .ring .count ≤ 256
@@ -83,7 +83,7 @@ without-drops q n most = without-waits q n (ltb n (q .ring .count)) refl most
 
 -- ---- in
 
-event-stays : (q : Queue) (e : Event) (i : ℕ) → i < q .ring .count → q .ring .count < 256
+pub event-stays : (q : Queue) (e : Event) (i : ℕ) → i < q .ring .count → q .ring .count < 256
     → eventOf (withLast q e) i ≡ eventOf q i
 event-stays q e i less small =
     let apart : placeOf (q .ring) i ≢ placeOf (q .ring) (q .ring .count) =
@@ -95,7 +95,7 @@ event-stays q e i less small =
       getD-set-other (q .duties) (placeOf (q .ring) (q .ring .count)) (placeOf (q .ring) i) (e .duty) nan apart,
     )
 
-event-last : (q : Queue) (e : Event) → Canonical q → eventOf (withLast q e) (q .ring .count) ≡ e
+pub event-last : (q : Queue) (e : Event) → Canonical q → eventOf (withLast q e) (q .ring .count) ≡ e
 event-last q e good =
     let last : ℕ = placeOf (q .ring) (q .ring .count) in
     rw (

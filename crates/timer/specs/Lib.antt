@@ -7,3 +7,4 @@ pub mod Events
 pub mod Canonical
 pub mod Story
 pub mod Inner
+pub mod Straight

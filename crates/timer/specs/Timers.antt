@@ -1,6 +1,6 @@
 -- A timer, as document 000 has it: Timer, sysclk, timer_rate, timer_period, timer_elapsed, timer_counter,
--- timer_write_ctrl, timer_advance and the timer words of mmio_read. Every f64 operation stands in the Rust's order; a
--- literal is given by its bits.
+-- timer_write_ctrl, timer_advance, timers_resync and the timer words of mmio_read. Every f64 operation stands in the
+-- Rust's order; a literal is given by its bits.
 use mathlib.Core.Bool.{Bool, false, cond, _&&_, _||_}
 use Prim.Native.Nat.{ℕ, _+_, _-_, _/_, _%_}
 use lib.IntN.{pos}
@@ -72,3 +72,11 @@ noted t periods control =
 unfoldable pub advancedOf : Timer → Float → ℕ → ℕ → ℕ → Timer
 advancedOf t now clock control reload =
     cond (has control 0x2000) (noted t (elapsedOf (t .start) now (rateOf clock control) / periodOf reload) control) t
+
+-- timers_resync: the periods that have passed, without an interrupt for any
+unfoldable pub resyncedOf : Timer → Float → ℕ → ℕ → ℕ → Timer
+resyncedOf t now clock control reload = record {
+  start = t .start;
+  seen = cond (has control 0x2000) (elapsedOf (t .start) now (rateOf clock control) / periodOf reload) 0;
+  pending = t .pending;
+}

@@ -1,7 +1,7 @@
 // A timer by value. Its registers belong to the bus, which hands in the words that a function reads.
 ghost use mathlib.Core.Path.{_≡_};
 ghost use Rattle.timer.specs.Timers.{freshTimer, periodOf, sysclkOf, rateOf, elapsedOf, counterOf, controlOf};
-ghost use Rattle.timer.specs.Timers.{clearedOf, writtenOf, advancedOf};
+ghost use Rattle.timer.specs.Timers.{clearedOf, writtenOf, advancedOf, resyncedOf};
 
 pub mod events;
 pub mod sound;
@@ -204,5 +204,24 @@ pub fn advance(t: Timer, now: f64, clock: u32, control: u32, reload: u32) -> Tim
         start: t.start,
         seen: periods,
         pending: t.pending | (control & 0x4000 != 0),
+    }
+}
+
+// The periods seen, counted anew: `timers_resync` of one timer.
+pub fn resync(t: Timer, now: f64, clock: u32, control: u32, reload: u32) -> Timer
+    ensures { λ r. ⌜ r ≡ resyncedOf t now clock control reload ⌝ }
+{
+    if control & 0x2000 == 0 {
+        return Timer {
+            start: t.start,
+            seen: 0,
+            pending: t.pending,
+        };
+    }
+    let periods = elapsed(t.start, now, rate(clock, control)) / period(reload);
+    Timer {
+        start: t.start,
+        seen: periods,
+        pending: t.pending,
     }
 }

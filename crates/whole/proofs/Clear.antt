@@ -6,9 +6,10 @@ use Prim.Native.Nat.{ℕ, _*_, _≤_}
 use native.Mathlib.Nat.{le-of-eq, le-of-lt}
 use lib.IntN.{ℤ}
 use lib.Dec.{T, ltb, eqb, ltb→lt, eqb→eq}
-use lib.Ieee.{Float, nan, inf, fin, up, down, le}
+use lib.Ieee.{Float, nan, inf, fin, up, down, lt, eq, le}
 use lib.Ieee.Fits.{and-l}
 use Rattle.whole.specs.Bounds.{Clear, AtMost, AtLeast}
+use Rattle.whole.specs.Limits.{finite}
 
 pub any : (P : Float → Type 0) → ((m : ℕ) (e : ℤ) → P (fin false m e)) → (x : Float) → Clear x → P x
 any P h nan c = absurd c
@@ -31,6 +32,25 @@ at-least-clear nan n p = p
 at-least-clear (inf s) n p = p
 at-least-clear (fin true m e) n p = p
 at-least-clear (fin false m e) n p = tt
+
+-- ---- finite
+
+pub at-most-finite : (x : Float) (n : ℕ) → AtMost x n → T (finite x)
+at-most-finite nan n p = p
+at-most-finite (inf s) n p = p
+at-most-finite (fin true m e) n p = tt
+at-most-finite (fin false m e) n p = tt
+
+-- what lies between two finite floats is finite
+pub between-finite : (x : Float) (s : Bool) (m : ℕ) (e : ℤ) (t : Bool) (n : ℕ) (d : ℤ) → T (le (fin s m e) x)
+    → T (le x (fin t n d)) → T (finite x)
+unfolding le lt eq
+between-finite nan s m e t n d p q = p
+between-finite (inf true) s m e t n d p q = p
+between-finite (inf false) s m e t n d p q = q
+between-finite (fin u k c) s m e t n d p q = tt
+
+-- ---- order
 
 or-split : (a b : Bool) → T (a || b) → T a ⊎ T b
 or-split true b t = inl tt

@@ -13,7 +13,7 @@ use lib.Ieee.Bits.{nanBits-is}
 use lib.Ieee.Fits.{down-pos}
 use lib.Ieee.Exact.{HasValue}
 use borrow.Author.Tests.{le-leb, lt-leb}
-use Rattle.whole.specs.Limits.{upTo, downTo, goodTime, goodTurbo}
+use Rattle.whole.specs.Limits.{upTo, downTo, goodTime, goodGame, goodTurbo}
 use Rattle.whole.proofs.Choice.{both, lt-or-ge}
 use Rattle.whole.proofs.Bits.{value, val, val-le, val-lt, signed-any, top-any, ge-of-not-lt}
 
@@ -80,6 +80,10 @@ down-to-bits n k b N h v =
 -- 0x4140_0000_0000_0000 is the pattern of 2,097,152.0
 pub time-bits : (b : ℕ) → leb b 0x4140_0000_0000_0000 ≡ goodTime (ofBits binary64 b)
 time-bits b = up-to-bits 2097152 0x4140_0000_0000_0000 b (lit< tt) refl
+
+-- 0x41E0_0000_0000_0000 is the pattern of 2,147,483,648.0
+pub game-bits : (b : ℕ) → leb b 0x41E0_0000_0000_0000 ≡ goodGame (ofBits binary64 b)
+game-bits b = up-to-bits 2147483648 0x41E0_0000_0000_0000 b (lit< tt) refl
 
 -- 0x3F50_0000_0000_0000 is the pattern of 1 / 1024, and 0x4090_0000_0000_0000 that of 1024.0
 pub turbo-bits : (b : ℕ) → (leb 0x3F50_0000_0000_0000 b && leb b 0x4090_0000_0000_0000) ≡ goodTurbo (ofBits binary64 b)

@@ -12,3 +12,5 @@ pub mod Unique
 pub mod Numbers
 pub mod Judged
 pub mod Tables
+pub mod Rows
+pub mod Finite

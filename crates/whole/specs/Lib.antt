@@ -6,3 +6,4 @@ pub mod Words
 pub mod Table
 pub mod Edges
 pub mod Forms
+pub mod Rows

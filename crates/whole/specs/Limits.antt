@@ -8,6 +8,12 @@ use Rattle.map.specs.Numbers.{DONE, BAD-TIME, BAD-TURBO}
 use Rattle.whole.specs.declared.Checked.{Checked}
 use Rattle.whole.specs.declared.Checked.the-variants.{Good, Bad}
 
+-- no infinity, and a number
+abbrev pub finite : Float → Bool
+finite nan = false
+finite (inf s) = false
+finite (fin s m e) = true
+
 -- finite, the sign bit clear, and at most n
 abbrev pub upTo : ℕ → Float → Bool
 upTo n nan = false
@@ -24,6 +30,10 @@ downTo n (fin false m e) = leb (down e) (m * up e * n)
 
 abbrev pub goodTime : Float → Bool
 goodTime x = upTo 2097152 x
+
+-- game time, which turbo may carry past the limit of now
+abbrev pub goodGame : Float → Bool
+goodGame x = upTo 2147483648 x
 
 abbrev pub goodTurbo : Float → Bool
 goodTurbo x = downTo 1024 x && upTo 1024 x

@@ -66,6 +66,9 @@ extern "C" {
     fn tg18_alarm_ticks(unit: *const Unit, ticks: *mut i64) -> u32;
     fn tg18_continue_script(unit: *mut Unit, memories: *const Pointers, script: *const u8, script_len: usize,
                             out: *mut u8, out_len: usize) -> u32;
+    fn tg18_save(unit: *const Unit, memories: *const Pointers, out: *mut u8, out_len: usize,
+                 written: *mut u64) -> u32;
+    fn tg18_resume(unit: *mut Unit, memories: *const Pointers, saved: *const u8, saved_len: usize) -> u32;
     fn tg18_run_script(ram: *mut u8, ram_len: usize, sram: *mut u8, sram_len: usize, gpio: *mut u8, gpio_len: usize,
                        framebuffer: *mut u8, framebuffer_len: usize, script: *const u8, script_len: usize,
                        out: *mut u8, out_len: usize) -> u32;
@@ -270,6 +273,19 @@ pub fn continue_script(unit: &mut Unit, memories: &mut Slices, script: &[u8], ou
     let (script_at, out_at) = (script.as_ptr(), out.as_mut_ptr());
     // SAFETY: the rule; script and out are slices of these lengths, and it only looks at the script.
     unsafe { tg18_continue_script(unit, &memories.at, script_at, script.len(), out_at, out.len()) }
+}
+
+pub fn save(unit: &Unit, memories: &Slices, out: &mut [u8]) -> (u32, u64) {
+    let mut written = 0;
+    // SAFETY: the rule; it only looks at unit and memories, there are as many bytes as is said, and the count is a
+    // local.
+    let number = unsafe { tg18_save(unit, &memories.at, out.as_mut_ptr(), out.len(), &mut written) };
+    (number, written)
+}
+
+pub fn resume(unit: &mut Unit, memories: &mut Slices, saved: &[u8]) -> u32 {
+    // SAFETY: the rule; there are as many bytes as is said, and it only looks at them.
+    unsafe { tg18_resume(unit, &memories.at, saved.as_ptr(), saved.len()) }
 }
 
 #[rustfmt::skip]

@@ -52,4 +52,4 @@ pub use scripts::{
     out_bytes, run_script, script_bytes, scrubbed, ANSWER_BYTES, MOST_PRESSES, MOST_STEPS, PRESS_BYTES,
     SCRUBBED_BYTES, STEP_BYTES,
 };
-pub use unit::{Counters, Event, Key, Unit, UNIT_BYTES};
+pub use unit::{Counters, Event, Key, Unit, SAVE_MOST, UNIT_BYTES};

@@ -43,13 +43,17 @@ pub enum Refusal {
     NoEvent = 12,
     /// The next event's time is not finite.
     NoNextTime = 13,
+    /// Bytes are no saved session; docs/SESSIONS.md says when.
+    BadSave = 14,
+    /// There is too little room for the session.
+    SaveTooShort = 15,
     /// There was no memory for a stack, and nothing was run. Only [`scrubbed`](crate::scrubbed) answers this.
     NoStack = 256,
 }
 
 impl Refusal {
     /// Every refusal, by rising numbers.
-    pub const ALL: [Refusal; 14] = [
+    pub const ALL: [Refusal; 16] = [
         Refusal::BadTime,
         Refusal::BadTurbo,
         Refusal::KeysFull,
@@ -63,6 +67,8 @@ impl Refusal {
         Refusal::OutTooShort,
         Refusal::NoEvent,
         Refusal::NoNextTime,
+        Refusal::BadSave,
+        Refusal::SaveTooShort,
         Refusal::NoStack,
     ];
 
@@ -117,6 +123,8 @@ impl Refusal {
             Refusal::OutTooShort => "too little room for the answers",
             Refusal::NoEvent => "no sound event waits",
             Refusal::NoNextTime => "the next event's time is not finite",
+            Refusal::BadSave => "not a saved session",
+            Refusal::SaveTooShort => "too little room for the session",
             Refusal::NoStack => "no memory for a stack",
         }
     }
@@ -137,8 +145,8 @@ impl Error for Refusal {}
 /// use tg18::{NoRefusal, Refusal};
 ///
 /// assert_eq!(Refusal::try_from(7), Ok(Refusal::BadMemory));
-/// assert_eq!(Refusal::try_from(14), Err(NoRefusal(14)));
-/// assert_eq!(NoRefusal(14).to_string(), "14 is the number of no refusal");
+/// assert_eq!(Refusal::try_from(16), Err(NoRefusal(16)));
+/// assert_eq!(NoRefusal(16).to_string(), "16 is the number of no refusal");
 /// ```
 #[derive(Clone, Copy, Debug, PartialEq, Eq, Hash)]
 pub struct NoRefusal(

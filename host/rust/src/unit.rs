@@ -11,6 +11,9 @@ pub const UNIT_BYTES: usize = 8 * WORDS;
 
 const WORDS: usize = 1_265;
 
+/// Bytes that a saved session has at most.
+pub const SAVE_MOST: usize = 17_872_533;
+
 /// All state of a unit beside its memories: plain data without pointers, of [`UNIT_BYTES`].
 ///
 /// It is `Send` and not `Sync`: two calls with one unit must not run at once. A clone is a unit of its own; with a
@@ -464,6 +467,43 @@ impl Unit {
     /// ```
     pub fn continue_script(&mut self, memories: &mut Memories, script: &[u8], out: &mut [u8]) -> Result<(), Refusal> {
         Refusal::answered(ffi::continue_script(self, memories.slices_mut(), script, out))
+    }
+}
+
+/// Sessions.
+impl Unit {
+    /// Saves the session, unit and memories, and says how many bytes of `out` it took; what is behind them stays.
+    /// [`SAVE_MOST`] are always enough, and [`Refusal::SaveTooShort`] says that there were too few.
+    /// docs/SESSIONS.md has the layout.
+    ///
+    /// ```
+    /// use tg18::{Memories, Unit, SAVE_MOST};
+    ///
+    /// let (mut unit, mut memories) = (Unit::fresh(), Memories::new());
+    /// unit.advance(&mut memories, 3.0)?;
+    /// let mut saved = vec![0; SAVE_MOST];
+    /// let bytes = unit.save(&memories, &mut saved)?;
+    /// unit.wipe(&mut memories)?;
+    /// unit.resume(&mut memories, &saved[..bytes])?;
+    /// assert_eq!(unit.tod(), 3);
+    /// # Ok::<(), tg18::Refusal>(())
+    /// ```
+    pub fn save(&self, memories: &Memories, out: &mut [u8]) -> Result<usize, Refusal> {
+        let (number, written) = ffi::save(self, memories.slices(), out);
+        Refusal::answered(number).map(|()| written as usize)
+    }
+
+    /// Resumes a session: unit and memories are then as they were saved, whatever they held. Bytes that are no saved
+    /// session are refused.
+    ///
+    /// ```
+    /// use tg18::{Memories, Refusal, Unit};
+    ///
+    /// let (mut unit, mut memories) = (Unit::fresh(), Memories::new());
+    /// assert_eq!(unit.resume(&mut memories, b"no session"), Err(Refusal::BadSave));
+    /// ```
+    pub fn resume(&mut self, memories: &mut Memories, saved: &[u8]) -> Result<(), Refusal> {
+        Refusal::answered(ffi::resume(self, memories.slices_mut(), saved))
     }
 }
 

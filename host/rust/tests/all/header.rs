@@ -38,7 +38,7 @@ fn refusals_have_the_headers_names_and_numbers() {
 
 #[test]
 fn no_other_number_is_a_refusals() {
-    let known = |n: u32| (1..=13).contains(&n) || n == 256;
+    let known = |n: u32| (1..=15).contains(&n) || n == 256;
     for n in 0..1000 {
         assert_eq!(Refusal::from_number(n).is_some(), known(n), "{n}");
     }
@@ -69,6 +69,7 @@ fn sizes_are_the_headers() {
         ("PRESS_BYTES", tg18::PRESS_BYTES),
         ("STEP_BYTES", tg18::STEP_BYTES),
         ("ANSWER_BYTES", tg18::ANSWER_BYTES),
+        ("SAVE_MOST", tg18::SAVE_MOST),
         ("SCRUBBED_BYTES", tg18::SCRUBBED_BYTES),
     ];
     for (name, size) in sizes {

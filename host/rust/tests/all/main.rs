@@ -7,5 +7,6 @@ mod plain;
 mod refusals;
 mod scripts;
 mod scrubbed;
+mod session;
 mod threads;
 mod wipe;

@@ -109,8 +109,16 @@ fn strays_keys_and_sizes() {
     }
 }
 
+fn expected(done: Result<(), Refusal>, refusal: Refusal) -> Result<(), Refusal> {
+    if done == Err(refusal) {
+        Ok(())
+    } else {
+        done
+    }
+}
+
 /// Every call that is lent memories.
-fn with_memories(unit: &mut Unit, memories: &mut Memories) -> [Result<(), Refusal>; 11] {
+fn with_memories(unit: &mut Unit, memories: &mut Memories) -> [Result<(), Refusal>; 13] {
     let mut bytes = vec![0xA5; tg18::SCREEN_BYTES];
     let (empty, mut out) = (script(&[], &[]), [0xA5; 4]);
     let done = [
@@ -125,6 +133,9 @@ fn with_memories(unit: &mut Unit, memories: &mut Memories) -> [Result<(), Refusa
         unit.read_block(memories, 0x2000_0000, &mut bytes).map(drop),
         unit.poke(memories, 0x2000_0000, b"abc"),
         unit.continue_script(memories, &empty, &mut out),
+        // No room and no session, where that is not refused for the memories.
+        expected(unit.save(memories, &mut out).map(drop), Refusal::SaveTooShort),
+        expected(unit.resume(memories, &empty), Refusal::BadSave),
     ];
     if done.contains(&Err(Refusal::BadMemory)) {
         assert!(bytes.iter().chain(&out).all(|&byte| byte == 0xA5));
@@ -142,7 +153,7 @@ fn memories_of_wrong_lengths() {
             let [mut ram, mut sram, mut gpio, mut framebuffer] = lengths.map(|length| vec![0x5A; length]);
             let mut memories = Memories::lent(&mut ram, &mut sram, &mut gpio, &mut framebuffer);
             let (mut unit, before) = (Unit::fresh(), memories.clone());
-            assert_eq!(with_memories(&mut unit, &mut memories), [Err(Refusal::BadMemory); 11]);
+            assert_eq!(with_memories(&mut unit, &mut memories), [Err(Refusal::BadMemory); 13]);
             let (empty, mut out) = (script(&[], &[]), [0; 4]);
             assert_eq!(tg18::run_script(&mut memories, &empty, &mut out), Err(Refusal::BadMemory));
             assert_eq!(unit.bytes(), Unit::fresh().bytes());
@@ -156,7 +167,7 @@ fn lent_memories_are_the_hosts() {
     let (mut ram, mut sram) = (vec![0; tg18::RAM_BYTES], vec![0; tg18::SRAM_BYTES]);
     let (mut gpio, mut framebuffer) = (vec![0; tg18::GPIO_BYTES], vec![0; tg18::FRAMEBUFFER_BYTES]);
     let mut memories = Memories::lent(&mut ram, &mut sram, &mut gpio, &mut framebuffer);
-    assert_eq!(with_memories(&mut Unit::fresh(), &mut memories), [Ok(()); 11]);
+    assert_eq!(with_memories(&mut Unit::fresh(), &mut memories), [Ok(()); 13]);
     drop(memories);
     assert_eq!(ram[..4], *b"abc\0");
 }

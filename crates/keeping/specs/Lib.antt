@@ -1,0 +1,3 @@
+-- What the theorems are stated with.
+pub mod Typed
+pub mod Holds

@@ -1,0 +1,1 @@
+// Theorems of saved sessions; no code.

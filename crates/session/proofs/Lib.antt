@@ -1,0 +1,9 @@
+pub mod Laid
+pub mod Copying
+pub mod Digits
+pub mod Stands
+pub mod Long
+pub mod Tables
+pub mod Cells
+pub mod Deciding
+pub mod Entire

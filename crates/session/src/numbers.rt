@@ -1,0 +1,78 @@
+// Numbers of up to eight bytes, the lowest first.
+ghost use mathlib.Core.Path.{_≡_};
+ghost use Prim.Native.Nat.{_+_, _≤_, _<_};
+ghost use lib.ListN.{length};
+ghost use Rattle.memory.specs.Bytes.{bytesOf};
+ghost use Rattle.whole.specs.Forms.{bitsOf};
+ghost use Rattle.session.specs.Fields.{number, span};
+ghost use Rattle.session.specs.Inner.{Laid};
+
+fn wide(b: u8) -> u64
+    ensures { λ r. ⌜ (r ≡ b) × (r < 256) ⌝ }
+{
+    b as u64
+}
+
+pub(crate) fn number(s: &[u8], at: usize, width: usize) -> u64
+    requires { ⌜ (at + width ≤ length (now s)) × (width ≤ 8) ⌝ }
+    ensures { λ r. ⌜ (r ≡ number (now (s .entry)) at width) × (r < span width) ⌝ }
+{
+    let mut value: u64 = 0;
+    let mut left = width;
+    while left > 0 {
+        left -= 1;
+        value = value * 256 + wide(s[at + left]);
+    }
+    value
+}
+
+pub(crate) fn byte(s: &[u8], at: usize) -> u8
+    requires { ⌜ at + 1 ≤ length (now s) ⌝ }
+    ensures { λ r. ⌜ r ≡ number (now (s .entry)) at 1 ⌝ }
+{
+    number(s, at, 1) as u8
+}
+
+pub(crate) fn four(s: &[u8], at: usize) -> u32
+    requires { ⌜ at + 4 ≤ length (now s) ⌝ }
+    ensures { λ r. ⌜ r ≡ number (now (s .entry)) at 4 ⌝ }
+{
+    number(s, at, 4) as u32
+}
+
+// A count of four bytes.
+pub(crate) fn count(s: &[u8], at: usize) -> usize
+    requires { ⌜ at + 4 ≤ length (now s) ⌝ }
+    ensures { λ r. ⌜ r ≡ number (now (s .entry)) at 4 ⌝ }
+{
+    number(s, at, 4) as usize
+}
+
+// The place behind it is answered, here and below.
+pub(crate) fn put(out: &mut [u8], at: usize, width: usize, value: u64) -> usize
+    requires { ⌜ at + width ≤ length (now out) ⌝ }
+    ensures { λ r. ⌜ Laid (now (out .entry)) (now (out .exit)) at r (bytesOf width value) ⌝ }
+{
+    let mut rest = value;
+    let mut i: usize = 0;
+    while i < width {
+        out[at + i] = (rest % 256) as u8;
+        rest = rest / 256;
+        i += 1;
+    }
+    at + width
+}
+
+pub(crate) fn put_four(out: &mut [u8], at: usize, value: u32) -> usize
+    requires { ⌜ at + 4 ≤ length (now out) ⌝ }
+    ensures { λ r. ⌜ Laid (now (out .entry)) (now (out .exit)) at r (bytesOf 4 value) ⌝ }
+{
+    put(out, at, 4, value as u64)
+}
+
+pub(crate) fn put_float(out: &mut [u8], at: usize, value: f64) -> usize
+    requires { ⌜ at + 8 ≤ length (now out) ⌝ }
+    ensures { λ r. ⌜ Laid (now (out .entry)) (now (out .exit)) at r (bytesOf 8 (bitsOf value)) ⌝ }
+{
+    put(out, at, 8, whole::forms::bits_of(value))
+}

@@ -1,0 +1,204 @@
+// Runs of the bank's words: cells, each of its width, and floats.
+ghost use mathlib.Core.Path.{_≡_};
+ghost use Prim.Native.Nat.{_+_, _*_, _≤_, _<_};
+ghost use lib.Dec.{leb};
+ghost use lib.ListN.{length};
+ghost use Rattle.session.specs.Layout.{widthAt, mostAt, cellsLong};
+ghost use Rattle.session.specs.Sections.{cellBytes, floatBytes};
+ghost use Rattle.session.specs.Read.{cellsRead, floatsRead};
+ghost use Rattle.session.specs.Good.{inRanges};
+ghost use Rattle.session.specs.Inner.{Laid};
+use crate::numbers::number;
+use crate::numbers::put;
+use crate::numbers::put_float;
+use state::Cells;
+use state::Floats;
+
+// 0 where a cell is not saved: the flash's mode, the timers' counts, the ring and the number of presses.
+const WIDTHS: [u8; 51] = [
+    0,
+    1,
+    1,
+    8,
+    1,
+    1,
+    1,
+    1,
+    1,
+    4,
+    1,
+    4,
+    1,
+    1,
+    1,
+    1,
+    1,
+    4,
+    4,
+    4,
+    4,
+    4,
+    4,
+    4,
+    8,
+    0,
+    0,
+    0,
+    0,
+    0,
+    0,
+    1,
+    1,
+    1,
+    1,
+    1,
+    1,
+    8,
+    4,
+    8,
+    1,
+    8,
+    4,
+    1,
+    0,
+    0,
+    0,
+    1,
+    1,
+    1,
+    1,
+];
+
+// The greatest number that a cell may hold.
+const MOSTS: [u64; 51] = [
+    0,
+    1,
+    1,
+    0xFFFF_FFFF_FFFF_FFFF,
+    255,
+    255,
+    255,
+    255,
+    255,
+    0xFFFF_FFFF,
+    1,
+    256,
+    255,
+    255,
+    255,
+    255,
+    4,
+    65535,
+    65535,
+    65535,
+    65535,
+    65535,
+    65535,
+    256,
+    0xFFFF_FFFF_FFFF_FFFF,
+    0,
+    0,
+    0,
+    0,
+    0,
+    0,
+    1,
+    1,
+    1,
+    1,
+    1,
+    1,
+    0xFFFF_FFFF_FFFF_FFFF,
+    86399,
+    0xFFFF_FFFF_FFFF_FFFF,
+    1,
+    0xFFFF_FFFF_FFFF,
+    255,
+    1,
+    0,
+    0,
+    0,
+    1,
+    1,
+    1,
+    255,
+];
+
+fn width(i: usize) -> usize
+    requires { ⌜ i < 51 ⌝ }
+    ensures { λ r. ⌜ (r ≡ widthAt i) × (r ≤ 8) ⌝ }
+{
+    WIDTHS[i] as usize
+}
+
+fn in_range(value: u64, i: usize) -> bool
+    requires { ⌜ i < 51 ⌝ }
+    ensures { λ r. ⌜ r ≡ leb value (mostAt i) ⌝ }
+{
+    value <= MOSTS[i]
+}
+
+pub(crate) fn lay_cells(out: &mut [u8], at: usize, cells: &Cells, from: usize, n: usize) -> usize
+    requires { ⌜ (at + length (cellBytes (now cells) from n) ≤ length (now out)) × (from + n ≤ 51) ⌝ }
+    ensures { λ r. ⌜ Laid (now (out .entry)) (now (out .exit)) at r (cellBytes (now (cells .entry)) from n) ⌝ }
+{
+    let mut next = at;
+    let mut i: usize = 0;
+    while i < n {
+        next = put(out, next, width(from + i), cells[from + i]);
+        i += 1;
+    }
+    next
+}
+
+pub(crate) fn lay_floats(out: &mut [u8], at: usize, floats: &Floats, from: usize, n: usize) -> usize
+    requires { ⌜ (at + length (floatBytes (now floats) from n) ≤ length (now out)) × (from + n ≤ 16) ⌝ }
+    ensures { λ r. ⌜ Laid (now (out .entry)) (now (out .exit)) at r (floatBytes (now (floats .entry)) from n) ⌝ }
+{
+    let mut next = at;
+    let mut i: usize = 0;
+    while i < n {
+        next = put_float(out, next, floats[from + i]);
+        i += 1;
+    }
+    next
+}
+
+pub(crate) fn read_cells(s: &[u8], at: usize, cells: &mut Cells, from: usize, n: usize)
+    requires { ⌜ (at + cellsLong from n ≤ length (now s)) × (from + n ≤ 51) ⌝ }
+    ensures { λ _. ⌜ now (cells .exit) ≡ cellsRead (now (s .entry)) at (now (cells .entry)) from n ⌝ }
+{
+    let mut next = at;
+    let mut i: usize = 0;
+    while i < n {
+        let w = width(from + i);
+        cells[from + i] = number(s, next, w);
+        next += w;
+        i += 1;
+    }
+}
+
+pub(crate) fn read_floats(s: &[u8], at: usize, floats: &mut Floats, from: usize, n: usize)
+    requires { ⌜ (at + 8 * n ≤ length (now s)) × (from + n ≤ 16) ⌝ }
+    ensures { λ _. ⌜ now (floats .exit) ≡ floatsRead (now (s .entry)) at (now (floats .entry)) from n ⌝ }
+{
+    let mut next = at;
+    let mut i: usize = 0;
+    while i < n {
+        floats[from + i] = whole::limits::float_of(number(s, next, 8));
+        next += 8;
+        i += 1;
+    }
+}
+
+pub(crate) fn in_ranges(cells: &Cells) -> bool
+    ensures { λ r. ⌜ r ≡ inRanges (now (cells .entry)) ⌝ }
+{
+    let mut good = true;
+    let mut i: usize = 0;
+    while i < 51 {
+        good = in_range(cells[i], i) & good;
+        i += 1;
+    }
+    good
+}
