@@ -1,6 +1,6 @@
 // The live entries of tg18.h: C that takes structs apart. Each calls one proved function of the archive (crates/live,
-// chain and session), which has the same name but for `lent`: arrays go as pointers, slices as pointer and length, in
-// the order of its parameters. Nothing here reads or writes a byte of the unit or of a memory.
+// chain, saving and resuming), which has the same name but for `lent`: arrays go as pointers, slices as pointer and
+// length, in the order of its parameters. Nothing here reads or writes a byte of the unit or of a memory.
 #include "tg18.h"
 
 _Static_assert(sizeof(struct tg18_unit) == 10120, "a unit has no padding");

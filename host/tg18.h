@@ -178,7 +178,8 @@ uint32_t tg18_read(struct tg18_unit *unit, const struct tg18_memories *memories,
 uint32_t tg18_write(struct tg18_unit *unit, const struct tg18_memories *memories, uint32_t address, uint32_t size,
                     uint32_t value);
 
-/* Time in seconds since the unit was fresh. 0, 7 or 1. */
+/* Time in seconds since the unit was fresh; after tg18_resume the session's time goes on, which may be an earlier one
+ * than the unit had. 0, 7 or 1. */
 uint32_t tg18_advance(struct tg18_unit *unit, const struct tg18_memories *memories, double now);
 
 /* When something can happen next. 0, 7 or 13. */
@@ -235,15 +236,16 @@ uint32_t tg18_alarm_ticks(const struct tg18_unit *unit, int64_t *ticks);
 uint32_t tg18_continue_script(struct tg18_unit *unit, const struct tg18_memories *memories, const uint8_t *script,
                               size_t script_len, uint8_t *out, size_t out_len);
 
-/* Saves the session: all of the unit but how many periods each timer has seen, and the four memories, as bytes by the
- * layout of docs/SESSIONS.md. `written` is how many. TG18_SAVE_MOST are always room enough, and what `out` has behind
- * them stays as it was. 0, 7 or 15. A unit of any bytes is saved, but one that no run has left may be refused as a
- * session.
+/* Saves the session: all of the unit but how many periods each timer has seen and presses that are over, and the four
+ * memories, as bytes by the layout of docs/SESSIONS.md. `written` is how many. TG18_SAVE_MOST are always room enough,
+ * and what `out` has behind the session stays as it was. 0, 7 or 15. A unit of any bytes is saved, but one that no run
+ * has left may be refused as a session.
  *
- * tg18_resume reads such bytes: unit and memories are then as they were saved, whatever they held. Only the timers'
- * periods are counted anew, as the Rust's timers_resync does, and entries of tables stand in their first places. So a
- * timer whose words or clock were changed since the last advance may raise its interrupt sooner or later than it would
- * have; all else goes on as it would have. Saving again gives the same bytes. 0, 7 or 14. */
+ * tg18_resume reads such bytes: unit and memories are then as they were saved, whatever they held and whatever time it
+ * was. Only the timers' periods are counted anew, as the Rust's timers_resync does, and entries of tables stand in
+ * their first places. So a timer whose control or reload word, or the clock's word in SRAM, was changed since the timer
+ * was started may raise its interrupt sooner or later than it would have, and tg18_next_event says so; all else goes
+ * on as it would have. Saving again gives the same bytes. 0, 7 or 14. */
 uint32_t tg18_save(const struct tg18_unit *unit, const struct tg18_memories *memories, uint8_t *out, size_t out_len,
                    uint64_t *written);
 uint32_t tg18_resume(struct tg18_unit *unit, const struct tg18_memories *memories, const uint8_t *saved,

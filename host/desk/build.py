@@ -24,29 +24,29 @@ HOST = ROOT / "host"
 BUILT = ROOT / "target" / "host"
 # What the crates export is proved and compiled crate by crate: in one piece the compiler would not copy the bus into
 # each (docs/DECISIONS.md, 128).
-CRATES = ["script", "live", "chain", "session"]
+CRATES = ["script", "live", "chain", "saving", "resuming"]
 ARCHIVE = ROOT / "target" / "staticlib" / "libtg18.a"
 SCRUBBED = ["scrubbed.c", "scrubbed_x86_64.S"]
 PORT = SCRUBBED + ["live.c", "scrubbed_session.c"]
 EXAMPLES = ["../examples/live.c", "../examples/live.cpp"]
 KEY = ["tests/key_case.c", "tests/key_ways.c", "tests/key_search.c", "tests/key_x86_64.S", "tests/scripts.c",
        "tests/lent.c"]
-SESSIONS = ["tests/sessions.c", "tests/live_steps.c", "tests/scripts.c", "tests/lent.c"]
+STEPS = ["tests/live_steps.c", "tests/scripts.c", "tests/lent.c"]
+SESSIONS = ["tests/sessions.c"] + STEPS
 PROGRAMS = {
     "runner": PORT + ["runner.c"],
     # A stand-in has the port's name here, so nothing may ask for the archive, and live.c does.
     "scrub": SCRUBBED + ["tests/scrub.c", "tests/stand_in_x86_64.S", "tests/key_x86_64.S"],
-    "depth": PORT + ["tests/depth.c", "tests/live_steps.c", "tests/scripts.c", "tests/lent.c"],
+    "depth": PORT + ["tests/depth.c"] + STEPS,
     "guard": PORT + ["tests/guard.c", "tests/guard_edges.c", "tests/guard_wrong.c", "tests/guard_scrubbed.c",
-                     "tests/guard_live.c", "tests/guard_live_tests.c", "tests/live_steps.c", "tests/scripts.c",
-                     "tests/lent.c"],
-    "replay": PORT + ["tests/replay.c", "tests/live_steps.c", "tests/scripts.c", "tests/lent.c"],
-    "replay_session": PORT + ["tests/replay_session.c", "tests/live_steps.c", "tests/scripts.c", "tests/lent.c"],
-    "live_alike": PORT + ["tests/live_alike.c", "tests/live_steps.c", "tests/scripts.c", "tests/lent.c"],
-    "live_wipe": PORT + ["tests/live_wipe.c", "tests/live_steps.c", "tests/scripts.c", "tests/lent.c"],
-    "live_looks": PORT + ["tests/live_looks.c", "tests/live_steps.c", "tests/scripts.c", "tests/lent.c"],
-    "live_long": PORT + ["tests/live_long.c", "tests/live_steps.c", "tests/scripts.c", "tests/lent.c"],
-    "live_threads": PORT + ["tests/live_threads.c", "tests/live_steps.c", "tests/scripts.c", "tests/lent.c"],
+                     "tests/guard_live.c", "tests/guard_live_tests.c"] + STEPS,
+    "replay": PORT + ["tests/replay.c", "tests/list.c"] + STEPS,
+    "replay_session": PORT + ["tests/replay_session.c", "tests/list.c"] + STEPS,
+    "live_alike": PORT + ["tests/live_alike.c"] + STEPS,
+    "live_wipe": PORT + ["tests/live_wipe.c"] + STEPS,
+    "live_looks": PORT + ["tests/live_looks.c"] + STEPS,
+    "live_long": PORT + ["tests/live_long.c"] + STEPS,
+    "live_threads": PORT + ["tests/live_threads.c"] + STEPS,
     "session": PORT + ["tests/session.c"] + SESSIONS,
     "session_damaged": PORT + ["tests/session_damaged.c"] + SESSIONS,
     "session_key": PORT + ["tests/session_key.c", "tests/live_steps.c"] + KEY,
@@ -159,7 +159,7 @@ def make_archive(kit: Kit) -> None:
 
 
 def archive(kit: Kit) -> Made:
-    """rt proves the four crates anew each time, which takes two minutes; so it is asked only when something has
+    """rt proves the five crates anew each time, which takes some minutes; so it is asked only when something has
     changed."""
     return Made(ARCHIVE, digest_of(kit, [Path(__file__), ROOT / "crates.txt", *sorted((ROOT / "crates").rglob("*"))]))
 

@@ -113,7 +113,7 @@ def flash_lines(r: Reader) -> List[str]:
     selected, enabled, writes, _, command, _, _, _, come, is_long, *_ = r.take("BBQBBBBBIB256B")
     name = COMMANDS.get(command, "no known command")
     last = f"command 0x{command:02x}, {name}" if come else "no byte has come"
-    place = f"place {come}{', gone round' if is_long else ''}"
+    place = f"place {come}{', more than 260 bytes have come' if is_long else ''}"
     chosen, enable = "selected" if selected else "not selected", "on" if enabled else "off"
     return [f"flash {chosen}, write enable {enable}, writes {writes}",
             f"  {last}; {place}; later bytes, page and answer are not shown"]

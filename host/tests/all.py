@@ -13,10 +13,8 @@ from desk import build
 from desk.trouble import Trouble
 
 PROGRAMS = ["scrub", "depth", "key", "guard", "replay", "live_alike", "live_looks", "live_wipe", "live_threads",
-            "live_key", "session", "session_damaged", "session_key"]
-GIVEN = {"replay": Path(__file__).with_name("replay.list")}
-PROGRAMS.append("replay_session")
-GIVEN["replay_session"] = Path(__file__).with_name("replay_session.list")
+            "live_key", "session", "session_damaged", "session_key", "replay_session"]
+GIVEN = {name: Path(__file__).with_name(f"{name}.list") for name in ("replay", "replay_session")}
 # What looks at the process itself: it needs x86-64, as the kit's emulator breaks off where a program opens
 # /proc/self/maps.
 NOT_EMULATED = ["key", "live_key", "session_key"]

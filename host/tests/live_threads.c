@@ -8,10 +8,10 @@
 #include <stdlib.h>
 #include <string.h>
 
-enum { THREADS = 8, SCRIPTS = 150, STEPS = 60, SCRIPT_ROOM = 16384, OUT_ROOM = 4096 };
+enum { THREADS = 8, SCRIPTS = 150, SESSIONS = 10, STEPS = 60, SCRIPT_ROOM = 16384, OUT_ROOM = 4096 };
 
 struct play {
-    struct lent state, out, script, rgb;
+    struct lent state, out, script, rgb, session;
     struct unit unit;
     struct tg18_memories memories;
     uint64_t seed;
@@ -28,6 +28,7 @@ static void play_made(struct play *play, uint64_t seed) {
     play->out = lend(OUT_ROOM * SCRIPTS, AFTER_GUARD);
     play->script = lend(SCRIPT_ROOM, AFTER_GUARD);
     play->rgb = lend(TG18_SCREEN_BYTES, AFTER_GUARD);
+    play->session = lend(TG18_SAVE_MOST, AFTER_GUARD);
     play->unit = unit_made();
     play->memories = memories_of(&play->unit);
     play->seed = seed;
@@ -42,6 +43,14 @@ static void continued(void *argument) {
     struct tg18_unit *state = (struct tg18_unit *)play->state.at;
     uint32_t refusal = tg18_continue_script(state, &play->memories, play->script.at, bytes, play->answers, OUT_ROOM);
     play->refused += refusal != TG18_DONE;
+}
+
+// Saved, and resumed where it stands.
+static void carried_on(struct play *play) {
+    struct tg18_unit *state = (struct tg18_unit *)play->state.at;
+    uint64_t written = 0;
+    play->refused += tg18_save(state, &play->memories, play->session.at, play->session.bytes, &written) != TG18_DONE;
+    play->refused += tg18_resume(state, &play->memories, play->session.at, (size_t)written) != TG18_DONE;
 }
 
 // A third of the scripts by live calls, a third by tg18_continue_script, a third by that and scrubbed.
@@ -59,6 +68,9 @@ static void played(struct play *play) {
             continued(play);
         } else {
             play->refused += tg18_scrubbed(continued, play) != TG18_DONE;
+        }
+        if (i % (SCRIPTS / SESSIONS) == 0) {
+            carried_on(play);
         }
     }
 }
@@ -111,8 +123,8 @@ int main(void) {
         }
     }
     if (good) {
-        printf("ok live: %d units in as many threads, %d scripts each, leave what each leaves alone\n", THREADS,
-               SCRIPTS);
+        printf("ok live: %d units in as many threads, %d scripts and %d sessions each, leave what each leaves alone\n",
+               THREADS, SCRIPTS, SESSIONS);
     }
     return !good;
 }

@@ -8,17 +8,15 @@
 // OUT is the length of the slice for the answers, whose byte i is 37 * i before, and ANSWERS its digest afterwards.
 // SIZE is that of the session and HEAD the digest of what comes before its memories; both are 0 after the last script.
 #include "lent.h"
+#include "list.h"
 #include "live_steps.h"
 #include "tg18.h"
 #include <stdio.h>
-#include <stdlib.h>
 #include <string.h>
-#include <unistd.h>
 
-enum { LIST_ROOM = 1 << 20, MEMORY_SECTIONS = 17862672 };
-static char list[LIST_ROOM];
+enum { MEMORY_SECTIONS = 17862672 };
 static const char *family;
-static uint32_t line_number, scripts_run, steps_run, sessions;
+static uint32_t scripts_run, steps_run, sessions;
 
 // A unit, and its memories.
 struct side {
@@ -34,64 +32,6 @@ struct script {
 
 // ---- reading
 
-static __attribute__((noreturn)) void unreadable(const char *what) {
-    printf("FAILED replay_session: line %u: %s cannot be read\n", line_number, what);
-    exit(1);
-}
-
-static void list_read(void) {
-    size_t have = 0;
-    ssize_t got = 1;
-    while (got > 0 && have < sizeof list - 1) {
-        got = read(0, list + have, sizeof list - 1 - have);
-        have += got > 0 ? (size_t)got : 0;
-    }
-    if (got != 0 || have == 0 || list[have - 1] != '\n' || strlen(list) != have) {
-        printf("FAILED replay_session: the list is empty, too long, without its end or no text\n");
-        exit(1);
-    }
-}
-
-// What stands before the next space or the end, and goes on behind it.
-static char *word(char **at) {
-    char *begin = *at, *end = strchr(begin, ' ');
-    if (*begin == 0 || end == begin) {
-        unreadable("a word");
-    }
-    *at = end == NULL ? begin + strlen(begin) : end + 1;
-    if (end != NULL) {
-        *end = 0;
-    }
-    return begin;
-}
-
-static uint64_t number(char **at, int base) {
-    char *end, *digits = word(at);
-    uint64_t read = strtoul(digits, &end, base);
-    if (*end != 0) {
-        unreadable("a number");
-    }
-    return read;
-}
-
-static uint8_t digit(char from) {
-    static const char digits[] = "0123456789abcdef";
-    const char *at = strchr(digits, from);
-    if (from == 0 || at == NULL) {
-        unreadable("the script");
-    }
-    return (uint8_t)(at - digits);
-}
-
-static struct lent bytes_of(const char *text) {
-    size_t bytes = strcmp(text, "-") == 0 ? 0 : (strlen(text) + 1) / 2;
-    struct lent script = lend(bytes, BEFORE_GUARD);
-    for (size_t i = 0; i < bytes; i++) {
-        script.at[i] = (uint8_t)(digit(text[2 * i]) << 4 | digit(text[2 * i + 1]));
-    }
-    return script;
-}
-
 // The next script of the line, and what the Rust device made of it.
 static struct script script_of(char **text) {
     struct script script;
@@ -100,7 +40,7 @@ static struct script script_of(char **text) {
     script.answers = number(text, 16);
     script.size = number(text, 10);
     script.head = number(text, 16);
-    script.bytes = bytes_of(word(text));
+    script.bytes = hex_bytes(text);
     for (size_t i = 0; i < script.out.bytes; i++) {
         script.out.at[i] = (uint8_t)(37 * i);
     }
@@ -108,22 +48,6 @@ static struct script script_of(char **text) {
 }
 
 // ---- comparing
-
-// From 0 each byte makes it 31 times itself and the byte, modulo 2^64. Eight zeros at once, for most of a memory is
-// zero.
-static uint64_t digest(const uint8_t *at, size_t bytes) {
-    const uint64_t eight = 852891037441u; // 31 to the 8th
-    uint64_t h = 0;
-    for (size_t i = 0; i < bytes;) {
-        uint64_t next = 1;
-        if (bytes - i >= sizeof next) {
-            memcpy(&next, at + i, sizeof next);
-        }
-        h = next == 0 ? h * eight : h * 31 + at[i];
-        i += next == 0 ? sizeof next : 1;
-    }
-    return h;
-}
 
 static int same(const char *what, uint64_t here, uint64_t rust) {
     if (here != rust) {
@@ -224,13 +148,9 @@ static int replayed(char *text, struct side sides[2]) {
 int main(void) {
     struct side sides[2] = {side_made(), side_made()};
     int good = 1;
-    list_read();
-    for (char *text = list; *text != 0 && good;) {
-        char *end = strchr(text, '\n');
-        *end = 0;
-        line_number++;
+    list_read("replay_session");
+    for (char *text = next_line(); text != NULL && good; text = next_line()) {
         good = replayed(text, sides);
-        text = end + 1;
     }
     if (good) {
         printf("ok replay_session: lines: %u, scripts: %u, presses and steps in them: %u, sessions between them: %u; "

@@ -37,10 +37,8 @@ use Rattle.keeping.proofs.Runs.{cellRun, floatRun, cell-run, float-run}
 use Rattle.keeping.proofs.Placed.{Sized, Placed, session-long, joined, pressed, cells, floats, pending-long}
 use Rattle.keeping.proofs.Placed.{converting-long, off-long, drawing-long, ticks-long, latch-long, chip-long}
 use Rattle.keeping.proofs.Placed.{down-long}
-use Rattle.keeping.proofs.Facts.{other-apart, press-apart, event-apart, Body, Facts, facts}
-use Rattle.keeping.proofs.Bank.{pending-back, converting-back, off-back, panel-back, ticks-back, latch-back}
-use Rattle.keeping.proofs.Bank.{chip-back, keys-back, starts-back, times-back, moments-back, tone-back}
-use Rattle.keeping.proofs.Bank.{taps-back}
+use Rattle.session.proofs.Facts.{other-apart, press-apart, event-apart, Body, Facts, facts}
+use Rattle.keeping.proofs.Bank.{CellsBack, cells-back, FloatsBack, floats-back}
 use Rattle.keeping.proofs.Tables.{part-long, part-stands, used-back, slots-back, others-back, presses-many}
 use Rattle.keeping.proofs.Tables.{presses-back, held, events-back}
 
@@ -204,35 +202,40 @@ module _ (s : List ℕ) (bytes : Below 256 s) (a : Facts s) where
   events-stand =
       events-back s e (a .events) bytes (eventsAt n k + 4) (event-some s n k e b) (fits _ (omega arith))
 
+  run-cells : CellsBack s sram
+  run-cells = cells-back s sram (b .cells .ranges)
+
+  run-floats : FloatsBack s sram
+  run-floats = floats-back s sram
+
   read-placed : Placed s (machineIn s) n k e
   unfolding machineIn
   read-placed = record {
     timer-count = count-stands 0 6 (b .counts .timers) (fits _ (omega arith));
-    starts = floats-stand-at 4 6 (starts-some s n k e b) (starts-back s sram) (omega arith);
-    pending = run-stands 52 31 6 pending-long (pending-back s (b .cells .ranges) sram) (omega arith);
+    starts = floats-stand-at 4 6 (starts-some s n k e b) (run-floats .starts) (omega arith);
+    pending = run-stands 52 31 6 pending-long (run-cells .pending) (omega arith);
     word-count = stands-read s 58 4 bytes (fits _ (omega arith));
     slots = slots-back s bytes (fits _ (omega arith));
     others = others-back s bytes n (a .others) (fits _ (omega arith));
     flag-count = count-stands (flagsAt n) 2 (b .counts .flags) (fits _ (omega arith));
-    converting =
-        run-stands (flagsAt n + 4) 40 1 converting-long (converting-back s (b .cells .ranges) sram) (omega arith);
-    off = run-stands (flagsAt n + 5) 43 1 off-long (off-back s (b .cells .ranges) sram) (omega arith);
+    converting = run-stands (flagsAt n + 4) 40 1 converting-long (run-cells .converting) (omega arith);
+    off = run-stands (flagsAt n + 5) 43 1 off-long (run-cells .off) (omega arith);
     panel-count = count-stands (panelAt n) 45 (b .counts .panel) (fits _ (omega arith));
-    panel = run-stands (panelAt n + 4) 11 14 drawing-long (panel-back s (b .cells .ranges) sram) (omega arith);
+    panel = run-stands (panelAt n + 4) 11 14 drawing-long (run-cells .panel) (omega arith);
     clock-count = count-stands (clocksAt n) 328 (b .counts .clocks) (fits _ (omega arith));
-    times = floats-stand-at (clocksAt n + 4) 3 (times-some s n k e b) (times-back s sram) (omega arith);
-    moments = floats-stand-at (clocksAt n + 28) 2 (moments-some s n k e b) (moments-back s sram) (omega arith);
-    ticks = run-stands (clocksAt n + 44) 37 3 ticks-long (ticks-back s (b .cells .ranges) sram) (omega arith);
-    latch = run-stands (clocksAt n + 64) 41 2 latch-long (latch-back s (b .cells .ranges) sram) (omega arith);
+    times = floats-stand-at (clocksAt n + 4) 3 (times-some s n k e b) (run-floats .times) (omega arith);
+    moments = floats-stand-at (clocksAt n + 28) 2 (moments-some s n k e b) (run-floats .moments) (omega arith);
+    ticks = run-stands (clocksAt n + 44) 37 3 ticks-long (run-cells .ticks) (omega arith);
+    latch = run-stands (clocksAt n + 64) 41 2 latch-long (run-cells .latch) (omega arith);
     rtc = part-stands s (clocksAt n + 76) 256 (fits _ (omega arith));
     sound-count = count-stands (soundAt n) 2 (b .counts .sound) (fits _ (omega arith));
-    tone = floats-stand-at (soundAt n + 4) 2 (tone-some s n k e b) (tone-back s sram) (omega arith);
+    tone = floats-stand-at (soundAt n + 4) 2 (tone-some s n k e b) (run-floats .tone) (omega arith);
     flash-count = count-stands (flashAt n) 276 (b .counts .flash) (fits _ (omega arith));
-    chip = run-stands (flashAt n + 4) 1 10 chip-long (chip-back s (b .cells .ranges) sram) (omega arith);
+    chip = run-stands (flashAt n + 4) 1 10 chip-long (run-cells .chip) (omega arith);
     page = part-stands s (flashAt n + 24) 256 (fits _ (omega arith));
     key-count = count-stands (keysAt n) 28 (b .counts .keys) (fits _ (omega arith));
-    keys = run-stands (keysAt n + 4) 47 4 down-long (keys-back s (b .cells .ranges) sram) (omega arith);
-    taps = floats-stand-at (keysAt n + 8) 3 (taps-some s n k e b) (taps-back s sram) (omega arith);
+    keys = run-stands (keysAt n + 4) 47 4 down-long (run-cells .keys) (omega arith);
+    taps = floats-stand-at (keysAt n + 8) 3 (taps-some s n k e b) (run-floats .taps) (omega arith);
     press-count = stands-read s (pressesAt n) 4 bytes (fits _ (omega arith));
     presses = presses-stand;
     event-count = stands-read s (eventsAt n k) 4 bytes (fits _ (omega arith));

@@ -1,238 +1,80 @@
--- The bank's words of a good session: they are packed, and the parts that they make have the session's bytes.
-use Prim.Native.Nat.{ℕ, zero, suc, _+_, _%_, _^_, _≤_, _<_}
-use mathlib.Core.Path.{_≡_, refl, sym, ap, _∙_}
-use mathlib.Core.Bool.{Bool, true, false, cond}
-use mathlib.Core.List.{List, _∷_}
-use native.Mathlib.Omega.{arith}
-use lib.Dec.{ltb}
+-- The parts that the bank's words of a good session make have the session's bytes.
+use Prim.Native.Nat.{ℕ, _+_}
+use mathlib.Core.Path.{_≡_, refl, ap}
+use mathlib.Core.Bool.{true}
+use mathlib.Core.List.{List}
 use lib.Ieee.{Float}
-use lib.ListN.{length, getD, set}
-use lib.Seq.{getD-set-other}
-use borrow.Author.Tests.{ltb-false, leb-true}
-use Rattle.whole.specs.Forms.{bit}
-use Rattle.panel.specs.declared.MaybeByte.the-variants.{Nothing, Byte}
 use Rattle.timer.specs.Timers.{resyncedOf}
-use Rattle.state.specs.Bank.{flagIn, modeIn, maybeIn, chipIn, panelIn, timesIn, timerIn, irqIn, latchIn, toneIn, ringIn}
-use Rattle.state.specs.Bank.{keysIn, partsIn}
-use Rattle.state.specs.Packed.{modeNumber, maybeNumber, chipCells, panelCells, clockCells, keyCells, timesFloats}
-use Rattle.state.specs.Packed.{cellsOf, floatsOf}
-use Rattle.state.proofs.Spread.{spread, spread-is}
+use Rattle.state.specs.Bank.{timesIn, timerIn, irqIn, latchIn, toneIn, keysIn}
+use Rattle.state.specs.Packed.{chipCells, panelCells, clockCells, keyCells, timesFloats, cellsOf, floatsOf}
 use Rattle.time.specs.Resync.{timersResynced, clocksResynced}
 use Rattle.session.specs.Fields.{rowsOf}
-use Rattle.session.specs.Layout.{mosts, mostAt, pendingAt, flagsAt, panelAt, clocksAt, flashAt, keysAt, soundAt}
-use Rattle.session.specs.Layout.{startsAt}
+use Rattle.session.specs.Layout.{pendingAt, flagsAt, panelAt, clocksAt, flashAt, keysAt, soundAt, startsAt}
 use Rattle.session.specs.Read.{cellsRead, floatsRead, cellsIn, floatsIn}
 use Rattle.session.specs.Sections.{cellBytes, floatBytes}
-use Rattle.session.specs.Good.{inRanges, othersIn, pressesIn, eventsIn}
+use Rattle.session.specs.Good.{inRanges, othersIn}
 use Rattle.session.specs.Session.{bankIn, partsRead, partsBack}
+use Rattle.session.proofs.Packed.{read-cells}
 use Rattle.keeping.proofs.Runs.{cellRun, floatRun}
-use Rattle.keeping.proofs.Facts.{all-apart}
 
--- ---- a number as another thing, and back
+module _ (s : List ℕ) (sram : List ℕ) where
+  abbrev n : ℕ
+  n = othersIn s
 
-flag : (v : ℕ) → v ≤ 1 → bit (flagIn v) ≡ v
-flag zero h = refl
-flag (suc zero) h = refl
-flag (suc (suc v)) h = absurd (omega arith)
+  abbrev l : List ℕ
+  l = cellsOf (partsBack s sram)
 
-byte : (v : ℕ) → v ≤ 255 → v % 256 ≡ v
-byte v h = omega arith
+  abbrev f : List Float
+  f = floatsOf (partsBack s sram)
 
-short : (v : ℕ) → v ≤ 65535 → v % 65536 ≡ v
-short v h = omega arith
+  -- every run of cells that is saved; the timers' counts, which are not, are others
+  pub record CellsBack : Type 0 where
+    pub pending : cellBytes l 31 6 ≡ cellRun s pendingAt 31 6
+    pub converting : cellBytes l 40 1 ≡ cellRun s (flagsAt n + 4) 40 1
+    pub off : cellBytes l 43 1 ≡ cellRun s (flagsAt n + 5) 43 1
+    pub panel : cellBytes l 11 14 ≡ cellRun s (panelAt n + 4) 11 14
+    pub ticks : cellBytes l 37 3 ≡ cellRun s (clocksAt n + 44) 37 3
+    pub latch : cellBytes l 41 2 ≡ cellRun s (clocksAt n + 64) 41 2
+    pub chip : cellBytes l 1 10 ≡ cellRun s (flashAt n + 4) 1 10
+    pub keys : cellBytes l 47 4 ≡ cellRun s (keysAt n + 4) 47 4
 
-word : (v : ℕ) → v < 2 ^ 32 → v % 2 ^ 32 ≡ v
-word v h = omega arith
+  pub cells-back : inRanges (cellsIn s n) ≡ true → CellsBack
+  unfolding partsBack clocksResynced timersResynced resyncedOf cellsOf chipCells panelCells clockCells keyCells
+      cellBytes rowsOf cellRun bankIn cellsIn cellsRead
+  cells-back ranges =
+      let same = read-cells s ranges in
+      record {
+        pending = ap (λ (l : List ℕ). cellBytes l 31 6) same;
+        converting = ap (λ (l : List ℕ). cellBytes l 40 1) same;
+        off = ap (λ (l : List ℕ). cellBytes l 43 1) same;
+        panel = ap (λ (l : List ℕ). cellBytes l 11 14) same;
+        ticks = ap (λ (l : List ℕ). cellBytes l 37 3) same;
+        latch = ap (λ (l : List ℕ). cellBytes l 41 2) same;
+        chip = ap (λ (l : List ℕ). cellBytes l 1 10) same;
+        keys = ap (λ (l : List ℕ). cellBytes l 47 4) same;
+      }
 
-maybe : (v : ℕ) → v ≤ 256 → maybeNumber (maybeIn v) ≡ v
-unfolding maybeIn maybeNumber
-maybe v h = by (ltb v 256) refl
-  where
-    by : (b : Bool) → ltb v 256 ≡ b → maybeNumber (cond b (Byte v) Nothing) ≡ v
-    by true e = refl
-    by false e = let least = ltb-false v 256 e in omega arith
-
-mode : (v : ℕ) → v ≤ 0 → modeNumber (modeIn v) ≡ v
-unfolding modeIn modeNumber
-mode zero h = refl
-mode (suc v) h = absurd (omega arith)
-
-also : {a b : ℕ} {xs ys : List ℕ} → a ≡ b → xs ≡ ys → a ∷ xs ≡ b ∷ ys
-also p q = rw (p, q)
-
--- ---- words within their ranges; the counts of events and presses, 45 and 46, may be any
-
-packed-list : (l : List ℕ) (f : List Float) → ((i : ℕ) → i < 45 → getD l i 0 ≤ mostAt i)
-    → ((i : ℕ) → 46 < i → i < 51 → getD l i 0 ≤ mostAt i)
-    → cellsOf (partsIn l f) ≡ spread 0 l 0 51
-unfolding cellsOf chipCells panelCells clockCells keyCells chipIn panelIn timesIn timerIn irqIn latchIn toneIn ringIn
-    keysIn spread mosts
-packed-list l f low high =
-    also (mode (getD l 0 0) (low 0 (omega arith)))
-    (also (flag (getD l 1 0) (low 1 (omega arith)))
-    (also (flag (getD l 2 0) (low 2 (omega arith)))
-    (also refl
-    (also (byte (getD l 4 0) (let most = low 4 (omega arith) in omega arith))
-    (also (byte (getD l 5 0) (let most = low 5 (omega arith) in omega arith))
-    (also (byte (getD l 6 0) (let most = low 6 (omega arith) in omega arith))
-    (also (byte (getD l 7 0) (let most = low 7 (omega arith) in omega arith))
-    (also (byte (getD l 8 0) (let most = low 8 (omega arith) in omega arith))
-    (also refl
-    (also (flag (getD l 10 0) (low 10 (omega arith)))
-    (also (maybe (getD l 11 0) (low 11 (omega arith)))
-    (also (byte (getD l 12 0) (let most = low 12 (omega arith) in omega arith))
-    (also (byte (getD l 13 0) (let most = low 13 (omega arith) in omega arith))
-    (also (byte (getD l 14 0) (let most = low 14 (omega arith) in omega arith))
-    (also (byte (getD l 15 0) (let most = low 15 (omega arith) in omega arith))
-    (also (byte (getD l 16 0) (let most = low 16 (omega arith) in omega arith))
-    (also (short (getD l 17 0) (low 17 (omega arith)))
-    (also (short (getD l 18 0) (low 18 (omega arith)))
-    (also (short (getD l 19 0) (low 19 (omega arith)))
-    (also (short (getD l 20 0) (low 20 (omega arith)))
-    (also (short (getD l 21 0) (low 21 (omega arith)))
-    (also (short (getD l 22 0) (low 22 (omega arith)))
-    (also (maybe (getD l 23 0) (low 23 (omega arith)))
-    (also refl
-    (also refl
-    (also refl
-    (also refl
-    (also refl
-    (also refl
-    (also refl
-    (also (flag (getD l 31 0) (low 31 (omega arith)))
-    (also (flag (getD l 32 0) (low 32 (omega arith)))
-    (also (flag (getD l 33 0) (low 33 (omega arith)))
-    (also (flag (getD l 34 0) (low 34 (omega arith)))
-    (also (flag (getD l 35 0) (low 35 (omega arith)))
-    (also (flag (getD l 36 0) (low 36 (omega arith)))
-    (also refl
-    (also (word (getD l 38 0) (let most = low 38 (omega arith) in omega arith))
-    (also refl
-    (also (flag (getD l 40 0) (low 40 (omega arith)))
-    (also refl
-    (also (word (getD l 42 0) (let most = low 42 (omega arith) in omega arith))
-    (also (flag (getD l 43 0) (low 43 (omega arith)))
-    (also (byte (getD l 44 0) (let most = low 44 (omega arith) in omega arith))
-    (also refl
-    (also refl
-    (also (flag (getD l 47 0) (high 47 (omega arith) (omega arith)))
-    (also (flag (getD l 48 0) (high 48 (omega arith) (omega arith)))
-    (also (flag (getD l 49 0) (high 49 (omega arith) (omega arith)))
-    (also (word (getD l 50 0) (let most = high 50 (omega arith) (omega arith) in omega arith))
-    refl))))))))))))))))))))))))))))))))))))))))))))))))))
-
-pub packed-cells : (l : List ℕ) (f : List Float) → length l ≡ 51 → ((i : ℕ) → i < 45 → getD l i 0 ≤ mostAt i)
-    → ((i : ℕ) → 46 < i → i < 51 → getD l i 0 ≤ mostAt i)
-    → cellsOf (partsIn l f) ≡ l
-packed-cells l f size low high = packed-list l f low high ∙ sym (spread-is 0 l 51 size)
-
--- ---- of a session
-
-module _ (s : List ℕ) where
-  bank-size : length (bankIn s) ≡ 51
-  unfolding bankIn cellsIn cellsRead
-  bank-size = refl
-
-  module _ (ranges : inRanges (cellsIn s (othersIn s)) ≡ true) where
-    pub in-range : (i : ℕ) → i < 51 → getD (cellsIn s (othersIn s)) i 0 ≤ mostAt i
-    unfolding inRanges
-    in-range i below = leb-true _ _ (all-apart _ 51 ranges i below)
-
-    low-range : (i : ℕ) → i < 45 → getD (bankIn s) i 0 ≤ mostAt i
-    unfolding bankIn
-    low-range i below =
-        let a = getD-set-other (set (cellsIn s (othersIn s)) 45 (eventsIn s)) 46 i (pressesIn s) 0 (λ e. omega arith) in
-        let b = getD-set-other (cellsIn s (othersIn s)) 45 i (eventsIn s) 0 (λ e. omega arith) in
-        rw (a, b) (in-range i (omega arith))
-
-    high-range : (i : ℕ) → 46 < i → i < 51 → getD (bankIn s) i 0 ≤ mostAt i
-    unfolding bankIn
-    high-range i above below =
-        let a = getD-set-other (set (cellsIn s (othersIn s)) 45 (eventsIn s)) 46 i (pressesIn s) 0 (λ e. omega arith) in
-        let b = getD-set-other (cellsIn s (othersIn s)) 45 i (eventsIn s) 0 (λ e. omega arith) in
-        rw (a, b) (in-range i below)
-
-    pub read-cells : cellsOf (partsRead s) ≡ bankIn s
-    unfolding partsRead
-    read-cells = packed-cells (bankIn s) (floatsIn s (othersIn s)) bank-size low-range high-range
-
-    pub pending-back : (sram : List ℕ) → cellBytes (cellsOf (partsBack s sram)) 31 6 ≡ cellRun s pendingAt 31 6
-    unfolding partsBack clocksResynced timersResynced resyncedOf cellsOf chipCells panelCells clockCells keyCells
-        cellBytes rowsOf cellRun bankIn cellsIn cellsRead
-    pending-back sram = ap (λ (l : List ℕ). cellBytes l 31 6) read-cells
-
-    pub converting-back : (sram : List ℕ) → cellBytes (cellsOf (partsBack s sram)) 40 1
-        ≡ cellRun s (flagsAt (othersIn s) + 4) 40 1
-    unfolding partsBack clocksResynced timersResynced resyncedOf cellsOf chipCells panelCells clockCells keyCells
-        cellBytes rowsOf cellRun bankIn cellsIn cellsRead
-    converting-back sram = ap (λ (l : List ℕ). cellBytes l 40 1) read-cells
-
-    pub off-back : (sram : List ℕ) → cellBytes (cellsOf (partsBack s sram)) 43 1
-        ≡ cellRun s (flagsAt (othersIn s) + 5) 43 1
-    unfolding partsBack clocksResynced timersResynced resyncedOf cellsOf chipCells panelCells clockCells keyCells
-        cellBytes rowsOf cellRun bankIn cellsIn cellsRead
-    off-back sram = ap (λ (l : List ℕ). cellBytes l 43 1) read-cells
-
-    pub panel-back : (sram : List ℕ) → cellBytes (cellsOf (partsBack s sram)) 11 14
-        ≡ cellRun s (panelAt (othersIn s) + 4) 11 14
-    unfolding partsBack clocksResynced timersResynced resyncedOf cellsOf chipCells panelCells clockCells keyCells
-        cellBytes rowsOf cellRun bankIn cellsIn cellsRead
-    panel-back sram = ap (λ (l : List ℕ). cellBytes l 11 14) read-cells
-
-    pub ticks-back : (sram : List ℕ) → cellBytes (cellsOf (partsBack s sram)) 37 3
-        ≡ cellRun s (clocksAt (othersIn s) + 44) 37 3
-    unfolding partsBack clocksResynced timersResynced resyncedOf cellsOf chipCells panelCells clockCells keyCells
-        cellBytes rowsOf cellRun bankIn cellsIn cellsRead
-    ticks-back sram = ap (λ (l : List ℕ). cellBytes l 37 3) read-cells
-
-    pub latch-back : (sram : List ℕ) → cellBytes (cellsOf (partsBack s sram)) 41 2
-        ≡ cellRun s (clocksAt (othersIn s) + 64) 41 2
-    unfolding partsBack clocksResynced timersResynced resyncedOf cellsOf chipCells panelCells clockCells keyCells
-        cellBytes rowsOf cellRun bankIn cellsIn cellsRead
-    latch-back sram = ap (λ (l : List ℕ). cellBytes l 41 2) read-cells
-
-    pub chip-back : (sram : List ℕ) → cellBytes (cellsOf (partsBack s sram)) 1 10
-        ≡ cellRun s (flashAt (othersIn s) + 4) 1 10
-    unfolding partsBack clocksResynced timersResynced resyncedOf cellsOf chipCells panelCells clockCells keyCells
-        cellBytes rowsOf cellRun bankIn cellsIn cellsRead
-    chip-back sram = ap (λ (l : List ℕ). cellBytes l 1 10) read-cells
-
-    pub keys-back : (sram : List ℕ) → cellBytes (cellsOf (partsBack s sram)) 47 4
-        ≡ cellRun s (keysAt (othersIn s) + 4) 47 4
-    unfolding partsBack clocksResynced timersResynced resyncedOf cellsOf chipCells panelCells clockCells keyCells
-        cellBytes rowsOf cellRun bankIn cellsIn cellsRead
-    keys-back sram = ap (λ (l : List ℕ). cellBytes l 47 4) read-cells
-
-  -- the floats
-  pub read-floats : floatsOf (partsRead s) ≡ floatsIn s (othersIn s)
-  unfolding floatsOf timesFloats partsRead timesIn timerIn irqIn latchIn toneIn keysIn floatsIn floatsRead
-  read-floats = refl
-
-  pub back-floats : (sram : List ℕ) → floatsOf (partsBack s sram) ≡ floatsIn s (othersIn s)
+  pub back-floats : f ≡ floatsIn s n
   unfolding floatsOf timesFloats partsBack partsRead clocksResynced timersResynced resyncedOf timesIn timerIn irqIn
       latchIn toneIn keysIn floatsIn floatsRead
-  back-floats sram = refl
+  back-floats = refl
 
-  pub starts-back : (sram : List ℕ) → floatBytes (floatsOf (partsBack s sram)) 3 6 ≡ floatRun s startsAt 6
-  unfolding floatBytes rowsOf floatRun floatsIn floatsRead
-  starts-back sram = ap (λ (f : List Float). floatBytes f 3 6) (back-floats sram)
+  -- and every run of floats
+  pub record FloatsBack : Type 0 where
+    pub starts : floatBytes f 3 6 ≡ floatRun s startsAt 6
+    pub times : floatBytes f 0 3 ≡ floatRun s (clocksAt n + 4) 3
+    pub moments : floatBytes f 9 2 ≡ floatRun s (clocksAt n + 28) 2
+    pub tone : floatBytes f 11 2 ≡ floatRun s (soundAt n + 4) 2
+    pub taps : floatBytes f 13 3 ≡ floatRun s (keysAt n + 8) 3
 
-  pub times-back : (sram : List ℕ) → floatBytes (floatsOf (partsBack s sram)) 0 3
-      ≡ floatRun s (clocksAt (othersIn s) + 4) 3
+  pub floats-back : FloatsBack
   unfolding floatBytes rowsOf floatRun floatsIn floatsRead
-  times-back sram = ap (λ (f : List Float). floatBytes f 0 3) (back-floats sram)
-
-  pub moments-back : (sram : List ℕ) → floatBytes (floatsOf (partsBack s sram)) 9 2
-      ≡ floatRun s (clocksAt (othersIn s) + 28) 2
-  unfolding floatBytes rowsOf floatRun floatsIn floatsRead
-  moments-back sram = ap (λ (f : List Float). floatBytes f 9 2) (back-floats sram)
-
-  pub tone-back : (sram : List ℕ) → floatBytes (floatsOf (partsBack s sram)) 11 2
-      ≡ floatRun s (soundAt (othersIn s) + 4) 2
-  unfolding floatBytes rowsOf floatRun floatsIn floatsRead
-  tone-back sram = ap (λ (f : List Float). floatBytes f 11 2) (back-floats sram)
-
-  pub taps-back : (sram : List ℕ) → floatBytes (floatsOf (partsBack s sram)) 13 3
-      ≡ floatRun s (keysAt (othersIn s) + 8) 3
-  unfolding floatBytes rowsOf floatRun floatsIn floatsRead
-  taps-back sram = ap (λ (f : List Float). floatBytes f 13 3) (back-floats sram)
+  floats-back =
+      let same = back-floats in
+      record {
+        starts = ap (λ (f : List Float). floatBytes f 3 6) same;
+        times = ap (λ (f : List Float). floatBytes f 0 3) same;
+        moments = ap (λ (f : List Float). floatBytes f 9 2) same;
+        tone = ap (λ (f : List Float). floatBytes f 11 2) same;
+        taps = ap (λ (f : List Float). floatBytes f 13 3) same;
+      }

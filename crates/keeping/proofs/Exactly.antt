@@ -20,7 +20,7 @@ use Rattle.session.specs.Session.{savedSize, bytesIn, Saved, saved, saveOf, mac
 use Rattle.keeping.specs.Typed.{Below, Typed, UnitLengths}
 use Rattle.keeping.specs.Holds.{Holds}
 use Rattle.keeping.proofs.Refused.{resume-done, resume-bad, done-good, save-done}
-use Rattle.keeping.proofs.Facts.{facts}
+use Rattle.session.proofs.Facts.{facts}
 use Rattle.keeping.proofs.Placed.{session-long}
 use Rattle.keeping.proofs.Back.{read-sized, unit-lengths, resumed-back, resume-writes}
 use Rattle.keeping.proofs.Resumed.{resumed-limits}

@@ -8,13 +8,13 @@ use Rattle.system.specs.Steps.{Op, wipe, step, after}
 use Rattle.system.specs.Limits.{WithinLimits}
 use Rattle.system.proofs.Limits.{after-limits}
 use Rattle.system.proofs.Wiped.{wipe-forgets}
+use Rattle.script.proofs.Wiped.{good-memory}
 use Rattle.session.specs.Good.{goodSession}
 use Rattle.session.specs.Session.{machineIn}
 use Rattle.keeping.specs.Typed.{Below, UnitLengths}
-use Rattle.keeping.proofs.Facts.{facts}
+use Rattle.session.proofs.Facts.{facts}
 use Rattle.keeping.proofs.Back.{read-sized}
 use Rattle.keeping.proofs.Resumed.{resumed-limits}
-use Rattle.keeping.proofs.Saved.{unit-sizes}
 
 pub resumed-runs-limits : (s : List ℕ) (os : List Op) → Below 256 s → goodSession s ≡ true
     → WithinLimits (after (machineIn s) os)
@@ -27,10 +27,10 @@ pub wipe-resumed : (s : List ℕ) (m : Machine) (before others later : List Op) 
     → step (after (machineIn s) (before ++ (wipe ∷ later))) o ≡ step (after m (others ++ (wipe ∷ later))) o
 wipe-resumed s m before others later o bytes h u =
     let z = read-sized s bytes (facts s h) in
-    let y = unit-sizes m u in
+    let y = good-memory (m .ram) (m .sram) (m .gpio) (m .fb) u in
     wipe-forgets (machineIn s) m before others later o (record {
-      ram = z .ram ∙ sym (y .ram);
-      sram = z .sram ∙ sym (y .sram);
-      gpio = z .gpio ∙ sym (y .gpio);
-      fb = z .fb ∙ sym (y .fb);
+      ram = z .ram ∙ sym (y .ram-size);
+      sram = z .sram ∙ sym (y .sram-size);
+      gpio = z .gpio ∙ sym (y .gpio-size);
+      fb = z .fb ∙ sym (y .fb-size);
     })

@@ -1,7 +1,6 @@
 pub mod Refused
 pub mod Runs
 pub mod Placed
-pub mod Facts
 pub mod Bank
 pub mod Tables
 pub mod Back
@@ -18,3 +17,6 @@ pub mod Exactly
 pub mod Later
 pub mod Witness
 pub mod Arrays
+pub mod AsRust
+pub mod Turns
+pub mod Unique

@@ -1,4 +1,4 @@
--- The machine of a good session is within the limits, and typed.
+-- The other words of a good session are within the limits.
 use Prim.Native.Nat.{ℕ, suc, _+_, _-_, _*_, _%_, _≤_, _<_}
 use mathlib.Core.Path.{_≡_, refl, sym, subst, _∙_}
 use mathlib.Core.Logic.{_≢_}
@@ -26,7 +26,7 @@ use Rattle.session.specs.Fields.{number}
 use Rattle.session.specs.Layout.{othersAt}
 use Rattle.session.specs.Read.{placeIn, placesIn}
 use Rattle.session.specs.Good.{otherWord, lastAt, goodOther}
-use Rattle.keeping.proofs.Facts.{other-apart, Body}
+use Rattle.session.proofs.Facts.{other-apart, Body}
 use Rattle.keeping.proofs.Tables.{place-at, place-free}
 
 -- ---- tests that hold

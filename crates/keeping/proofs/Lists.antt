@@ -37,9 +37,6 @@ module _ {A : Type 0} (P : A → Type 0) (d : A) (none : P d) where
   each-cons x l here all zero = here
   each-cons x l here all (suc j) = all j
 
-  pub each-none : (j : ℕ) → P (getD [] j d)
-  each-none j = none
-
   pub each-append : (l m : List A) → ((j : ℕ) → P (getD l j d)) → ((j : ℕ) → P (getD m j d)) → (j : ℕ)
       → P (getD (l ++ m) j d)
   each-append [] m p q j = q j

@@ -26,7 +26,7 @@ use Rattle.session.specs.Fields.{span, allBelow}
 use Rattle.session.specs.Layout.{mosts, widthAt, mostAt}
 use Rattle.session.specs.Good.{inRanges}
 use Rattle.keeping.specs.Typed.{Typed}
-use Rattle.keeping.proofs.Facts.{all-apart, all-joined}
+use Rattle.session.proofs.Facts.{all-apart, all-joined}
 use Rattle.keeping.proofs.Placed.{Sized, cells}
 use Rattle.keeping.proofs.Runs.{copied}
 

@@ -41,9 +41,9 @@ use Rattle.session.specs.Read.{columnAt, columnIn}
 use Rattle.session.specs.Good.{goodFlash, othersIn, pressesIn, eventsIn, goodSession}
 use Rattle.session.specs.Session.{bankIn, partsRead, partsBack, machineIn}
 use Rattle.keeping.specs.Typed.{Below}
-use Rattle.keeping.proofs.Facts.{press-apart, event-apart, Body, Facts, facts}
+use Rattle.session.proofs.Facts.{press-apart, event-apart, Body, Facts, facts}
 use Rattle.keeping.proofs.Lists.{each-take, each-drop}
-use Rattle.keeping.proofs.Bank.{in-range}
+use Rattle.session.proofs.Packed.{in-range}
 use Rattle.keeping.proofs.Tables.{part-long, start-at, code-at, event-back}
 use Rattle.keeping.proofs.Limits.{holds, up-limit, read-tidy, read-registers}
 
@@ -77,7 +77,7 @@ unset i count v h past most = by (ltb i count) refl h
     by true e h = absurd (let less = ltb-true i count e in omega arith)
     by false e h = let z = eqb-true v 0 h in omega arith
 
-part-bytes : (s : List ℕ) → Below 256 s → (at n : ℕ) → Below 256 (part s at n)
+pub part-bytes : (s : List ℕ) → Below 256 s → (at n : ℕ) → Below 256 (part s at n)
 part-bytes s bytes at n =
     each-take (λ (v : ℕ). v < 256) 0 (omega arith) n (drop at s)
     (each-drop (λ (v : ℕ). v < 256) 0 (omega arith) at s bytes)

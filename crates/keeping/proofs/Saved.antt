@@ -10,7 +10,7 @@ use lib.Dec.{T, eqb, ltb}
 use lib.Ieee.{Float, nan, inf, fin}
 use lib.ListN.{length, getD}
 use lib.Seq.{take-length}
-use borrow.Author.Tests.{eqb-true, eq-eqb, lt-ltb, le-leb, not-false}
+use borrow.Author.Tests.{eq-eqb, lt-ltb, le-leb}
 use Rattle.map.specs.Numbers.{FLASH-SIZE, RAM-SIZE, SRAM-SIZE, GPIO-SIZE, FRAMEBUFFER-SIZE}
 use Rattle.memory.specs.declared.Place.{Place}
 use Rattle.memory.specs.Bytes.{bytesOf}
@@ -28,10 +28,10 @@ use Rattle.keys.proofs.Full.{many-most}
 use Rattle.state.specs.declared.Parts.{Parts}
 use Rattle.state.specs.Bank.{chipIn}
 use Rattle.state.specs.Packed.{chipCells, panelCells, clockCells, keyCells, timesFloats, cellsOf, floatsOf}
-use Rattle.runner.specs.Script.{badMemory}
 use Rattle.system.specs.System.{Machine}
 use Rattle.system.specs.Refusals.{isRegister}
 use Rattle.system.specs.Limits.{RegisterWord, WithinLimits}
+use Rattle.script.proofs.Wiped.{good-memory}
 use Rattle.session.specs.Fields.{number, part}
 use Rattle.session.specs.Layout.{flagsAt, panelAt, clocksAt, soundAt, flashAt, keysAt, pressesAt, eventsAt, othersAt}
 use Rattle.session.specs.Layout.{ramAt, sramAt, gpioAt, fbAt, sizeOf}
@@ -42,8 +42,8 @@ use Rattle.session.specs.Session as session
 use Rattle.session.specs.Session.{pressesOf, eventsOf, bytesIn}
 use Rattle.session.proofs.Stands.{Stands}
 use Rattle.keeping.specs.Typed.{Typed, UnitLengths}
-use Rattle.keeping.proofs.Facts.{both, other-joined, press-joined, event-joined, Cells, Floats, Order, Step}
-use Rattle.keeping.proofs.Facts.{Counts, Lengths, Body, Facts, good}
+use Rattle.session.proofs.Facts.{both, other-joined, press-joined, event-joined, Cells, Floats, Order, Step}
+use Rattle.session.proofs.Facts.{Counts, Lengths, Body, Facts, good}
 use Rattle.keeping.proofs.Placed.{Sized, Placed, placed, session-long, cells, floats}
 use Rattle.keeping.proofs.Runs.{copied}
 use Rattle.keeping.proofs.Ranges.{tops, savedOf, saved-ranges, word-most, flash-trans}
@@ -81,36 +81,16 @@ other-holds a slot stored word =
     both (both (eq-eqb (slotOf a) 76 slot) (ap not (neither (eqb a 0) (dayWord a) stored .1)))
     (both (eq-eqb (a % 4) 0 (word .aligned)) (ap (λ (p : Place). isRegister p) (word .register)))
 
--- the lengths that a unit has
-pub record Sizes (m : Machine) : Type 0 where
-  pub ram : length (m .ram) ≡ RAM-SIZE
-  pub sram : length (m .sram) ≡ SRAM-SIZE
-  pub gpio : length (m .gpio) ≡ GPIO-SIZE
-  pub fb : length (m .fb) ≡ FRAMEBUFFER-SIZE
-
-pub unit-sizes : (m : Machine) → UnitLengths m → Sizes m
-unfolding badMemory
-unit-sizes m u =
-    let a = neither (not (eqb (length (m .ram)) RAM-SIZE)) _ u in
-    let b = neither (not (eqb (length (m .sram)) SRAM-SIZE)) _ (a .1) in
-    let c = neither (not (eqb (length (m .gpio)) GPIO-SIZE)) (not (eqb (length (m .fb)) FRAMEBUFFER-SIZE)) (b .1) in
-    record {
-      ram = eqb-true (length (m .ram)) RAM-SIZE (not-false (eqb (length (m .ram)) RAM-SIZE) (a .0));
-      sram = eqb-true (length (m .sram)) SRAM-SIZE (not-false (eqb (length (m .sram)) SRAM-SIZE) (b .0));
-      gpio = eqb-true (length (m .gpio)) GPIO-SIZE (not-false (eqb (length (m .gpio)) GPIO-SIZE) (c .0));
-      fb = eqb-true (length (m .fb)) FRAMEBUFFER-SIZE (not-false (eqb (length (m .fb)) FRAMEBUFFER-SIZE) (c .1));
-    }
-
 pub sized : (m : Machine) → WithinLimits m → UnitLengths m → Sized m
 sized m w u =
-    let z = unit-sizes m u in
+    let z = good-memory (m .ram) (m .sram) (m .gpio) (m .fb) u in
     record {
       rtc = w .rtc .size;
       page = w .flash .reached .shaped .size;
-      ram = z .ram;
-      sram = z .sram;
-      gpio = z .gpio;
-      fb = z .fb;
+      ram = z .ram-size;
+      sram = z .sram-size;
+      gpio = z .gpio-size;
+      fb = z .fb-size;
     }
 
 module _ (m : Machine) (w : WithinLimits m) (t : Typed m) (u : UnitLengths m) where

@@ -30,11 +30,12 @@ use Rattle.session.specs.Read.{startsIn, columnAt, columnIn}
 use Rattle.session.specs.Good.{othersIn, pressesIn, eventsIn, goodSession}
 use Rattle.session.specs.Session.{bankIn, partsRead, partsBack, machineIn}
 use Rattle.keeping.specs.Typed.{Below, Fits, Typed}
-use Rattle.keeping.proofs.Facts.{all-apart, Body, Facts, facts}
+use Rattle.session.proofs.Facts.{all-apart, Body, Facts, facts}
 use Rattle.keeping.proofs.Lists.{zeros-fit, each-set, each-tabled, each-append, each-take, each-drop, Fit}
 use Rattle.keeping.proofs.Lists.{nan-fit}
 use Rattle.keeping.proofs.Runs.{number-small}
-use Rattle.keeping.proofs.Bank.{in-range, read-cells, read-floats, back-floats}
+use Rattle.session.proofs.Packed.{in-range, read-cells, read-floats}
+use Rattle.keeping.proofs.Bank.{back-floats}
 use Rattle.keeping.proofs.Resumed.{read-clocks}
 
 -- ---- parts whose periods are counted anew

@@ -27,7 +27,7 @@ use Rattle.session.specs.Fields.{allBelow}
 use Rattle.session.specs.Good.{goodSession}
 use Rattle.session.specs.Session.{partsOf, bytesIn}
 use Rattle.keeping.specs.Typed.{Below, Fits, Typed, UnitLengths}
-use Rattle.keeping.proofs.Facts.{all-apart}
+use Rattle.session.proofs.Facts.{all-apart}
 use Rattle.keeping.proofs.Lists.{Fit, nan-fit, zeros-fit}
 use Rattle.keeping.proofs.Saved.{saved-good}
 

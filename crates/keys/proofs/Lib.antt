@@ -9,6 +9,7 @@ pub mod Full
 pub mod Kept
 pub mod Limits
 pub mod Literal
+pub mod Onward
 pub mod SameEdges
 pub mod SameKeys
 pub mod Still

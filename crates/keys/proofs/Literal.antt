@@ -76,7 +76,7 @@ module _ (starts : List Float) (codes : List ℕ) (even : length codes ≡ lengt
           rw (a, b) new
 
 -- ---- the two sides
-record Same (s : Sides) : Type 0 where
+pub record Same (s : Sides) : Type 0 where
   pub now : T (goodTime (s .now))
   pub starts : length (s .script .starts) ≡ 64
   pub codes : length (s .script .codes) ≡ 64
@@ -178,7 +178,7 @@ goes-same s time g l w = record {
     earlier t a h true e = e
     earlier t a h false e = absurd (true≢false (sym h ∙ expired-stays t (s .now) a (w .now) time g l e))
 
-run-same : (acts : List Act) (s : Sides) → Same s → Onward (s .now) acts → Same (after s acts)
+pub run-same : (acts : List Act) (s : Sides) → Same s → Onward (s .now) acts → Same (after s acts)
 unfolding after sidesAfter
 run-same [] s w o = w
 run-same (presses key at ∷ acts) s w o = run-same acts (sidesAfter s (presses key at)) (press-same s key at (o .0) w)
@@ -187,7 +187,7 @@ run-same (goes time ∷ acts) s w o = run-same acts (sidesAfter s (goes time)) (
 
 -- ---- what is seen
 module _ (s : Sides) (w : Same s) (k : Keys) where
-  held-same : SameHeld s k
+  pub held-same : SameHeld s k
   unfolding heldOf rustHeld
   held-same =
       same-keys (s .script .starts) (s .script .codes) (placesOf (s .script .count)) (s .list .starts) (s .list .codes)
@@ -217,7 +217,7 @@ module _ (s : Sides) (w : Same s) (k : Keys) where
           (w .good (x .place) (x .below)) (w .now) h))
       by (inr d) false h = sym (ap (λ (e : Float). lt (s .now) e) d) ∙ x .ahead
 
-  edge-same : SameEdge s k
+  pub edge-same : SameEdge s k
   unfolding nextEdge pressEdges rustEdge
   edge-same t f c =
       ap (λ (e : Float). holdEdges (k .holds) (s .now) e)

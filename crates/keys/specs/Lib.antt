@@ -3,6 +3,7 @@ pub mod Edges
 pub mod Keys
 pub mod Lines
 pub mod Live
+pub mod Onward
 pub mod Rust
 pub mod Script
 pub mod Within

@@ -18,10 +18,16 @@ pub fn places(count: usize) -> usize
     64
 }
 
+pub fn waits(t: f64, time: f64) -> bool
+    ensures { λ r. ⌜ r ≡ waits t time ⌝ }
+{
+    t + 0.15 > time
+}
+
 fn expired(t: f64, time: f64) -> bool
     ensures { λ r. ⌜ r ≡ not (waits t time) ⌝ }
 {
-    !(t + 0.15 > time)
+    !waits(t, time)
 }
 
 // The first place whose press has expired, or the place after the last.

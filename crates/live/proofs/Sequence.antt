@@ -72,7 +72,7 @@ live-is-after m (c ∷ cs) h =
     ∙ ap (λ (z : Machine). after z (opsInAll (leftBy m c) cs)) one
     ∙ sym (after-both m (opsIn m c) (opsInAll (leftBy m c) cs))
 
-unit-left : (m : Machine) (cs : List Call) → notAUnit m ≡ false → notAUnit (leftByAll m cs) ≡ false
+pub unit-left : (m : Machine) (cs : List Call) → notAUnit m ≡ false → notAUnit (leftByAll m cs) ≡ false
 unit-left m cs h = ap (λ (z : Machine). notAUnit z) (live-is-after m cs h) ∙ unit-stays m (opsInAll m cs) h
 
 left-both : (m : Machine) (cs ds : List Call) → leftByAll m (cs ++ ds) ≡ leftByAll (leftByAll m cs) ds

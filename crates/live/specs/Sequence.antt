@@ -13,7 +13,8 @@ use Rattle.script.specs.Fold.{opsOf}
 use Rattle.live.specs.Live.{called, takeMany}
 
 -- by what a call can change: one operation of the bus; sound events into these records; a script with this output; and
--- those that only look (blocks, the screen, what the clocks say). tg18_fresh is none of them: a sequence starts there.
+-- those that only look (blocks, the screen, what the clocks say, a save). tg18_fresh and tg18_resume are none of them:
+-- a sequence starts there. Crate keeping has sequences with resumes in them.
 pub data Call : Type 0 where
   acts : Op → Call
   takes : List Event → Call

@@ -4,6 +4,7 @@ pub mod Heals
 pub mod Judged
 pub mod Limits
 pub mod Literal
+pub mod Onward
 pub mod Pens
 pub mod Stray
 pub mod Sweep

@@ -40,23 +40,23 @@ as-command l c = go (eqb c 0x2C)
 
 -- ---- what the types of the Rust say: ends and positions come from two bytes each
 
-abbrev Small : Option → Type 0
+abbrev pub Small : Option → Type 0
 Small none = Unit {0}
 Small (some b) = b < 256
 
-abbrev Smalls : List ℕ → Type 0
+abbrev pub Smalls : List ℕ → Type 0
 Smalls [] = Unit {0}
 Smalls (b ∷ bs) = (b < 256) × Smalls bs
 
-record Fits (l : Lcd) : Type 0 where
-  x0 : l .x0 < 2 ^ 16
-  x1 : l .x1 < 2 ^ 16
-  y0 : l .y0 < 2 ^ 16
-  y1 : l .y1 < 2 ^ 16
-  x : l .x < 2 ^ 16
-  y : l .y < 2 ^ 16
-  half : Small (l .half)
-  args : Smalls (l .args)
+pub record Fits (l : Lcd) : Type 0 where
+  pub x0 : l .x0 < 2 ^ 16
+  pub x1 : l .x1 < 2 ^ 16
+  pub y0 : l .y0 < 2 ^ 16
+  pub y1 : l .y1 < 2 ^ 16
+  pub x : l .x < 2 ^ 16
+  pub y : l .y < 2 ^ 16
+  pub half : Small (l .half)
+  pub args : Smalls (l .args)
 
 -- ---- pixel
 inc-small : (n : ℕ) → n < 2 ^ 16 → inc32 n ≡ n + 1
@@ -290,7 +290,7 @@ fits-data l b f s =
     (fits-args l (l .args ++ (b ∷ [])) f (smalls-more (l .args) b (f .args) s))
 
 -- ---- a run
-runs : (l : Lcd) (acts : List Act) → Fits l → Bytes acts → compact (lcdAfterActs l acts) ≡ later (compact l) acts
+pub runs : (l : Lcd) (acts : List Act) → Fits l → Bytes acts → compact (lcdAfterActs l acts) ≡ later (compact l) acts
 unfolding lcdAfterActs later frameCounted
 runs l [] f s = refl
 runs l (order c ∷ acts) f s =

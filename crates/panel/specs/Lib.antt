@@ -2,6 +2,7 @@ pub mod AsRust
 pub mod Colour
 pub mod Entries
 pub mod Lcd
+pub mod Onward
 pub mod Runs
 pub mod Rust
 pub mod Table

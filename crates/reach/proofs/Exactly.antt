@@ -77,14 +77,14 @@ module _ (m : List ℕ) (g : Good m) (t : Trans) (p : List ℕ) where
     there : Reached (afterSteps (made m) (l .steps))
     there = run-reached (l .steps) (made m) (l .bytes) (made-reached Rust m)
 
-    pub left-shaped : Shaped t p
+    left-shaped : Shaped t p
     left-shaped = rw (← l .tx, ← l .page) (there .shaped)
 
-    pub left-reachable : reachable (length m) t p ≡ true
+    left-reachable : reachable (length m) t p ≡ true
     left-reachable = rw (← l .tx, ← l .page, ← run-long (l .steps) (made m)) (there .trans)
 
-  pub reached-exactly : (on : Bool) → Shaped t p → (reachable (length m) t p ≡ true) ↔ Left m on t p
-  reached-exactly on shape = (λ ok. reached on shape ok, λ l. left-reachable on l)
+  pub reached-exactly : (on : Bool) → (Shaped t p × (reachable (length m) t p ≡ true)) ↔ Left m on t p
+  reached-exactly on = (λ h. reached on (h .0) (h .1), λ l. (left-shaped on l, left-reachable on l))
 
 -- ---- demand 2 from there on
 pub as-rust-from : (b : Board) → b .chip .mode ≡ Rust → Good (b .array) → Reached b → FromRust b

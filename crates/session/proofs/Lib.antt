@@ -1,9 +1,6 @@
-pub mod Laid
-pub mod Copying
 pub mod Digits
 pub mod Stands
 pub mod Long
-pub mod Tables
-pub mod Cells
-pub mod Deciding
-pub mod Entire
+pub mod Widths
+pub mod Facts
+pub mod Packed

@@ -1,4 +1,5 @@
--- When the bytes of a session are good. Each condition is one of 02's.
+-- When the bytes of a session are good. Each condition is one of 02's, but for the panel's arguments and the lines
+-- (DECISIONS 152).
 use Prim.Native.Nat.{ℕ, zero, suc, _+_, _*_, _%_}
 use mathlib.Core.Bool.{Bool, not, _&&_, _||_}
 use mathlib.Core.List.{List}

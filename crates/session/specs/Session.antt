@@ -14,7 +14,7 @@ use Rattle.keys.specs.Script.{placesOf, waitingIn}
 use Rattle.timer.specs.Straight.{heldOf}
 use Rattle.state.specs.declared.Parts.{Parts}
 use Rattle.state.specs.Bank.{partsIn}
-use Rattle.state.specs.Packed.{cellsOf, floatsOf, StaysPacked}
+use Rattle.state.specs.Packed.{cellsOf, floatsOf, Packed}
 use Rattle.state.specs.Parts.{parts, clocksPut}
 use Rattle.time.specs.Clocks.{clockIn}
 use Rattle.time.specs.Resync.{clocksResynced}
@@ -116,8 +116,7 @@ resumeOf m s =
     cond (badMemory (m .ram) (m .sram) (m .gpio) (m .fb)) (left m BAD-MEMORY)
     (cond (goodSession s) (left (machineIn s) DONE) (left m BAD-SAVE))
 
--- what a resume leaves of the bank's words: such as those that were read, which are packed; or all as they were where
--- it is refused
-pub record Words (s : List ℕ) (n : ℕ) (l : List ℕ) (f : List Float) (l′ : List ℕ) (f′ : List Float) : Type 0 where
-  pub packed : n ≡ DONE → StaysPacked (bankIn s) (floatsIn s (othersIn s)) l′ f′
+-- what a resume leaves of the bank's words: packed ones, or all as they were where it is refused
+pub record Words (n : ℕ) (l : List ℕ) (f : List Float) (l′ : List ℕ) (f′ : List Float) : Type 0 where
+  pub packed : n ≡ DONE → Packed l′ f′
   pub still : n ≢ DONE → (l′ ≡ l) × (f′ ≡ f)

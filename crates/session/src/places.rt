@@ -1,12 +1,8 @@
-// Where sections begin, with n other words, k presses and e sound events. specs/Layout.antt has the same.
+// How long a session is, with n other words, k presses and e sound events, and each cell in it. specs/Layout.antt has
+// the same.
 ghost use mathlib.Core.Path.{_≡_};
 ghost use Prim.Native.Nat.{_≤_};
-ghost use Rattle.session.specs.Layout.{flagsAt, ramAt, sizeOf};
-
-// The number of other words stands here, and the own words behind it.
-pub(crate) const WORDS_AT: usize = 58;
-
-pub(crate) const OTHERS_AT: usize = 366;
+ghost use Rattle.session.specs.Layout.{sizeOf, widthAt};
 
 // The memories with their lengths.
 const MEMORIES: usize = map::RAM_SIZE
@@ -16,25 +12,75 @@ const MEMORIES: usize = map::RAM_SIZE
     + 16;
 
 // A session with nothing in its tables.
-pub(crate) const LEAST: usize = 1093 + MEMORIES;
+pub const LEAST: usize = 1093 + MEMORIES;
 
-pub(crate) fn flags_at(n: usize) -> usize
-    requires { ⌜ n ≤ 256 ⌝ }
-    ensures { λ r. ⌜ r ≡ flagsAt n ⌝ }
-{
-    OTHERS_AT + 8 * n
-}
-
-pub(crate) fn ram_at(n: usize, k: usize, e: usize) -> usize
-    requires { ⌜ (n ≤ 256) × ((k ≤ 64) × (e ≤ 256)) ⌝ }
-    ensures { λ r. ⌜ r ≡ ramAt n k e ⌝ }
-{
-    OTHERS_AT + 8 * n + 719 + 4 + 9 * k + 4 + 24 * e
-}
-
-pub(crate) fn size(n: usize, k: usize, e: usize) -> usize
-    requires { ⌜ (n ≤ 256) × ((k ≤ 64) × (e ≤ 256)) ⌝ }
+pub fn size(n: u16, k: u8, e: u16) -> usize
     ensures { λ r. ⌜ r ≡ sizeOf n k e ⌝ }
 {
-    ram_at(n, k, e) + MEMORIES
+    LEAST + 8 * (n as usize) + 9 * (k as usize) + 24 * (e as usize)
+}
+
+// 0 where a cell is not saved: the flash's mode, the timers' counts, the ring and the number of presses.
+const WIDTHS: [u8; 51] = [
+    0,
+    1,
+    1,
+    8,
+    1,
+    1,
+    1,
+    1,
+    1,
+    4,
+    1,
+    4,
+    1,
+    1,
+    1,
+    1,
+    1,
+    4,
+    4,
+    4,
+    4,
+    4,
+    4,
+    4,
+    8,
+    0,
+    0,
+    0,
+    0,
+    0,
+    0,
+    1,
+    1,
+    1,
+    1,
+    1,
+    1,
+    8,
+    4,
+    8,
+    1,
+    8,
+    4,
+    1,
+    0,
+    0,
+    0,
+    1,
+    1,
+    1,
+    1,
+];
+
+// How many bytes a cell takes; none past the last.
+pub fn width(i: usize) -> usize
+    ensures { λ r. ⌜ (r ≡ widthAt i) × (r ≤ 8) ⌝ }
+{
+    if i < 51 {
+        return WIDTHS[i] as usize;
+    }
+    0
 }

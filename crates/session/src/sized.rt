@@ -7,7 +7,7 @@ fn whole_slots(all: [u32; 76])
     ensures { λ _. ⌜ length all ≡ 76 ⌝ }
 {}
 
-pub(crate) fn slots_long(l: &[u32; 76])
+pub fn slots_long(l: &[u32; 76])
     ensures { λ _. ⌜ length (now (l .entry)) ≡ 76 ⌝ }
 {
     whole_slots(*l);
@@ -17,7 +17,7 @@ fn whole_words(all: [u32; 256])
     ensures { λ _. ⌜ length all ≡ 256 ⌝ }
 {}
 
-pub(crate) fn words_long(l: &[u32; 256])
+pub fn words_long(l: &[u32; 256])
     ensures { λ _. ⌜ length (now (l .entry)) ≡ 256 ⌝ }
 {
     whole_words(*l);
@@ -27,7 +27,7 @@ fn whole_bytes(all: [u8; 256])
     ensures { λ _. ⌜ length all ≡ 256 ⌝ }
 {}
 
-pub(crate) fn bytes_long(l: &[u8; 256])
+pub fn bytes_long(l: &[u8; 256])
     ensures { λ _. ⌜ length (now (l .entry)) ≡ 256 ⌝ }
 {
     whole_bytes(*l);
@@ -37,7 +37,7 @@ fn whole_events(all: [f64; 256])
     ensures { λ _. ⌜ length all ≡ 256 ⌝ }
 {}
 
-pub(crate) fn events_long(l: &[f64; 256])
+pub fn events_long(l: &[f64; 256])
     ensures { λ _. ⌜ length (now (l .entry)) ≡ 256 ⌝ }
 {
     whole_events(*l);
@@ -47,7 +47,7 @@ fn whole_starts(all: [f64; 64])
     ensures { λ _. ⌜ length all ≡ 64 ⌝ }
 {}
 
-pub(crate) fn starts_long(l: &[f64; 64])
+pub fn starts_long(l: &[f64; 64])
     ensures { λ _. ⌜ length (now (l .entry)) ≡ 64 ⌝ }
 {
     whole_starts(*l);
@@ -57,7 +57,7 @@ fn whole_codes(all: [u8; 64])
     ensures { λ _. ⌜ length all ≡ 64 ⌝ }
 {}
 
-pub(crate) fn codes_long(l: &[u8; 64])
+pub fn codes_long(l: &[u8; 64])
     ensures { λ _. ⌜ length (now (l .entry)) ≡ 64 ⌝ }
 {
     whole_codes(*l);

@@ -1,5 +1,5 @@
--- The same machine but for the timers' period counts and for the places that entries stand in: what a saved session
--- says, and what a save and a resume at once leave.
+-- The same machine but for the timers' period counts and for the places that entries stand in, of which a press that
+-- has expired has none: what a saved session says, and what a save and a resume at once leave.
 use Prim.Native.Nat.{ℕ, _<_}
 use mathlib.Core.Path.{_≡_}
 use mathlib.Core.List.{List}
@@ -44,7 +44,7 @@ pressTimes s = ofWaiting (s .presses .starts) nan s
 abbrev pub pressKeys : System → List ℕ
 pressKeys s = ofWaiting (s .presses .codes) 0 s
 
--- n is m but for period counts, and for the places of events and presses
+-- n is m but for period counts, for the places of events and presses, and for presses that have expired
 pub record CarriedOn (m n : Machine) : Type 0 where
   pub registers : n .system .registers ≡ m .system .registers
   pub rtc : n .system .rtc ≡ m .system .rtc

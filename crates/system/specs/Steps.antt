@@ -23,7 +23,7 @@ use Rattle.system.specs.Calls.{Moved, readOf, writeOf, advanceOf, nextOf
 use Rattle.system.specs.Calls.{liveOf, holdOf, pressOf, heldOf, countersOf, wipedOf}
 
 -- read and write: address, size, value; keys: the key, and whether it is down or its time; carryOn: saved and resumed
--- at once
+-- at once, which within the limits is never refused
 pub data Op : Type 0 where
   read : ℕ → ℕ → Op
   write : ℕ → ℕ → ℕ → Op

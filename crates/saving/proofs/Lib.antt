@@ -1,0 +1,5 @@
+pub mod Laid
+pub mod Copying
+pub mod Digits
+pub mod Tables
+pub mod Entire
