@@ -14,6 +14,20 @@ static __attribute__((noreturn)) void unreadable(const char *what) {
     exit(1);
 }
 
+// The list without the ends at which a line goes on; its length.
+static size_t unfold(void) {
+    char *to = list;
+    for (const char *from = list; *from != 0;) {
+        if (from[0] == '\\' && from[1] == '\n') {
+            from += 2;
+        } else {
+            *to++ = *from++;
+        }
+    }
+    *to = 0;
+    return (size_t)(to - list);
+}
+
 void list_read(const char *program) {
     size_t have = 0;
     ssize_t got = 1;
@@ -22,7 +36,9 @@ void list_read(const char *program) {
         have += got > 0 ? (size_t)got : 0;
     }
     name = program;
-    if (got != 0 || have == 0 || list[have - 1] != '\n' || strlen(list) != have) {
+    int is_text = got == 0 && strlen(list) == have;
+    size_t length = unfold();
+    if (!is_text || length == 0 || list[length - 1] != '\n') {
         printf("FAILED %s: the list is empty, too long, without its end or no text\n", name);
         exit(1);
     }

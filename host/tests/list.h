@@ -1,4 +1,5 @@
-// A list of what the Rust device did, on standard input: lines of words with one space between them.
+// A list of what the Rust device did, on standard input: lines of words with one space between them. A line that ends
+// with a backslash goes on in the next one.
 #ifndef LIST_H
 #define LIST_H
 

@@ -6,6 +6,8 @@
 pub mod answers;
 pub mod device;
 pub mod edges;
+pub mod ended;
+pub mod folded;
 pub mod full;
 pub mod generator;
 pub mod limits;

@@ -19,11 +19,13 @@ mod stage;
 mod starts;
 mod steps;
 
+use std::fs;
 use std::process::ExitCode;
-use std::{env, fs};
 
 use cases::{makings, Case};
 use common::device::*;
+use common::ended::ended;
+use common::folded::folded;
 use common::full::*;
 use counts::Counts;
 use stage::{Difference, Stage};
@@ -89,7 +91,7 @@ fn write_list(kept: &str) -> Result<(), String> {
             .map_err(|said| format!("{name}: {said}"))?;
         list += &replay::line(&case, &outcome, memories);
     }
-    print!("{list}");
+    print!("{}", folded(&list));
     Ok(())
 }
 
@@ -114,20 +116,5 @@ fn run(words: &[&str]) -> Option<Result<(), String>> {
 }
 
 fn main() -> ExitCode {
-    let arguments: Vec<String> = env::args().skip(1).collect();
-    let words: Vec<&str> = arguments.iter().map(String::as_str).collect();
-    match run(&words) {
-        Some(Ok(())) => ExitCode::SUCCESS,
-        Some(Err(said)) => {
-            println!("DIFFERENCE: {said}");
-            ExitCode::FAILURE
-        }
-        None => {
-            println!(
-                "usage: families | file SCRIPT KEPT | list KEPT | \
-                 seed SEED FIRST COUNT FAMILY KEPT"
-            );
-            ExitCode::from(2)
-        }
-    }
+    ended(run, "families | file SCRIPT KEPT | list KEPT | seed SEED FIRST COUNT FAMILY KEPT")
 }

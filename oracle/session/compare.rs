@@ -37,12 +37,14 @@ mod starts;
 mod steps;
 
 use std::collections::BTreeMap;
+use std::fs;
 use std::process::ExitCode;
-use std::{env, fs};
 
 use altered::{Alter, ALTERATIONS};
 use bytes::{read_answer, Script};
 use common::device::*;
+use common::ended::ended;
+use common::folded::folded;
 use common::full::*;
 use common::random::Random;
 use damage::Damages;
@@ -219,7 +221,7 @@ fn write_list() -> Result<(), String> {
             stage.run_digested(&pair).map_err(|said| format!("{name}: {said}"))?;
         list += &replay::line(&pair, &ran, memories);
     }
-    print!("{list}");
+    print!("{}", folded(&list));
     Ok(())
 }
 
@@ -241,17 +243,5 @@ fn run(words: &[&str]) -> Option<Result<(), String>> {
 }
 
 fn main() -> ExitCode {
-    let arguments: Vec<String> = env::args().skip(1).collect();
-    let words: Vec<&str> = arguments.iter().map(String::as_str).collect();
-    match run(&words) {
-        Some(Ok(())) => ExitCode::SUCCESS,
-        Some(Err(said)) => {
-            println!("DIFFERENCE: {said}");
-            ExitCode::FAILURE
-        }
-        None => {
-            println!("usage: families | list | altered SEED | seed SEED FIRST COUNT FAMILY KEPT");
-            ExitCode::from(2)
-        }
-    }
+    ended(run, "families | list | altered SEED | seed SEED FIRST COUNT FAMILY KEPT")
 }
