@@ -8,7 +8,7 @@ pub mod pace;
 pub mod sources;
 
 // Emulated time, game time, and how much faster game time goes.
-#[derive(Drop)]
+#[derive(Clone, Copy)]
 pub struct Times {
     pub now: f64,
     pub game: f64,
@@ -31,14 +31,14 @@ pub enum Paced {
 
 // What the RTC chip holds beside its registers: the ticks that were latched, the game time at which they were, and
 // what it put out. The ticks are the 64 bits of the Rust's i64.
-#[derive(Drop)]
+#[derive(Clone, Copy)]
 pub struct Latch {
     pub base: u64,
     pub since: f64,
     pub out: u32,
 }
 
-#[derive(Drop)]
+#[derive(Clone, Copy)]
 pub struct Rtc {
     pub regs: [u8; 256],
     pub latch: Latch,
@@ -51,7 +51,7 @@ pub enum Alarm {
 }
 
 // The SoC's clock: seconds signalled, the time of day that was set, and the game time at which it was.
-#[derive(Drop)]
+#[derive(Clone, Copy)]
 pub struct RtcIrq {
     pub fired: u64,
     pub base: u32,

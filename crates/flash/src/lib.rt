@@ -13,7 +13,7 @@ ghost use Rattle.flash.specs.Inner.{refusing, giving};
 ghost use Rattle.flash.specs.Flash.{transaction_begun, selected, transferred, made_in};
 
 // Whose rules hold: document 000's alone, or also those that are named for strict mode.
-#[derive(Drop)]
+#[derive(Clone, Copy)]
 pub enum Mode {
     Rust,
     Strict,
@@ -27,7 +27,7 @@ pub enum Refusal {
 
 // A transaction: its first four bytes, its position, and whether it has more than 260 bytes. The position is exact
 // through the header and then goes round modulo the array's length, so `long` is a mark of its own.
-#[derive(Drop)]
+#[derive(Clone, Copy)]
 pub struct Trans {
     pub cmd: u8,
     pub a1: u8,
@@ -38,7 +38,7 @@ pub struct Trans {
 }
 
 // What the chip holds beside the page's running AND.
-#[derive(Drop)]
+#[derive(Clone, Copy)]
 pub struct Chip {
     pub mode: Mode,
     pub cs: bool,
@@ -70,7 +70,7 @@ pub(crate) enum Kind {
 }
 
 // What a deselect does.
-#[derive(Drop)]
+#[derive(Clone, Copy)]
 pub(crate) enum Act {
     Nothing,
     Enable,
@@ -80,7 +80,7 @@ pub(crate) enum Act {
     EraseAll,
 }
 
-#[derive(Drop)]
+#[derive(Clone, Copy)]
 pub(crate) enum Block {
     Sector,
     Half,

@@ -11,7 +11,7 @@ ghost use Rattle.std.specs.Prelude.{◌≡◌};
 ghost use Rattle.keys.specs.Keys.{buttons, fresh_keys, fresh_buttons};
 
 // Which of the keys A, B and C are down.
-#[derive(Drop)]
+#[derive(Clone, Copy)]
 pub struct Held {
     pub a: bool,
     pub b: bool,
@@ -19,7 +19,7 @@ pub struct Held {
 }
 
 // Until when a quick tap of each stays held.
-#[derive(Drop)]
+#[derive(Clone, Copy)]
 pub struct Holds {
     pub a: f64,
     pub b: f64,
@@ -27,7 +27,7 @@ pub struct Holds {
 }
 
 // How many places hold presses; the live keys; the taps; and what was last driven, the Rust's gpio_applied[1].
-#[derive(Drop)]
+#[derive(Clone, Copy)]
 pub struct Keys {
     pub count: usize,
     pub live: Held,

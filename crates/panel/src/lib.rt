@@ -13,14 +13,14 @@ ghost use Rattle.panel.specs.Lcd.{fresh_panel};
 ghost use Rattle.panel.specs.Entries.{outcome, data_of, pixel, pixel_of, picture, picture_of};
 
 // A byte, or none: the Rust's Option<u8>.
-#[derive(Drop)]
+#[derive(Clone, Copy)]
 pub enum MaybeByte {
     Nothing,
     Byte(u8),
 }
 
 // First and last column, first and last row. They may lie off the glass, and in any order.
-#[derive(Drop)]
+#[derive(Clone, Copy)]
 pub struct Window {
     pub x0: u16,
     pub x1: u16,
@@ -29,7 +29,7 @@ pub struct Window {
 }
 
 // Where the next pixel goes, its first byte once that has come, and the frames so far.
-#[derive(Drop)]
+#[derive(Clone, Copy)]
 pub struct Pen {
     pub x: u16,
     pub y: u16,
@@ -38,7 +38,7 @@ pub struct Pen {
 }
 
 // The arguments are the first four data bytes of a command; the count of them stops at four.
-#[derive(Drop)]
+#[derive(Clone, Copy)]
 pub struct Panel {
     pub cmd: MaybeByte,
     pub args: [u8; 4],

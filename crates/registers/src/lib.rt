@@ -10,7 +10,7 @@ ghost use Rattle.registers.specs.Words.{removed_to, inserted_to, strides, end_fr
 ghost use Rattle.registers.specs.Words.{other_outcome, put_absent, other_spot, spot_of, word_in};
 ghost use Rattle.registers.specs.Words.{registers_of, fresh_registers, word_at};
 
-#[derive(Drop)]
+#[derive(Clone, Copy)]
 pub struct Registers {
     pub slots: [u32; 76],
     pub addresses: [u32; 256],

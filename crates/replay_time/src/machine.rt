@@ -6,14 +6,14 @@ use lines::{Answer, answered};
 use timer::{Queue, Timer, Tone};
 
 // The six timers, a field an array, since an array of structs can't be passed on.
-#[derive(Drop)]
+#[derive(Clone, Copy)]
 pub struct Bank {
     pub starts: [f64; 6],
     pub seen: [u64; 6],
     pub pending: [bool; 6],
 }
 
-#[derive(Drop)]
+#[derive(Clone, Copy)]
 pub struct Machine {
     pub time: Times,
     pub bank: Bank,

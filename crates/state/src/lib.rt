@@ -28,7 +28,7 @@ pub type Cells = [u64; CELLS];
 pub type Floats = [f64; FLOATS];
 
 // What time moves. `vsync` is the Rust's last_vsync, `converting` its adc_converting.
-#[derive(Drop)]
+#[derive(Clone, Copy)]
 pub struct Clocks {
     pub times: Times,
     pub timers: [Timer; 6],
@@ -38,7 +38,7 @@ pub struct Clocks {
 }
 
 // What the devices hold beside arrays.
-#[derive(Drop)]
+#[derive(Clone, Copy)]
 pub struct Devices {
     pub flash: Chip,
     pub panel: Panel,

@@ -15,7 +15,7 @@ use flash::Chip;
 use parse::{grow, is_empty, step_of};
 
 // The line so far: its bytes, as far as they can matter.
-#[derive(Drop)]
+#[derive(Clone, Copy)]
 pub enum Line {
     Empty,
     One(u8),
@@ -41,7 +41,7 @@ pub enum Output {
 }
 
 // Lines are numbered from 1. Once a line was bad the session is over.
-#[derive(Drop)]
+#[derive(Clone, Copy)]
 pub struct Session {
     pub chip: Chip,
     pub line: Line,

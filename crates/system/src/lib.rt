@@ -16,13 +16,13 @@ use state::Devices;
 use timer::{Event, Queue};
 
 // Scripted presses: when each starts and its key, in 64 places.
-#[derive(Drop)]
+#[derive(Clone, Copy)]
 pub struct Presses {
     pub starts: [f64; 64],
     pub codes: [u8; 64],
 }
 
-#[derive(Drop)]
+#[derive(Clone, Copy)]
 pub struct System {
     pub registers: Registers,
     pub rtc: [u8; 256],

@@ -6,7 +6,7 @@ ghost use Rattle.timer.specs.Timers.{cleared_of, written_of, advanced_of, resync
 pub mod events;
 pub mod sound;
 
-#[derive(Drop)]
+#[derive(Clone, Copy)]
 pub struct Timer {
     pub start: f64,
     pub seen: u64,
@@ -21,7 +21,7 @@ pub struct Written {
 }
 
 // Frequency in Hz (0 is off) and duty of the buzzer.
-#[derive(Drop)]
+#[derive(Clone, Copy)]
 pub struct Tone {
     pub frequency: f64,
     pub duty: f64,
@@ -47,14 +47,14 @@ pub struct Event {
 }
 
 // The place of the oldest event, and how many wait. Any value is a state: a count above 256 goes round.
-#[derive(Drop)]
+#[derive(Clone, Copy)]
 pub struct Ring {
     pub head: u8,
     pub count: usize,
 }
 
 // The waiting events: an event has one place in the three arrays, since an array of structs cannot be lent.
-#[derive(Drop)]
+#[derive(Clone, Copy)]
 pub struct Queue {
     pub onsets: [f64; 256],
     pub frequencies: [f64; 256],
