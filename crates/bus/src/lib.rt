@@ -3,6 +3,8 @@
 // The work is done over lent arrays: the registers, the memories, and the bank of crate state, which holds every
 // scalar of the devices. The functions take memories of any length: what lies past the end of one reads as 0 and is
 // not stored.
+#![tactic(auto)]
+
 mod chip;
 pub mod read;
 mod rtc;

@@ -2,6 +2,8 @@
 //
 // It has an archive of its own: with a second caller in the same archive the runner would not be compiled into the
 // entry, and each step would cost two to three times as much.
+#![tactic(auto)]
+
 ghost use Rattle.std.specs.Prelude.{◌≡◌};
 ghost use Rattle.state.specs.Bank.{parts_in};
 ghost use Rattle.state.specs.Packed.{Answered};

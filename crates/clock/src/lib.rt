@@ -1,6 +1,8 @@
 // Time and game time, and the devices that count them: the RTC chip, the time of day, the periodic sources and the
 // ADC. Their registers belong to the bus, which hands in the words that a function reads and stores those that it
 // gives back.
+#![tactic(auto)]
+
 pub mod chip;
 pub mod convert;
 pub mod day;

@@ -1,4 +1,6 @@
 // One entry of a script, a press or a step: what it does to the machine, and what it answers. 01, Scripts.
+#![tactic(auto)]
+
 pub mod act;
 pub mod replies;
 

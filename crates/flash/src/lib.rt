@@ -2,6 +2,8 @@
 //
 // The array is lent. `select` and `transfer` also take the page's running AND as lent memory beside a small struct of
 // scalars, so that a caller that steps often moves few bytes; `SpiFlash` has both in one value.
+#![tactic(auto)]
+
 mod array;
 mod buf;
 mod finish;

@@ -1,1 +1,3 @@
 // Theorems of saved sessions; no code.
+
+#![tactic(auto)]

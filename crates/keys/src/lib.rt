@@ -2,6 +2,8 @@
 //
 // A press is a time and a key's code at one place of two lent arrays; `Keys` is the rest of the state. Any value is a
 // state: a count above 64 counts as 64.
+#![tactic(auto)]
+
 pub mod down;
 pub mod edges;
 pub mod gpio;

@@ -1,4 +1,6 @@
 // Lists of steps: each step a line of 29 bytes, each answer a line of 54. See README.md beside src/.
+#![tactic(auto)]
+
 mod bytes;
 mod parse;
 mod text;

@@ -3,6 +3,8 @@
 // A unit is twelve arrays, of which a call is lent those that it can touch, and four memories. Any contents are taken.
 // host/live.c has these functions over structs, by the names of host/tg18.h; an array goes as its pointer, a slice as
 // pointer and length. Scripts are no part of this archive: see crates script and chain.
+#![tactic(auto)]
+
 pub mod access;
 pub mod buttons;
 pub mod looks;

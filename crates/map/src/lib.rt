@@ -7,6 +7,8 @@
 
 // ---- memories, and the screen that the framebuffer holds
 
+#![tactic(auto)]
+
 pub const FLASH_BASE: u32 = 0x2000_0000;
 
 pub const FLASH_SIZE: usize = 0x80_0000;

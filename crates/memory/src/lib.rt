@@ -2,6 +2,8 @@
 // `slow_write`, `is_mmio` and the shifting and masking of `mmio_read` and `mmio_write` of core/src/sys.rs.
 //
 // Every size is taken: to refuse one is the caller's matter.
+#![tactic(auto)]
+
 ghost use Rattle.std.specs.Prelude.{◌≡◌, ◌+◌, ◌*◌, ◌%◌, ◌^◌, ◌≤◌, length, get_or};
 ghost use Rattle.memory.specs.Places.{place_of};
 ghost use Rattle.memory.specs.Bytes.{loaded, stored_at};

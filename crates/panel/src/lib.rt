@@ -2,6 +2,8 @@
 //
 // What stands here refuses a framebuffer that has not 32,768 bytes. The functions of the modules take one of any
 // length: what lies past its end is not stored and reads as 0.
+#![tactic(auto)]
+
 pub mod args;
 pub mod colour;
 pub mod draw;

@@ -1,5 +1,7 @@
 // Whether a flash transaction is one that selects and bytes can leave. A saved session may hold no other: the chip's
 // position goes round, so that a range for each number would allow transactions that no list of bytes makes.
+#![tactic(auto)]
+
 ghost use Rattle.std.specs.Prelude.{◌+◌, ◌<◌, ◌≡◌, leb};
 ghost use Rattle.reach.specs.Reach.{header_ok, mark_ok, slot_ok, page_ok, reachable};
 

@@ -3,6 +3,8 @@
 //
 // The others stand in falling order of their addresses, and the free places, which hold zeros, behind them: so a word
 // is found by halves, and equal words are equal arrays.
+#![tactic(auto)]
+
 ghost use Rattle.std.specs.Prelude.{◌≡◌, ℕ, ◌+◌, ◌-◌, ◌≤◌, length, get_or, set};
 ghost use Rattle.registers.specs.Words.{own_at, own_with, unstored, halved, place};
 ghost use Rattle.registers.specs.Ports.{slot_of, index, named_words, timer_port, port_at, day_word};

@@ -1,4 +1,6 @@
 // Answers a list of steps for the whole bus: see README.md beside src/.
+#![tactic(auto)]
+
 mod answers;
 mod calls;
 mod look;

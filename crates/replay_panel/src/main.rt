@@ -1,4 +1,6 @@
 // Answers a list of steps for the panel: see README.md beside src/.
+#![tactic(auto)]
+
 mod framebuffer;
 mod look;
 mod put;

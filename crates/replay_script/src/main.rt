@@ -1,4 +1,6 @@
 // Answers a list that lays down scripts and runs them: see README.md beside src/.
+#![tactic(auto)]
+
 mod desk;
 mod memories;
 mod step;

@@ -1,4 +1,6 @@
 // Answers a list of steps for timers, sound, clocks and ADC: see README.md beside src/.
+#![tactic(auto)]
+
 mod advance;
 mod look;
 mod machine;

@@ -2,6 +2,8 @@
 // bytes are.
 //
 // The bytes are judged first, by themselves; what is then read cannot fail. So a refusal changes nothing.
+#![tactic(auto)]
+
 mod copies;
 mod counts;
 mod judge;

@@ -1,5 +1,7 @@
 // A unit's session written as bytes (W-201): a function for C, over what live calls are lent. Crate session says what
 // the bytes are.
+#![tactic(auto)]
+
 mod copies;
 mod numbers;
 mod others;

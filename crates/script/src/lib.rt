@@ -1,6 +1,8 @@
 // Scripts for hosts: the entry for C over the four memories of a unit. 01, Scripts.
 //
 // A Rattle caller whose memories have other lengths calls runner::loops::run_script: the same but for refusal 7.
+#![tactic(auto)]
+
 ghost use Rattle.std.specs.Prelude.{◌≡◌};
 ghost use Rattle.runner.specs.Script.{ended, bad_memory, script_of};
 

@@ -2,5 +2,7 @@
 // writes one, crate resuming judges and reads it, and crate keeping has the theorems.
 //
 // The bytes are sections in a fixed order, each after its count; docs/SESSIONS.md has them.
+#![tactic(auto)]
+
 pub mod places;
 pub mod sized;

@@ -1,5 +1,7 @@
 // Sequences of the data sheet, in strict mode. Its stdout was worked out by hand from the sheet's facts: see
 // README.md beside src/.
+#![tactic(auto)]
+
 fn main() {
     steps::talk::serve(flash::Mode::Strict, 0, 1);
 }

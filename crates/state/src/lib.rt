@@ -3,6 +3,8 @@
 // A part is taken out of the bank as a struct and put back by itself, so that a call moves what it needs and a host
 // can keep the state where it likes. Any numbers are a state: a flag is a cell that is not 0, a number of fewer bits
 // the cell modulo its width.
+#![tactic(auto)]
+
 pub mod chips;
 pub mod moments;
 mod numbers;

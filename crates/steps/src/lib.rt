@@ -2,6 +2,8 @@
 //
 // The input is taken byte by byte, so a line of any length takes no room. The page and the array are lent, as crate
 // flash has them.
+#![tactic(auto)]
+
 mod parse;
 pub mod talk;
 mod text;

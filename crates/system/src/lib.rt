@@ -3,6 +3,8 @@
 // Each call takes the state and gives the later one. What is lent is a memory of any length: what lies past its end
 // reads as 0 and is not stored. A caller that steps often uses the functions of crates bus and time, which these are
 // around, and wipe's reset and wipe_all, over lent arrays.
+#![tactic(auto)]
+
 pub mod access;
 pub mod buttons;
 pub mod look;

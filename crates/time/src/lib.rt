@@ -3,6 +3,8 @@
 //
 // The scalars are the bank's (crate state). Every word that is read or set here has storage of its own, so those words
 // alone are lent and not the table of the others.
+#![tactic(auto)]
+
 ghost use Rattle.std.specs.Prelude.{◌≡◌};
 ghost use Rattle.time.specs.Clocks.{clock_in};
 

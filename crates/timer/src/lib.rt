@@ -1,4 +1,6 @@
 // A timer by value. Its registers belong to the bus, which hands in the words that a function reads.
+#![tactic(auto)]
+
 ghost use Rattle.std.specs.Prelude.{◌≡◌};
 ghost use Rattle.timer.specs.Timers.{fresh_timer, period_of, sysclk_of, rate_of, elapsed_of, counter_of, control_of};
 ghost use Rattle.timer.specs.Timers.{cleared_of, written_of, advanced_of, resynced_of};

@@ -13,6 +13,7 @@ module _ {A : Type 0} (f : ℕ → A) where
 
   pub get_or_tabled : (n i : ℕ) (d : A) → i < n → get_or (tabled f n) i d ≡ f i
   unfolding tabled
+  get_or_tabled zero i d below = elim below [ ]
   get_or_tabled (suc n) i d below = by (λ less. get_or_tabled n i d less) (ltb i n) refl
     where
       by : (i < n → get_or (tabled f n) i d ≡ f i) → (b : Bool) → ltb i n ≡ b → get_or (tabled f n ++ (f n ∷ [])) i d ≡ f i

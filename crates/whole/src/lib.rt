@@ -1,4 +1,6 @@
 // The whole part of an f64, worked out from its bits, and the limits of times.
+#![tactic(auto)]
+
 ghost use Rattle.std.specs.Prelude.{◌≡◌};
 ghost use Rattle.std.specs.Float.Ieee.{to_signed};
 ghost use Rattle.whole.specs.Cut.{Cut, twos};
