@@ -135,8 +135,10 @@ module _ {s t : Screen} (r : Same s t) where
 pub lasting : {s t : Screen} (acts : List Act) → Same s t → Same (later s acts) (later t acts)
 unfolding later
 lasting [] r = r
-lasting (order c ∷ acts) r = lasting acts (keeps_order r c)
-lasting (input i ∷ acts) r = lasting acts (keeps_input r i)
+lasting {s = s} {t = t} (order c ∷ acts) r =
+    lasting {s = screen_after_command s c} {t = screen_after_command t c} acts (keeps_order r c)
+lasting {s = s} {t = t} (input i ∷ acts) r =
+    lasting {s = screen_after_input s i} {t = screen_after_input t i} acts (keeps_input r i)
 
 pub heals : EndsDamage
 heals s after l one two acts e = lasting acts (at_end s after one two l e)

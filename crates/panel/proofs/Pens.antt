@@ -6,7 +6,7 @@ use Rattle.panel.specs.declared.Window.{Window}
 use Rattle.panel.specs.declared.Pen.{Pen}
 use Rattle.panel.specs.Lcd.{pen_at, with_pen, counts, frame_counted, put, next_pen, penned, inked, code_of}
 use Rattle.panel.specs.Entries.{Screen, screen}
-use Rattle.panel.specs.Runs.{Input, byte, copy, feed}
+use Rattle.panel.specs.Runs.{screen_after_input, Input, byte, copy, feed}
 use Rattle.panel.proofs.Cases.{fed_pixel, painted_pixel}
 
 -- a run of inputs, over the pen and the pixels alone
@@ -26,8 +26,8 @@ pub feed_pixels : (s : Screen) (is : List Input) → code_of s.panel.cmd ≡ 0x2
     (ink s.panel.window s.panel.pen s.fb is)
 unfolding feed pen_after ink frame_counted
 feed_pixels s [] e = refl
-feed_pixels s (byte b ∷ is) e = rw (fed_pixel s.panel b e, painted_pixel s.panel b s.fb e) (feed_pixels _ is e)
-feed_pixels s (copy m ∷ is) e = feed_pixels _ is e
+feed_pixels s (byte b ∷ is) e = rw (fed_pixel s.panel b e, painted_pixel s.panel b s.fb e) (feed_pixels (screen_after_input s (byte b)) is e)
+feed_pixels s (copy m ∷ is) e = feed_pixels (screen_after_input s (copy m)) is e
 
 -- the next position, field by field
 module _ (w : Window) (x y : ℕ) where

@@ -1,0 +1,5 @@
+use Rattle.panel.proofs.Cases.{counts_frame}
+use Rattle.panel.proofs.lcd.count_frame.Goals as goal
+
+pub returns : goal.returns
+returns c = counts_frame _ _ c.wrapping_add_u64.ensures.value
