@@ -26,7 +26,8 @@ pub feed_pixels : (s : Screen) (is : List Input) → code_of s.panel.cmd ≡ 0x2
     (ink s.panel.window s.panel.pen s.fb is)
 unfolding feed pen_after ink frame_counted
 feed_pixels s [] e = refl
-feed_pixels s (byte b ∷ is) e = rw (fed_pixel s.panel b e, painted_pixel s.panel b s.fb e) (feed_pixels (screen_after_input s (byte b)) is e)
+feed_pixels s (byte b ∷ is) e = rw (fed_pixel s.panel b e, painted_pixel s.panel b s.fb e) (feed_pixels
+    (screen (with_pen s.panel (penned s.panel.window s.panel.pen b)) (inked s.fb s.panel.pen b)) is e)
 feed_pixels s (copy m ∷ is) e = feed_pixels (screen_after_input s (copy m)) is e
 
 -- the next position, field by field

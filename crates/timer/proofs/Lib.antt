@@ -4,8 +4,6 @@ pub mod Limits
 pub mod Tones
 pub mod Judged
 pub mod Numbers
-pub mod Arrays
-pub mod Shared
 pub mod Laid
 pub mod Places
 pub mod Waiting

@@ -1,0 +1,12 @@
+use Rattle.std.proofs.Common.{length-take-le, sym}
+use Rattle.bus.proofs.Parts.{part_le, send_part}
+use Rattle.bus.proofs.chip.flash_xfer.Goals as goal
+
+pub slice_bounds-transfer-end : goal.slice_bounds-transfer-end
+slice_bounds-transfer-end c = sym (length-take-le _ _ (rw c.part-n.ensures (part_le _)))
+
+pub returns : goal.returns
+returns c =
+    let a = c.args in
+    send_part a.chip a.page.now a.ram.now c.part-n.ensures c.transfer-r.result a.byte
+    c.transfer-r.ensures

@@ -1,0 +1,26 @@
+use Rattle.state.specs.Bank.{parts_in}
+use Rattle.system.specs.Bank.{machine_of}
+use Rattle.runner.specs.Script.{continued}
+use Rattle.runner.proofs.Runs.{unchanged, script_refused, script_goes}
+use Rattle.chain.proofs.tg18_lent_continue_script.Goals as goal
+
+pub returns-then-bad_memory : goal.returns-then-bad_memory
+returns-then-bad_memory c =
+    let a = c.args in
+    let m = machine_of a.slots.now a.addresses.now a.values.now a.rtc.now a.page.now a.onsets.now a.frequencies.now a.duties.now a.starts.now a.codes.now (parts_in a.cells.now a.floats.now) a.ram.now a.sram.now a.gpio.now a.fb.now in (
+      script_refused m a.script.now a.out.now c.bad_memory.ensures c.if-bad_memory.true,
+      unchanged _ _
+          _,
+    )
+
+pub returns : goal.returns
+returns c =
+    let a = c.args in
+    let m = machine_of a.slots.now a.addresses.now a.values.now a.rtc.now a.page.now a.onsets.now a.frequencies.now a.duties.now a.starts.now a.codes.now (parts_in a.cells.now a.floats.now) a.ram.now a.sram.now a.gpio.now a.fb.now in
+    let w = c.continue_script.new in
+    let m₁ = machine_of w.0 w.1.0 w.1.1.0 w.1.1.1.0 w.1.1.1.1.0 w.1.1.1.1.1.0 w.1.1.1.1.1.1.0 w.1.1.1.1.1.1.1.0 w.1.1.1.1.1.1.1.1.0 w.1.1.1.1.1.1.1.1.1.0
+    (parts_in w.1.1.1.1.1.1.1.1.1.1.0 w.1.1.1.1.1.1.1.1.1.1.1.0) w.1.1.1.1.1.1.1.1.1.1.1.1.0 w.1.1.1.1.1.1.1.1.1.1.1.1.1.0 w.1.1.1.1.1.1.1.1.1.1.1.1.1.1.0 w.1.1.1.1.1.1.1.1.1.1.1.1.1.1.1.0 in (
+      script_goes m a.script.now a.out.now c.bad_memory.ensures {x = continued c.continue_script.result m₁ w.1.1.1.1.1.1.1.1.1.1.1.1.1.1.1.1.1.0} c.if-bad_memory.left
+          (c.continue_script.ensures.0),
+      c.continue_script.ensures.1,
+    )

@@ -1,0 +1,48 @@
+use Rattle.std.proofs.Common.{arith}
+use Rattle.resuming.proofs.Entire.{read_is, bank_is}
+use Rattle.resuming.proofs.units.read.Goals as goal
+
+-- src/units.rt:51:9
+pub counts_of-has-requires : goal.counts_of-has-requires
+counts_of-has-requires c = c.requires.0
+
+-- src/units.rt:55:5
+pub read_slots-requires : goal.read_slots-requires
+read_slots-requires c = omega (arith, c.Counts_of.ensures.sized.0)
+
+-- src/units.rt:56:5
+pub read_others-requires : goal.read_others-requires
+read_others-requires c =
+    (omega (arith, c.Counts_of.ensures.sized.0), c.Counts_of.ensures.sized.1.0)
+
+-- src/units.rt:57:5
+pub read_pages-requires : goal.read_pages-requires
+read_pages-requires c =
+    (omega (arith, c.Counts_of.ensures.sized.0), c.Counts_of.ensures.sized.1.0)
+
+-- src/units.rt:58:5
+pub read_tables-requires : goal.read_tables-requires
+read_tables-requires c =
+    c.Counts_of.ensures.sized
+
+-- src/units.rt:59:5
+pub read_bank-requires : goal.read_bank-requires
+read_bank-requires c =
+    (omega (arith, c.Counts_of.ensures.sized.0), c.Counts_of.ensures.sized.1.0)
+
+-- src/units.rt:61:38
+pub ram_at-requires : goal.ram_at-requires
+ram_at-requires c =
+    c.Counts_of.ensures.sized.1
+
+-- src/units.rt:61:5
+pub read_memories-requires : goal.read_memories-requires
+read_memories-requires c =
+    (c.requires.1, omega (arith, c.ram_at.ensures, c.Counts_of.ensures.sized.0))
+
+-- src/units.rt:24:1
+pub returns : goal.returns
+returns c = (
+  read_is _ c.Counts_of.ensures c.read_slots.ensures c.read_others.ensures c.read_pages.ensures c.read_tables.ensures c.read_bank.ensures c.put_counts.ensures c.ram_at.ensures c.read_memories.ensures c.resync.ensures.0,
+  bank_is _ c.Counts_of.ensures c.requires.0 c.read_bank.ensures c.put_counts.ensures c.resync.ensures.1,
+)

@@ -1,0 +1,6 @@
+use Rattle.state.specs.Bank.{chip_in}
+use Rattle.state.proofs.chips.writes_of.Goals as goal
+
+pub returns : goal.returns
+unfolding chip_in
+returns c = cc

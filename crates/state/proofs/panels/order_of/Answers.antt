@@ -1,0 +1,6 @@
+use Rattle.state.specs.Bank.{panel_in}
+use Rattle.state.proofs.panels.order_of.Goals as goal
+
+pub returns : goal.returns
+unfolding panel_in
+returns c = c.maybe_of.ensures

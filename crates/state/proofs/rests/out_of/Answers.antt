@@ -1,0 +1,6 @@
+use Rattle.state.specs.Bank.{latch_in}
+use Rattle.state.proofs.rests.out_of.Goals as goal
+
+pub returns : goal.returns
+unfolding latch_in
+returns c = c.low.ensures

@@ -1,0 +1,4 @@
+use Rattle.steps.proofs.longer.Goals as goal
+
+pub returns : goal.returns
+returns c = rw c.grow.ensures
