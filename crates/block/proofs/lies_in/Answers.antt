@@ -9,4 +9,4 @@ returns-then-addr-first c = rw (lt-leb _ _ c.if-addr-first.true)
 
 pub returns : goal.returns
 unfolding lies_in
-returns c = rw (le-leb _ _ c.if-addr-first.false, ← c.fits-2.ensures, ← c.fits3.ensures)
+returns c = rw (le-leb _ _ c.if-addr-first.false, ← c.fits.ensures, ← c.fits-2.ensures)

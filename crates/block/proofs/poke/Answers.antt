@@ -24,9 +24,9 @@ loop-i-preserved c =
     let m : l.i < length a.bytes.now = omega arith in (
       i.0,
       omega arith,
-      c.poke8.auto.0 ∙ i.2,
-      c.poke8.auto.1.0 ∙ i.3,
-      c.poke8.auto.1.1.0 ∙ i.4,
+      c.poke8.auto.ram ∙ i.2,
+      c.poke8.auto.sram ∙ i.3,
+      c.poke8.auto.gpio ∙ i.4,
       lay_step (plain l.ram l.sram l.gpio) a.addr l.i
           a.bytes.now m c.along.ensures c.poke8.ensures ∙ i.5,
     )

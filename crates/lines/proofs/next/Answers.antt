@@ -14,5 +14,5 @@ returns c =
       count = read.result;
       line = read.new.1.0;
       stands = rw (le-ltb _ _ c.if-count-lt29.false)
-          (ap Line c.step_of_lem.ensures);
+          (ap Line c.step_of.ensures);
     }

@@ -32,7 +32,7 @@ returns-in-RtcReady c =
 pub returns-in-RtcOut : goal.returns-in-RtcOut
 unfolding latch_in
 returns-in-RtcOut c =
-    rw (c.in-RtcOut.is, c.out_of_lem.ensures)
+    rw (c.in-RtcOut.is, c.out_of.ensures)
 
 pub returns-in-FlashStatus : goal.returns-in-FlashStatus
 returns-in-FlashStatus c =

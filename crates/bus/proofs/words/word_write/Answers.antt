@@ -44,7 +44,7 @@ pub returns-in-LcdStatus : goal.returns-in-LcdStatus
 returns-in-LcdStatus c =
     let a = c.args in
     let x = parts_in a.cells.now a.floats.now in
-    let p = c.Store_word.ensures in (
+    let p = c.store_word.ensures in (
       word_lcd a.slots.now x (clock_in a.sram.now) a.full a.s a.old a.new a.part
           c.requires.0 p.1 c.in-LcdStatus.is p.0,
       rest_none (quiet p.1),

@@ -85,8 +85,8 @@ pub returns-in-Shows : goal.returns-in-Shows
 returns-in-Shows c = (
   port_holds _ _ _ _ _ _ (Shows _) c.requires
       (port_slot _ c.requires ∙ sym c.port_at-port.ensures ∙ c.in-Shows.is) tt
-      c.Store_word.ensures,
-  rest_none (quiet c.Store_word.ensures.1),
+      c.store_word.ensures,
+  rest_none (quiet c.store_word.ensures.1),
 )
 
 pub returns-in-Holds : goal.returns-in-Holds

@@ -25,7 +25,7 @@ pub returns : goal.returns
 unfolding good_tables
 returns c =
     rw (
-      c.Good_others.ensures,
+      c.good_others.ensures,
       c.good_presses.ensures,
       c.good_events.ensures,
       c.flags_at.ensures,

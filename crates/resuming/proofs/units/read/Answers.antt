@@ -8,41 +8,41 @@ counts_of-has-requires c = c.requires.0
 
 -- src/units.rt:55:5
 pub read_slots-requires : goal.read_slots-requires
-read_slots-requires c = omega (arith, c.Counts_of.ensures.sized.0)
+read_slots-requires c = omega (arith, c.counts_of-has.ensures.sized.0)
 
 -- src/units.rt:56:5
 pub read_others-requires : goal.read_others-requires
 read_others-requires c =
-    (omega (arith, c.Counts_of.ensures.sized.0), c.Counts_of.ensures.sized.1.0)
+    (omega (arith, c.counts_of-has.ensures.sized.0), c.counts_of-has.ensures.sized.1.0)
 
 -- src/units.rt:57:5
 pub read_pages-requires : goal.read_pages-requires
 read_pages-requires c =
-    (omega (arith, c.Counts_of.ensures.sized.0), c.Counts_of.ensures.sized.1.0)
+    (omega (arith, c.counts_of-has.ensures.sized.0), c.counts_of-has.ensures.sized.1.0)
 
 -- src/units.rt:58:5
 pub read_tables-requires : goal.read_tables-requires
 read_tables-requires c =
-    c.Counts_of.ensures.sized
+    c.counts_of-has.ensures.sized
 
 -- src/units.rt:59:5
 pub read_bank-requires : goal.read_bank-requires
 read_bank-requires c =
-    (omega (arith, c.Counts_of.ensures.sized.0), c.Counts_of.ensures.sized.1.0)
+    (omega (arith, c.counts_of-has.ensures.sized.0), c.counts_of-has.ensures.sized.1.0)
 
 -- src/units.rt:61:38
 pub ram_at-requires : goal.ram_at-requires
 ram_at-requires c =
-    c.Counts_of.ensures.sized.1
+    c.counts_of-has.ensures.sized.1
 
 -- src/units.rt:61:5
 pub read_memories-requires : goal.read_memories-requires
 read_memories-requires c =
-    (c.requires.1, omega (arith, c.ram_at.ensures, c.Counts_of.ensures.sized.0))
+    (c.requires.1, omega (arith, c.ram_at.ensures, c.counts_of-has.ensures.sized.0))
 
 -- src/units.rt:24:1
 pub returns : goal.returns
 returns c = (
-  read_is _ c.Counts_of.ensures c.read_slots.ensures c.read_others.ensures c.read_pages.ensures c.read_tables.ensures c.read_bank.ensures c.put_counts.ensures c.ram_at.ensures c.read_memories.ensures c.resync.ensures.0,
-  bank_is _ c.Counts_of.ensures c.requires.0 c.read_bank.ensures c.put_counts.ensures c.resync.ensures.1,
+  read_is _ c.counts_of-has.ensures c.read_slots.ensures c.read_others.ensures c.read_pages.ensures c.read_tables.ensures c.read_bank.ensures c.put_counts.ensures c.ram_at.ensures c.read_memories.ensures c.resync.ensures.0,
+  bank_is _ c.counts_of-has.ensures c.requires.0 c.read_bank.ensures c.put_counts.ensures c.resync.ensures.1,
 )

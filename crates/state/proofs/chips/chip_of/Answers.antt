@@ -5,7 +5,7 @@ pub returns : goal.returns
 unfolding chip_in
 returns c =
     rw (
-      c.Mode_of.ensures,
+      c.mode_of-mode.ensures,
       c.byte.ensures,
       c.byte-2.ensures,
       c.byte-3.ensures,

@@ -24,7 +24,7 @@ pub returns : goal.returns
 returns c =
     let at_finish = c.finish-fed in
     let at_spell = c.spell-put in
-    let at_last_line = c.last_Line in
+    let at_last_line = c.last_line-whole in
     let at_if1 = c.if-s in
     let t = world_output at_finish.result at_finish.new.1.0 at_finish.new.1.1.0 in
     let p = chain at_spell.ensures at_last_line.ensures in
