@@ -7,8 +7,8 @@ unfolding good_cells
 returns c =
     rw (
       c.in_ranges.ensures,
+      c.come.ensures,
       c.come-2.ensures,
       c.come-3.ensures,
-      c.come-4.ensures,
       c.come-4.ensures,
     )

@@ -22,7 +22,7 @@ pub loop-i-preserved : goal.loop-i-preserved
 loop-i-preserved c = (
   omega arith,
   (
-    fills_on c.loop-i.invariant.1.0 c.words_long-2.ensures c.loop-i-test.true c.place-in-loop-i.ensures,
+    fills_on c.loop-i.invariant.1.0 c.words_long.ensures c.loop-i-test.true c.place.ensures,
     fills_on c.loop-i.invariant.1.1 c.words_long-2.ensures c.loop-i-test.true c.place-in-loop-i.ensures,
   ),
 )

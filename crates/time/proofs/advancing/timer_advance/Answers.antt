@@ -13,7 +13,7 @@ pub returns : goal.returns
 returns c =
     let a = c.args in (
       timer_stepped a.slots.now a.cells.now a.floats.now a.n a.time a.clock
-          c.own_reg-control.ensures c.own_reg-control.ensures c.timer_of-t.ensures c.advance-next.ensures
+          c.own_reg-control.ensures c.own_reg-reload.ensures c.timer_of-t.ensures c.advance-next.ensures
           c.put_timer.ensures.parts,
       c.put_timer.ensures.packed,
     )
