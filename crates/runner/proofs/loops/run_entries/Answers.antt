@@ -44,7 +44,7 @@ slice_bounds-act-end c =
       arith,
       c.loop-left.inv.2,
       c.loop-left.inv.7,
-      c.loop-left-test.taken,
+      c.loop-left-test.true,
       c.pre.3,
       c.run_presses.kept.1.1.1.1.1.1.0,
     )
@@ -56,7 +56,7 @@ slice_bounds-act-end-in-loop-left c =
       arith,
       c.loop-left.inv.2,
       c.loop-left.inv.7,
-      c.loop-left-test.taken,
+      c.loop-left-test.true,
       c.pre.3,
       c.run_presses.kept.1.1.1.1.1.1.0,
     ) in
@@ -64,22 +64,22 @@ slice_bounds-act-end-in-loop-left c =
 
 pub overflow_add-from-in-loop-left : goal.overflow_add-from-in-loop-left
 overflow_add-from-in-loop-left c =
-    omega (arith, c.loop-left.inv.1, c.loop-left-test.taken, c.pre.0, c.pre.1)
+    omega (arith, c.loop-left.inv.1, c.loop-left-test.true, c.pre.0, c.pre.1)
 
 pub overflow_sub-left : goal.overflow_sub-left
 overflow_sub-left c =
-    omega (arith, c.loop-left-test.taken)
+    omega (arith, c.loop-left-test.true)
 
 pub loop-left-smaller : goal.loop-left-smaller
 loop-left-smaller c =
-    omega (arith, c.loop-left-test.taken)
+    omega (arith, c.loop-left-test.true)
 
 pub loop-left-preserved : goal.loop-left-preserved
 loop-left-preserved c =
     let a = c.args in
     let l = c.loop-left in
     let i = c.loop-left.inv in
-    let t = c.loop-left-test.taken in
+    let t = c.loop-left-test.true in
     let e = c.step_at-e.ensures in
     let y = c.act.auto.1.1.1.1.1.1.1.1.1.1.1.1 in
     let m = machine_of l.slots l.addresses l.values l.rtc l.page l.onsets l.frequencies l.duties
