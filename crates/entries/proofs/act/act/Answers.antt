@@ -31,7 +31,7 @@ returns-in-2 c =
     a.sram.now a.gpio.now a.fb.now in
     let i : x ≡ parts_of m.system = refl in
     let w = c.write-written.new in
-    let y = parts_in w.1.1.1.1.1.1.1.1.0 w.1.1.1.1.1.1.1.1.1.0 in
+    let y = parts_in w.addresses.1.1.1.1.1.1.1.0 w.1.1.1.1.1.1.1.1.1.0 in
     let m₁ = machine_of w.0 w.1.0 w.1.1.0 w.1.1.1.0 w.1.1.1.1.0 w.1.1.1.1.1.0
     w.1.1.1.1.1.1.0 w.1.1.1.1.1.1.1.0 a.starts.now a.codes.now y
     w.1.1.1.1.1.1.1.1.1.1.0 w.1.1.1.1.1.1.1.1.1.1.1.0
@@ -190,7 +190,7 @@ returns-in-12 c =
     a.onsets.now a.frequencies.now a.duties.now a.starts.now a.codes.now x a.ram.now
     a.sram.now a.gpio.now a.fb.now in
     let w = c.wipe_all.new in
-    let m₁ = machine_of w.0 w.1.0 w.1.1.0 w.1.1.1.0 w.1.1.1.1.0 w.1.1.1.1.1.0
+    let m₁ = machine_of w.slots w.addresses.0 w.1.1.0 w.1.1.1.0 w.1.1.1.1.0 w.1.1.1.1.1.0
     w.1.1.1.1.1.1.0 w.1.1.1.1.1.1.1.0 w.1.1.1.1.1.1.1.1.0
     w.1.1.1.1.1.1.1.1.1.0
     (parts_in w.1.1.1.1.1.1.1.1.1.1.0 w.1.1.1.1.1.1.1.1.1.1.1.0)
@@ -207,7 +207,7 @@ returns-in_default c =
       not_laid (machine_of a.slots.now a.addresses.now a.values.now a.rtc.now a.page.now
           a.onsets.now a.frequencies.now a.duties.now a.starts.now a.codes.now
           (parts_in a.cells.now a.floats.now) a.ram.now a.sram.now a.gpio.now a.fb.now)
-          a.e a.out.now a.to _ c.in_default.rest
+          a.e a.out.now a.to _ c.in_default.in_default-own.rest
           c.refused-in_default.ensures c.lay-in_default.ensures,
       (λ k. k),
     )
