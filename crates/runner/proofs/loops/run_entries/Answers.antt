@@ -46,7 +46,7 @@ slice_bounds-act-end c =
       c.loop-left.inv.7,
       c.loop-left-test.true,
       c.pre.3,
-      c.run_presses.kept.1.1.1.1.1.1.0,
+      c.run_presses.auto.1.1.1.1.1.1.0,
     )
 
 pub slice_bounds-act-end-in-loop-left : goal.slice_bounds-act-end-in-loop-left
@@ -58,7 +58,7 @@ slice_bounds-act-end-in-loop-left c =
       c.loop-left.inv.7,
       c.loop-left-test.true,
       c.pre.3,
-      c.run_presses.kept.1.1.1.1.1.1.0,
+      c.run_presses.auto.1.1.1.1.1.1.0,
     ) in
     sym (length-take-le (l.to + answer_bytes) l.out room)
 
@@ -98,7 +98,7 @@ loop-left-preserved c =
       i.7,
       t,
       c.pre.3,
-      c.run_presses.kept.1.1.1.1.1.1.0,
+      c.run_presses.auto.1.1.1.1.1.1.0,
     ) in (
       omega (arith, t, i.0),
       omega (arith, t, i.1),
