@@ -20,7 +20,7 @@ returns c =
     let w = c.continue_script.new in
     let m₁ = machine_of w.0 w.1.0 w.1.1.0 w.1.1.1.0 w.1.1.1.1.0 w.1.1.1.1.1.0 w.1.1.1.1.1.1.0 w.1.1.1.1.1.1.1.0 w.1.1.1.1.1.1.1.1.0 w.1.1.1.1.1.1.1.1.1.0
     (parts_in w.1.1.1.1.1.1.1.1.1.1.0 w.1.1.1.1.1.1.1.1.1.1.1.0) w.1.1.1.1.1.1.1.1.1.1.1.1.0 w.1.1.1.1.1.1.1.1.1.1.1.1.1.0 w.1.1.1.1.1.1.1.1.1.1.1.1.1.1.0 w.1.1.1.1.1.1.1.1.1.1.1.1.1.1.1.0 in (
-      script_goes m a.script.now a.out.now c.bad_memory.ensures {x = continued c.continue_script.result m₁ w.1.1.1.1.1.1.1.1.1.1.1.1.1.1.1.1.1.0} c.if-bad_memory.left
+      script_goes m a.script.now a.out.now c.bad_memory.ensures {x = continued c.continue_script.result m₁ w.1.1.1.1.1.1.1.1.1.1.1.1.1.1.1.1.1.0} c.if-bad_memory.false
           (c.continue_script.ensures.0),
       c.continue_script.ensures.1,
     )

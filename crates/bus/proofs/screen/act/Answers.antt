@@ -45,7 +45,7 @@ returns-in_default c =
     let a = c.args in
     let r = registers_of a.slots.now a.addresses.now a.values.now in
     let s = screen (panel_in a.cells.now) a.fb.now in (
-      act_none r a.ram.now a.sram.now a.gpio.now s a.val c.in_default.rest.0.0.1
-          c.in_default.rest.0.1 c.in_default.rest.1,
+      act_none r a.ram.now a.sram.now a.gpio.now s a.val c.in_default.in_default-own.rest.0.0.1
+          c.in_default.in_default-own.rest.0.1 c.in_default.in_default-own.rest.1,
       panel_same a.cells.now,
     )

@@ -1,3 +1,4 @@
+use Rattle.std.proofs.Common.{not, ap}
 use Rattle.bus.proofs.BankedWords.{quiet, rest_none}
 use Rattle.bus.proofs.BankedWrites.{write_ram, write_sram, write_gpio, write_size, write_register, write_stray}
 use Rattle.bus.proofs.write.slow_write.Goals as goal
@@ -26,27 +27,27 @@ returns-in-Gpio c = (
 pub returns-then-not-good_size : goal.returns-then-not-good_size
 returns-then-not-good_size c = (
   write_size _ _ _ _ _ _ _ _ _ _ _ _ c.locate-place.ensures c.good_size.ensures
-      c.if-not-good_size.true c.refused.ensures,
+      (ap not c.if-not-good_size.true) c.refused.ensures,
   rest_none (quiet c.refused.ensures),
 )
 
 pub returns-in-Register : goal.returns-in-Register
 returns-in-Register c = (
   write_register _ _ _ _ _ _ _ _ _ _ _ _ c.locate-place.ensures c.good_size.ensures
-      c.if-not-good_size.left c.in-Register.is c.mmio_write.ensures.0,
+      (ap not c.if-not-good_size.false) c.in-Register.is c.mmio_write.ensures.0,
   c.mmio_write.ensures.1,
 )
 
 pub returns-then-not-good_size-2 : goal.returns-then-not-good_size-2
 returns-then-not-good_size-2 c = (
   write_size _ _ _ _ _ _ _ _ _ _ _ _ c.locate-place.ensures c.good_size-in-Stray.ensures
-      c.if-not-good_size-2.true c.refused-then-not-good_size-2.ensures,
+      (ap not c.if-not-good_size-2.true) c.refused-then-not-good_size-2.ensures,
   rest_none (quiet c.refused-then-not-good_size-2.ensures),
 )
 
 pub returns-in-Stray : goal.returns-in-Stray
 returns-in-Stray c = (
   write_stray _ _ _ _ _ _ _ _ _ _ _ _ c.locate-place.ensures c.good_size-in-Stray.ensures
-      c.if-not-good_size-2.false c.in-Stray.is c.refused-in-Stray.ensures,
+      (ap not c.if-not-good_size-2.false) c.in-Stray.is c.refused-in-Stray.ensures,
   rest_none (quiet c.refused-in-Stray.ensures),
 )

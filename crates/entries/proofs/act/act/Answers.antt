@@ -31,11 +31,11 @@ returns-in-2 c =
     a.sram.now a.gpio.now a.fb.now in
     let i : x ≡ parts_of m.system = refl in
     let w = c.write-written.new in
-    let y = parts_in w.1.1.1.1.1.1.1.1.0 w.1.1.1.1.1.1.1.1.1.0 in
-    let m₁ = machine_of w.0 w.1.0 w.1.1.0 w.1.1.1.0 w.1.1.1.1.0 w.1.1.1.1.1.0
-    w.1.1.1.1.1.1.0 w.1.1.1.1.1.1.1.0 a.starts.now a.codes.now y
-    w.1.1.1.1.1.1.1.1.1.1.0 w.1.1.1.1.1.1.1.1.1.1.1.0
-    w.1.1.1.1.1.1.1.1.1.1.1.1.0 w.1.1.1.1.1.1.1.1.1.1.1.1.1.0 in (
+    let y = parts_in w.cells w.floats in
+    let m₁ = machine_of w.slots w.addresses w.values w.rtc w.page w.onsets
+    w.frequencies w.duties a.starts.now a.codes.now y
+    w.ram w.sram
+    w.gpio w.fb in (
       answer_laid_lem m a.e a.out.now a.to 2 {m₁ = m₁} c.in-2.is refl (turn_write m a.e
           c.in-2.is {m₁ = m₁} (write_done m a.e.address a.e.size (a.e.value % 2 ^ 32)
           {r = m₁.system.registers} {rtc = m₁.system.rtc} {page = m₁.system.page} {ram = m₁.ram}
@@ -176,11 +176,11 @@ returns-in-11 c =
 
 pub shape_of-ram-in-12 : goal.shape_of-ram-in-12
 shape_of-ram-in-12 c =
-    c.wipe_all.kept.1.1.1.1.1.1.1.1.1.1.1.1.0
+    c.wipe_all.auto.ram
 
 pub shape_of-sram-in-12 : goal.shape_of-sram-in-12
 shape_of-sram-in-12 c =
-    c.wipe_all.kept.1.1.1.1.1.1.1.1.1.1.1.1.1.0
+    c.wipe_all.auto.sram
 
 pub returns-in-12 : goal.returns-in-12
 returns-in-12 c =
@@ -190,12 +190,12 @@ returns-in-12 c =
     a.onsets.now a.frequencies.now a.duties.now a.starts.now a.codes.now x a.ram.now
     a.sram.now a.gpio.now a.fb.now in
     let w = c.wipe_all.new in
-    let m₁ = machine_of w.0 w.1.0 w.1.1.0 w.1.1.1.0 w.1.1.1.1.0 w.1.1.1.1.1.0
-    w.1.1.1.1.1.1.0 w.1.1.1.1.1.1.1.0 w.1.1.1.1.1.1.1.1.0
-    w.1.1.1.1.1.1.1.1.1.0
-    (parts_in w.1.1.1.1.1.1.1.1.1.1.0 w.1.1.1.1.1.1.1.1.1.1.1.0)
-    w.1.1.1.1.1.1.1.1.1.1.1.1.0 w.1.1.1.1.1.1.1.1.1.1.1.1.1.0
-    w.1.1.1.1.1.1.1.1.1.1.1.1.1.1.0 w.1.1.1.1.1.1.1.1.1.1.1.1.1.1.1.0 in (
+    let m₁ = machine_of w.slots w.addresses w.values w.rtc w.page w.onsets
+    w.frequencies w.duties w.starts
+    w.codes
+    (parts_in w.cells w.floats)
+    w.ram w.sram
+    w.gpio w.fb in (
       answer_laid_lem m a.e a.out.now a.to 12 {m₁ = m₁} c.in-12.is refl (turn_wipe m a.e
           c.in-12.is {m₁ = m₁} c.wipe_all.ensures.0 c.refused-in-12.ensures) c.lay-in-12.ensures,
       (λ _. rw (c.wipe_all.ensures.1, c.wipe_all.ensures.2) fresh_packed),
@@ -207,7 +207,7 @@ returns-in_default c =
       not_laid (machine_of a.slots.now a.addresses.now a.values.now a.rtc.now a.page.now
           a.onsets.now a.frequencies.now a.duties.now a.starts.now a.codes.now
           (parts_in a.cells.now a.floats.now) a.ram.now a.sram.now a.gpio.now a.fb.now)
-          a.e a.out.now a.to _ c.in_default.rest
+          a.e a.out.now a.to _ c.in_default.in_default-own.rest
           c.refused-in_default.ensures c.lay-in_default.ensures,
       (λ k. k),
     )

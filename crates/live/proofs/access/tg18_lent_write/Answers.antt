@@ -24,7 +24,7 @@ returns c starts codes =
     let w = c.write-answer.new in
     let y = parts_in w.1.1.1.1.1.1.1.1.0 w.1.1.1.1.1.1.1.1.1.0 in
     let m₁ = machine_of w.0 w.1.0 w.1.1.0 w.1.1.1.0 w.1.1.1.1.0 w.1.1.1.1.1.0 w.1.1.1.1.1.1.0 w.1.1.1.1.1.1.1.0 starts codes y w.1.1.1.1.1.1.1.1.1.1.0 w.1.1.1.1.1.1.1.1.1.1.1.0 w.1.1.1.1.1.1.1.1.1.1.1.1.0 w.1.1.1.1.1.1.1.1.1.1.1.1.1.0 in (
-      called_good m (steps.write a.address a.size a.value) c.bad_memory.ensures c.if-bad_memory.left
+      called_good m (steps.write a.address a.size a.value) c.bad_memory.ensures c.if-bad_memory.false
           (stepped_write m a.address a.size a.value {m₁ = m₁} (write_done m
           a.address a.size a.value {r = m₁.system.registers} {rtc = m₁.system.rtc} {page = m₁.system.page}
           {ram = m₁.ram} {sram = m₁.sram} {gpio = m₁.gpio} {fb = m₁.fb} {d = y.devices} {k = y.keys}

@@ -18,6 +18,6 @@ returns c =
     let w = c.wipe_all.new in
     let m₁ = machine_of w.0 w.1.0 w.1.1.0 w.1.1.1.0 w.1.1.1.1.0 w.1.1.1.1.1.0 w.1.1.1.1.1.1.0 w.1.1.1.1.1.1.1.0 w.1.1.1.1.1.1.1.1.0 w.1.1.1.1.1.1.1.1.1.0
     (parts_in w.1.1.1.1.1.1.1.1.1.1.0 w.1.1.1.1.1.1.1.1.1.1.1.0) w.1.1.1.1.1.1.1.1.1.1.1.1.0 w.1.1.1.1.1.1.1.1.1.1.1.1.1.0 w.1.1.1.1.1.1.1.1.1.1.1.1.1.1.0 w.1.1.1.1.1.1.1.1.1.1.1.1.1.1.1.0 in (
-      called_good m steps.wipe c.bad_memory.ensures c.if-bad_memory.left (stepped_wipe m {m₁ = m₁} (c.wipe_all.ensures.0)),
+      called_good m steps.wipe c.bad_memory.ensures c.if-bad_memory.false (stepped_wipe m {m₁ = m₁} (c.wipe_all.ensures.0)),
       wiped_fresh _ _ _ _ (c.wipe_all.ensures.1, c.wipe_all.ensures.2),
     )

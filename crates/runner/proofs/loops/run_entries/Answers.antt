@@ -44,9 +44,9 @@ slice_bounds-act-end c =
       arith,
       c.loop-left.inv.2,
       c.loop-left.inv.7,
-      c.loop-left-test.taken,
+      c.loop-left-test.true,
       c.pre.3,
-      c.run_presses.kept.1.1.1.1.1.1.0,
+      c.run_presses.auto.1.1.1.1.1.1.0,
     )
 
 pub slice_bounds-act-end-in-loop-left : goal.slice_bounds-act-end-in-loop-left
@@ -56,30 +56,30 @@ slice_bounds-act-end-in-loop-left c =
       arith,
       c.loop-left.inv.2,
       c.loop-left.inv.7,
-      c.loop-left-test.taken,
+      c.loop-left-test.true,
       c.pre.3,
-      c.run_presses.kept.1.1.1.1.1.1.0,
+      c.run_presses.auto.1.1.1.1.1.1.0,
     ) in
     sym (length-take-le (l.to + answer_bytes) l.out room)
 
 pub overflow_add-from-in-loop-left : goal.overflow_add-from-in-loop-left
 overflow_add-from-in-loop-left c =
-    omega (arith, c.loop-left.inv.1, c.loop-left-test.taken, c.pre.0, c.pre.1)
+    omega (arith, c.loop-left.inv.1, c.loop-left-test.true, c.pre.0, c.pre.1)
 
 pub overflow_sub-left : goal.overflow_sub-left
 overflow_sub-left c =
-    omega (arith, c.loop-left-test.taken)
+    omega (arith, c.loop-left-test.true)
 
 pub loop-left-smaller : goal.loop-left-smaller
 loop-left-smaller c =
-    omega (arith, c.loop-left-test.taken)
+    omega (arith, c.loop-left-test.true)
 
 pub loop-left-preserved : goal.loop-left-preserved
 loop-left-preserved c =
     let a = c.args in
     let l = c.loop-left in
     let i = c.loop-left.inv in
-    let t = c.loop-left-test.taken in
+    let t = c.loop-left-test.true in
     let e = c.step_at-e.ensures in
     let y = c.act.auto.1.1.1.1.1.1.1.1.1.1.1.1 in
     let m = machine_of l.slots l.addresses l.values l.rtc l.page l.onsets l.frequencies l.duties
@@ -98,7 +98,7 @@ loop-left-preserved c =
       i.7,
       t,
       c.pre.3,
-      c.run_presses.kept.1.1.1.1.1.1.0,
+      c.run_presses.auto.1.1.1.1.1.1.0,
     ) in (
       omega (arith, t, i.0),
       omega (arith, t, i.1),

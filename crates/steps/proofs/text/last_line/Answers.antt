@@ -24,7 +24,7 @@ field-whole-requires c =
       at_append.ensures.next,
       field_end _ at_field.ensures,
       field_end _ at_field2.ensures,
-      at_append.kept.0,
+      at_append.auto.0,
       at_field.auto.0,
       at_field2.auto.0,
     )
@@ -43,8 +43,8 @@ put-requires c =
       field_end _ at_field2.ensures,
       field_end
           _ at_field3.ensures,
-      at_append.kept.0,
-      at_field.kept.0,
+      at_append.auto.0,
+      at_field.auto.0,
       at_field2.auto.0,
       at_field3.auto.0,
     )

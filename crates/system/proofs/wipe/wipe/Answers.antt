@@ -2,7 +2,7 @@ use Rattle.system.proofs.Banks.{wiped_by}
 use Rattle.system.proofs.wipe.wipe.Goals as goal
 
 pub shape_of-ram : goal.shape_of-ram
-shape_of-ram c = c.clear.auto.0
+shape_of-ram c = c.clear.auto.m
 
 pub returns : goal.returns
 returns c =
