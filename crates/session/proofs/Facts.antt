@@ -33,6 +33,7 @@ both p q = rw (p, q)
 module _ (f : ℕ → Bool) where
   pub all_apart : (n : ℕ) → all_below f n ≡ true → (i : ℕ) → i < n → f i ≡ true
   unfolding all_below
+  all_apart zero h i below = elim below [ ]
   all_apart (suc n) h i below = by (λ less. all_apart n (apart (f n) (all_below f n) h).1 i less) (ltb i n) refl
     where
       by : (i < n → f i ≡ true) → (b : Bool) → ltb i n ≡ b → f i ≡ true

@@ -118,6 +118,7 @@ stands_rows s at f (suc n) each =
 pub rows_stand : (s : List ℕ) (at : ℕ) (f : ℕ → List ℕ) (n : ℕ) → Stands s at (rows_of f n) → (j : ℕ) → j < n
     → Stands s (at + length (rows_of f j)) (f j)
 unfolding rows_of
+rows_stand s at f zero h j below = elim below [ ]
 rows_stand s at f (suc n) h j below =
     by (λ less. rows_stand s at f n (stands_first s at (rows_of f n) (f n) h) j less) (ltb j n) refl
   where

@@ -12,6 +12,7 @@ use Rattle.whole.proofs.Choice.{both}
 
 all_at : (f : ℕ → Bool) (n i : ℕ) → all_below f n ≡ true → i < n → f i ≡ true
 unfolding all_below
+all_at f Prim.Native.Nat.zero i all below = elim below [ ]
 all_at f (suc n) i all below = by (λ less. all_at f n i (both (f n) (all_below f n) all).1 less) (ltb i n) refl
   where
     by : (i < n → f i ≡ true) → (b : Bool) → ltb i n ≡ b → f i ≡ true

@@ -22,8 +22,8 @@ returns c starts codes =
     let m = machine_of a.slots.now a.addresses.now a.values.now a.rtc.now a.page.now a.onsets.now a.frequencies.now a.duties.now starts codes (parts_in a.cells.now a.floats.now) a.ram.now
     a.sram.now a.gpio.now a.fb.now in
     let w = c.write-answer.new in
-    let y = parts_in w.1.1.1.1.1.1.1.1.0 w.1.1.1.1.1.1.1.1.1.0 in
-    let m₁ = machine_of w.0 w.1.0 w.1.1.0 w.1.1.1.0 w.1.1.1.1.0 w.1.1.1.1.1.0 w.1.1.1.1.1.1.0 w.1.1.1.1.1.1.1.0 starts codes y w.1.1.1.1.1.1.1.1.1.1.0 w.1.1.1.1.1.1.1.1.1.1.1.0 w.1.1.1.1.1.1.1.1.1.1.1.1.0 w.1.1.1.1.1.1.1.1.1.1.1.1.1.0 in (
+    let y = parts_in w.cells w.floats in
+    let m₁ = machine_of w.slots w.addresses w.values w.rtc w.page w.onsets w.frequencies w.duties starts codes y w.ram w.sram w.gpio w.fb in (
       called_good m (steps.write a.address a.size a.value) c.bad_memory.ensures c.if-bad_memory.false
           (stepped_write m a.address a.size a.value {m₁ = m₁} (write_done m
           a.address a.size a.value {r = m₁.system.registers} {rtc = m₁.system.rtc} {page = m₁.system.page}

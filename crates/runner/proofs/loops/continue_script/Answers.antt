@@ -64,13 +64,13 @@ run_entries-requires c =
       omega (
         arith,
         c.if-out-p.false,
-        c.store.auto.0,
+        c.store.auto.m,
       ),
       y,
     )
 
 pub shape_of-out : goal.shape_of-out
-shape_of-out c = c.run_entries.auto.1.1.1.1.1.1.1.1.1.1.1.1.1.1.1.1.1.1.1.0 ∙ c.store.auto.0
+shape_of-out c = c.run_entries.auto.out ∙ c.store.auto.m
 
 pub returns : goal.returns
 returns c =
@@ -79,13 +79,13 @@ returns c =
     a.onsets.now a.frequencies.now a.duties.now a.starts.now a.codes.now
     (parts_in a.cells.now a.floats.now) a.ram.now a.sram.now a.gpio.now a.fb.now in
     let w = c.run_entries.new in
-    let t = run_state (machine_of w.0 w.1.0 w.1.1.0 w.1.1.1.0 w.1.1.1.1.0
-    w.1.1.1.1.1.0 w.1.1.1.1.1.1.0 w.1.1.1.1.1.1.1.0 w.1.1.1.1.1.1.1.1.0
-    w.1.1.1.1.1.1.1.1.1.0
-    (parts_in w.1.1.1.1.1.1.1.1.1.1.0 w.1.1.1.1.1.1.1.1.1.1.1.0)
-    w.1.1.1.1.1.1.1.1.1.1.1.1.0 w.1.1.1.1.1.1.1.1.1.1.1.1.1.0
-    w.1.1.1.1.1.1.1.1.1.1.1.1.1.1.0 w.1.1.1.1.1.1.1.1.1.1.1.1.1.1.1.0)
-    w.1.1.1.1.1.1.1.1.1.1.1.1.1.1.1.1.1.1.1.0 in (
+    let t = run_state (machine_of w.slots w.addresses w.values w.rtc w.page
+    w.onsets w.frequencies w.duties w.starts
+    w.codes
+    (parts_in w.cells w.floats)
+    w.ram w.sram
+    w.gpio w.fb)
+    w.out in (
       continue_done m a.script.now a.out.now c.bad_script.ensures c.if-bad_script.false c.presses-p.ensures c.steps-k.ensures
           c.if-out-p.false {t = t} c.store.ensures c.run_entries.ensures.0,
       record { packed = c.run_entries.ensures.1; still = λ h. absurd (h refl) },

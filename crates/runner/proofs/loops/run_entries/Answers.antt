@@ -13,40 +13,40 @@ run_presses-requires c =
 
 pub overflow_mul-from : goal.overflow_mul-from
 overflow_mul-from c =
-    omega (arith, c.pre.0)
+    omega (arith, c.requires.0)
 
 pub overflow_add-from : goal.overflow_add-from
 overflow_add-from c =
-    omega (arith, c.pre.0)
+    omega (arith, c.requires.0)
 
 pub overflow_mul-to : goal.overflow_mul-to
 overflow_mul-to c =
-    omega (arith, c.pre.0)
+    omega (arith, c.requires.0)
 
 pub overflow_add-to : goal.overflow_add-to
 overflow_add-to c =
-    omega (arith, c.pre.0)
+    omega (arith, c.requires.0)
 
 pub loop-left-init : goal.loop-left-init
 loop-left-init c = (omega arith, refl, omega arith, refl, refl, refl, refl, refl, step_start _ _ _ _ _, λ k. k)
 
 pub step_at-e-requires : goal.step_at-e-requires
 step_at-e-requires c =
-    omega (arith, c.loop-left.invariant.1, c.loop-left-test.true, c.pre.2)
+    omega (arith, c.loop-left.invariant.1, c.loop-left-test.true, c.requires.2)
 
 pub overflow_add-end : goal.overflow_add-end
 overflow_add-end c =
-    omega (arith, c.loop-left.invariant.2, c.loop-left-test.true, c.pre.0, c.pre.1)
+    omega (arith, c.loop-left.invariant.2, c.loop-left-test.true, c.requires.0, c.requires.1)
 
 pub slice_bounds-act-end : goal.slice_bounds-act-end
 slice_bounds-act-end c =
     omega (
       arith,
-      c.loop-left.inv.2,
-      c.loop-left.inv.7,
+      c.loop-left.invariant.2,
+      c.loop-left.invariant.7,
       c.loop-left-test.true,
-      c.pre.3,
-      c.run_presses.auto.1.1.1.1.1.1.0,
+      c.requires.3,
+      c.run_presses.auto.out,
     )
 
 pub slice_bounds-act-end-in-loop-left : goal.slice_bounds-act-end-in-loop-left
@@ -54,17 +54,17 @@ slice_bounds-act-end-in-loop-left c =
     let l = c.loop-left in
     let room : l.to + answer_bytes ≤ length l.out = omega (
       arith,
-      c.loop-left.inv.2,
-      c.loop-left.inv.7,
+      c.loop-left.invariant.2,
+      c.loop-left.invariant.7,
       c.loop-left-test.true,
-      c.pre.3,
-      c.run_presses.auto.1.1.1.1.1.1.0,
+      c.requires.3,
+      c.run_presses.auto.out,
     ) in
     sym (length-take-le (l.to + answer_bytes) l.out room)
 
 pub overflow_add-from-in-loop-left : goal.overflow_add-from-in-loop-left
 overflow_add-from-in-loop-left c =
-    omega (arith, c.loop-left.inv.1, c.loop-left-test.true, c.pre.0, c.pre.1)
+    omega (arith, c.loop-left.invariant.1, c.loop-left-test.true, c.requires.0, c.requires.1)
 
 pub overflow_sub-left : goal.overflow_sub-left
 overflow_sub-left c =
@@ -78,38 +78,37 @@ pub loop-left-preserved : goal.loop-left-preserved
 loop-left-preserved c =
     let a = c.args in
     let l = c.loop-left in
-    let i = c.loop-left.inv in
+    let i = c.loop-left.invariant in
     let t = c.loop-left-test.true in
     let e = c.step_at-e.ensures in
-    let y = c.act.auto.1.1.1.1.1.1.1.1.1.1.1.1 in
     let m = machine_of l.slots l.addresses l.values l.rtc l.page l.onsets l.frequencies l.duties
     l.starts l.codes (parts_in l.cells l.floats) l.ram l.sram l.gpio l.fb in
     let w = c.act.new in
-    let m₁ = machine_of w.0 w.1.0 w.1.1.0 w.1.1.1.0 w.1.1.1.1.0
-    w.1.1.1.1.1.0 w.1.1.1.1.1.1.0 w.1.1.1.1.1.1.1.0 w.1.1.1.1.1.1.1.1.0
-    w.1.1.1.1.1.1.1.1.1.0 (parts_in w.1.1.1.1.1.1.1.1.1.1.0
-    w.1.1.1.1.1.1.1.1.1.1.1.0) w.1.1.1.1.1.1.1.1.1.1.1.1.0
-    w.1.1.1.1.1.1.1.1.1.1.1.1.1.0 w.1.1.1.1.1.1.1.1.1.1.1.1.1.1.0
-    w.1.1.1.1.1.1.1.1.1.1.1.1.1.1.1.0 in
-    let known = kind_known a.script.now a.p a.k l.left l.from c.pre.4 t i.0 i.1 e in
+    let m₁ = machine_of w.slots w.addresses w.values w.rtc w.page
+    w.onsets w.frequencies w.duties w.starts
+    w.codes (parts_in w.cells
+    w.floats) w.ram
+    w.sram w.gpio
+    w.fb in
+    let known = kind_known a.script.now a.p a.k l.left l.from c.requires.4 t i.0 i.1 e in
     let room : l.to + answer_bytes ≤ length l.out = omega (
       arith,
       i.2,
       i.7,
       t,
-      c.pre.3,
-      c.run_presses.auto.1.1.1.1.1.1.0,
+      c.requires.3,
+      c.run_presses.auto.out,
     ) in (
       omega (arith, t, i.0),
       omega (arith, t, i.1),
       omega (arith, t, i.2),
-      ◌∙◌ {b = length l.ram} y.0 i.3,
-      ◌∙◌ {b = length l.sram} y.1.0 i.4,
-      ◌∙◌ {b = length l.gpio} y.1.1.0 i.5,
-      ◌∙◌ {b = length l.fb} y.1.1.1.0 i.6,
+      ◌∙◌ {b = length l.ram} c.act.auto.ram i.3,
+      ◌∙◌ {b = length l.sram} c.act.auto.sram i.4,
+      ◌∙◌ {b = length l.gpio} c.act.auto.gpio i.5,
+      ◌∙◌ {b = length l.fb} c.act.auto.fb i.6,
       c.out-in-loop-left-1.given.1 ∙ i.7,
       step_next a.script.now a.p l.left l.from l.to (run_state m l.out) t a.k i.0 i.1 e
-          (entry_front m m₁ l.out w.1.1.1.1.1.1.1.1.1.1.1.1.1.1.1.1.1.0 l.to
+          (entry_front m m₁ l.out w.out l.to
           c.step_at-e.result room (c.act.ensures.0 ∙ step_entry m (take (l.to + answer_bytes) l.out)
           l.to c.step_at-e.result known (front_long l.out _ room))) ∙ i.8,
       λ k. c.act.ensures.1 (i.9 k),
@@ -129,7 +128,7 @@ shape_of-fb c = c.loop-left.invariant.6
 
 pub shape_of-out : goal.shape_of-out
 shape_of-out c =
-    c.loop-left.invariant.7 ∙ c.run_presses.auto.1.1.1.1.1.1.0
+    c.loop-left.invariant.7 ∙ c.run_presses.auto.out
 
 pub returns : goal.returns
 returns c =
