@@ -16,6 +16,7 @@ use Rattle.session.specs.Read.{cells_read, float_at, floats_read}
 -- those before the n-th, and it, are among all
 pub long_more : (from i n : ℕ) → i < n → cells_long from i + width_at (from + i) ≤ cells_long from n
 unfolding cells_long
+long_more from i Prim.Native.Nat.zero below = elim below [ ]
 long_more from i (suc n) below = by (λ less. long_more from i n less) (ltb i n) refl
   where
     by : (i < n → cells_long from i + width_at (from + i) ≤ cells_long from n) → (b : Bool) → ltb i n ≡ b

@@ -67,6 +67,7 @@ head_room n bytes m at fits =
 -- those before the n-th, and it, are among all
 pub rows_more : (f : ℕ → List ℕ) (i n : ℕ) → i < n → length (rows_of f i) + length (f i) ≤ length (rows_of f n)
 unfolding rows_of
+rows_more f i Prim.Native.Nat.zero below = elim below [ ]
 rows_more f i (suc n) below = by (λ less. rows_more f i n less) (ltb i n) refl
   where
     by : (i < n → length (rows_of f i) + length (f i) ≤ length (rows_of f n)) → (b : Bool) → ltb i n ≡ b

@@ -38,7 +38,7 @@ copy_in-requires c =
     omega (
       arith,
       c.requires.1,
-      (good_memory c.args.ram.now c.args.sram.now c.args.gpio.now c.args.fb.now c.requires.0).ram-size,
+      (good_memory c.args.ram.now c.args.sram.now c.args.gpio.now c.args.fb.now c.requires.0).ram_size,
     )
 
 -- src/readers.rt:120:22
@@ -52,7 +52,7 @@ copy_in-requires-2 c =
     omega (
       arith,
       c.requires.1,
-      (good_memory c.args.ram.now c.args.sram.now c.args.gpio.now c.args.fb.now c.requires.0).sram-size,
+      (good_memory c.args.ram.now c.args.sram.now c.args.gpio.now c.args.fb.now c.requires.0).sram_size,
     )
 
 -- src/readers.rt:121:22
@@ -66,7 +66,7 @@ copy_in-requires-3 c =
     omega (
       arith,
       c.requires.1,
-      (good_memory c.args.ram.now c.args.sram.now c.args.gpio.now c.args.fb.now c.requires.0).gpio-size,
+      (good_memory c.args.ram.now c.args.sram.now c.args.gpio.now c.args.fb.now c.requires.0).gpio_size,
     )
 
 -- src/readers.rt:122:20
@@ -80,17 +80,17 @@ copy_in-requires-4 c =
     omega (
       arith,
       c.requires.1,
-      (good_memory c.args.ram.now c.args.sram.now c.args.gpio.now c.args.fb.now c.requires.0).fb-size,
+      (good_memory c.args.ram.now c.args.sram.now c.args.gpio.now c.args.fb.now c.requires.0).fb_size,
     )
 
 -- src/readers.rt:103:1
 pub returns : goal.returns
 returns c =
     record {
-      ram-is = c.copy_in.ensures ∙ ap (λ (k : ℕ). part c.args.s.now (c.args.at + 4)
-          k) (good_memory c.args.ram.now c.args.sram.now c.args.gpio.now c.args.fb.now c.requires.0).ram-size;
-      sram-is = c.copy_in-2.ensures ∙ ap (λ (k : ℕ). part c.args.s.now (c.args.at + 4 + RAM_SIZE + 4) k) (good_memory c.args.ram.now c.args.sram.now c.args.gpio.now c.args.fb.now c.requires.0).sram-size;
-      gpio-is = c.copy_in-3.ensures ∙ ap (λ (k : ℕ). part c.args.s.now (c.args.at + 4 + RAM_SIZE + 4 + SRAM_SIZE + 4)
-          k) (good_memory c.args.ram.now c.args.sram.now c.args.gpio.now c.args.fb.now c.requires.0).gpio-size;
-      fb-is = c.copy_in-4.ensures ∙ ap (λ (k : ℕ). part c.args.s.now (c.args.at + 4 + RAM_SIZE + 4 + SRAM_SIZE + 4 + GPIO_SIZE + 4) k) (good_memory c.args.ram.now c.args.sram.now c.args.gpio.now c.args.fb.now c.requires.0).fb-size;
+      ram_is = c.copy_in.ensures ∙ ap (λ (k : ℕ). part c.args.s.now (c.args.at + 4)
+          k) (good_memory c.args.ram.now c.args.sram.now c.args.gpio.now c.args.fb.now c.requires.0).ram_size;
+      sram_is = c.copy_in-2.ensures ∙ ap (λ (k : ℕ). part c.args.s.now (c.args.at + 4 + RAM_SIZE + 4) k) (good_memory c.args.ram.now c.args.sram.now c.args.gpio.now c.args.fb.now c.requires.0).sram_size;
+      gpio_is = c.copy_in-3.ensures ∙ ap (λ (k : ℕ). part c.args.s.now (c.args.at + 4 + RAM_SIZE + 4 + SRAM_SIZE + 4)
+          k) (good_memory c.args.ram.now c.args.sram.now c.args.gpio.now c.args.fb.now c.requires.0).gpio_size;
+      fb_is = c.copy_in-4.ensures ∙ ap (λ (k : ℕ). part c.args.s.now (c.args.at + 4 + RAM_SIZE + 4 + SRAM_SIZE + 4 + GPIO_SIZE + 4) k) (good_memory c.args.ram.now c.args.sram.now c.args.gpio.now c.args.fb.now c.requires.0).fb_size;
     }

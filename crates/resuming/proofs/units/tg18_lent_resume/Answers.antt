@@ -17,21 +17,20 @@ returns-then-bad_memory c = (
 pub returns-then-not-good_session : goal.returns-then-not-good_session
 returns-then-not-good_session c = (
   resume_refused _ _ (sym c.bad_memory.ensures ∙ c.if-bad_memory.false) (sym c.good_session.ensures ∙
-      not-true _ c.if-not-good_session.true),
+      c.if-not-good_session.true),
   words_still _ _ _ (λ e. omega (arith, e)),
 )
 
 -- src/units.rt:102:5
 pub read-requires : goal.read-requires
 read-requires c = (
-  sym c.good_session.ensures ∙ not-false _ c.if-not-good_session.false,
+  sym c.good_session.ensures ∙ c.if-not-good_session.false,
   sym c.bad_memory.ensures ∙ c.if-bad_memory.false,
 )
 
 -- src/units.rt:67:1
 pub returns : goal.returns
 returns c = (
-  resume_done _ _ (sym c.bad_memory.ensures ∙ c.if-bad_memory.false) (sym c.good_session.ensures ∙ not-false
-      _ c.if-not-good_session.false) c.read.ensures.0,
+  resume_done _ _ (sym c.bad_memory.ensures ∙ c.if-bad_memory.false) (sym c.good_session.ensures ∙ c.if-not-good_session.false) c.read.ensures.0,
   words_read _ _ c.read.ensures.1,
 )
