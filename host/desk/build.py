@@ -154,7 +154,7 @@ def proved(kit: Kit, crate: str) -> Path:
             print(line, end="", file=sys.stderr, flush=True)
     made = folder / "out" / f"lib{crate}.a"
     if rt.wait() != 0 or not made.exists():
-        raise Trouble(OTHER, *lines[-LINES_OF_A_FAILURE:], f"tg18: rt lib failed in crates/{crate}")
+        raise Trouble(OTHER, *lines[-LINES_OF_A_FAILURE:], f"tg18: rt lib failed in crates/{crate}: {rt.returncode}")
     return made
 
 
