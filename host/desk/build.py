@@ -1,7 +1,7 @@
 """The kit, and what is built with it and with nothing else: the port's library, and the programs of host/ around it.
 
-Programs are x86-64 on every machine, as the library is. They start under the kit's loader and C library, and on
-another processor in the kit's emulator.
+Programs are x86-64 on every machine, as the library is. They start under the kit's loader and C library, and where
+the kit has an emulator, as one for another processor has, in that.
 """
 
 from __future__ import annotations
@@ -10,7 +10,6 @@ import contextlib
 import fcntl
 import hashlib
 import os
-import platform
 import shutil
 import subprocess
 import sys
@@ -24,7 +23,7 @@ HOST = ROOT / "host"
 BUILT = ROOT / "target" / "host"
 # What the crates export is proved and compiled crate by crate: in one piece the compiler would not copy the bus into
 # each (docs/DECISIONS.md, 128).
-CRATES = ["script", "live", "chain", "saving", "resuming"]
+CRATES = ["script_c", "live_c", "chain_c", "saving_c", "resuming_c"]
 ARCHIVE = ROOT / "target" / "staticlib" / "libtg18.a"
 SCRUBBED = ["scrubbed.c", "scrubbed_x86_64.S"]
 PORT = SCRUBBED + ["live.c", "scrubbed_session.c"]
@@ -81,10 +80,10 @@ class Kit:
         if rt is None:
             raise Trouble(USAGE, "tg18: the Rattle kit's rt is not on PATH")
         self.rt = rt
-        self.home = Path(os.environ.get("RATTLE_HOME") or Path(os.path.realpath(rt)).parents[1])
-        self.tools = self.home / "on" / platform.machine() / "toolchain"
+        self.home = Path(os.path.realpath(rt)).parents[1]
+        self.tools = self.home / "toolchain"
         if not (self.tools / "bin" / "clang").exists():
-            raise Trouble(USAGE, f"tg18: the Rattle kit has no toolchain for this machine, {platform.machine()}")
+            raise Trouble(USAGE, f"tg18: the Rattle kit has no toolchain in {self.tools}")
 
     def tool(self, name: str) -> str:
         return str(self.tools / "bin" / name)
@@ -102,6 +101,13 @@ class Kit:
     def starts(self, program: Path) -> List[str]:
         loader = [self.library("ld-linux-x86-64.so.2"), "--library-path", str(self.tools / "lib"), str(program)]
         return [self.tool("qemu-x86_64")] + loader if self.emulates() else loader
+
+
+def crate_files() -> List[Path]:
+    """Of all crates, but for what rt makes in crates/NAME/out."""
+    crates = ROOT / "crates"
+    return sorted(file for crate in crates.iterdir() for part in crate.glob("*") if part.name != "out"
+                  for file in (part.rglob("*") if part.is_dir() else [part]))
 
 
 def digest_of(kit: Kit, paths: List[Path]) -> str:
@@ -138,30 +144,32 @@ class Made:
 
 
 def proved(kit: Kit, crate: str) -> Path:
-    rt = subprocess.Popen([kit.rt, "staticlib", crate], cwd=ROOT, stdin=subprocess.DEVNULL, stdout=subprocess.PIPE,
+    folder = ROOT / "crates" / crate
+    rt = subprocess.Popen([kit.rt, "lib"], cwd=folder, stdin=subprocess.DEVNULL, stdout=subprocess.PIPE,
                           stderr=subprocess.STDOUT, text=True, errors="replace")
     lines = []
     for line in rt.stdout or []:
         lines.append(line.rstrip("\n"))
         if line.startswith("rt: "):
             print(line, end="", file=sys.stderr, flush=True)
-    made = ARCHIVE.with_name(f"lib{crate}.a")
+    made = folder / "out" / f"lib{crate}.a"
     if rt.wait() != 0 or not made.exists():
-        raise Trouble(OTHER, *lines[-LINES_OF_A_FAILURE:], f"tg18: rt staticlib {crate} failed")
+        raise Trouble(OTHER, *lines[-LINES_OF_A_FAILURE:], f"tg18: rt lib failed in crates/{crate}")
     return made
 
 
 def make_archive(kit: Kit) -> None:
     said("proving and building target/staticlib/libtg18.a; the first time takes some minutes")
     parts = [proved(kit, crate) for crate in CRATES]
+    ARCHIVE.parent.mkdir(parents=True, exist_ok=True)
     words = [f"create {ARCHIVE}", *[f"addlib {part}" for part in parts], "save", "end"]
     ran([kit.tool("llvm-ar"), "-M"], "\n".join(words))
 
 
 def archive(kit: Kit) -> Made:
-    """rt proves the five crates anew each time, which takes some minutes; so it is asked only when something has
-    changed."""
-    return Made(ARCHIVE, digest_of(kit, [Path(__file__), ROOT / "crates.txt", *sorted((ROOT / "crates").rglob("*"))]))
+    """Even where nothing is to be proved, rt takes its time over the five crates; so it is asked only when something
+    has changed."""
+    return Made(ARCHIVE, digest_of(kit, [Path(__file__), ROOT / "crates.txt", *crate_files()]))
 
 
 def ran(words: List[str], given: str = "") -> None:

@@ -1,0 +1,87 @@
+// Keys: live ones, taps, scripted presses, and which are down.
+ghost use Rattle.std.specs.Prelude.{◌≡◌, not, List, ℕ, eqb, Float};
+ghost use Rattle.state.specs.Bank.{parts_in};
+ghost use Rattle.state.specs.Packed.{Answered};
+ghost use Rattle.system.specs.Bank.{machine_of};
+ghost use Rattle.system.specs.Steps as steps;
+ghost use Rattle.system.specs.Steps.{words, plainly, step};
+
+use state::{Cells, Floats};
+
+// A key goes down, or up where `down` is 0.
+#[unsafe(no_mangle)]
+pub extern "C" fn tg18_lent_live_key(
+    cells: &mut Cells,
+    floats: &mut Floats,
+    key: u32,
+    down: u32,
+) -> u32
+    ensures { (slots addresses values rtc page : List ℕ) (onsets frequencies duties starts : List Float)
+        (codes ram sram gpio fb : List ℕ) →
+        (plainly (machine_of slots addresses values rtc page onsets frequencies duties starts codes (parts_in
+        cells.new floats.new) ram sram gpio fb) result
+        ≡ step (machine_of slots addresses values rtc page onsets frequencies duties starts codes (parts_in
+        cells.old floats.old) ram sram gpio fb) (steps.live key (not (eqb down 0))))
+        × Answered result cells.old floats.old cells.new floats.new }
+{
+    live::buttons::tg18_lent_live_key(cells, floats, key, down)
+}
+
+// A tap of a key stays held until a time.
+#[unsafe(no_mangle)]
+pub extern "C" fn tg18_lent_hold_until(
+    cells: &mut Cells,
+    floats: &mut Floats,
+    key: u32,
+    until: f64,
+) -> u32
+    ensures { (slots addresses values rtc page : List ℕ) (onsets frequencies duties starts : List Float)
+        (codes ram sram gpio fb : List ℕ) →
+        (plainly (machine_of slots addresses values rtc page onsets frequencies duties starts codes (parts_in
+        cells.new floats.new) ram sram gpio fb) result
+        ≡ step (machine_of slots addresses values rtc page onsets frequencies duties starts codes (parts_in
+        cells.old floats.old) ram sram gpio fb) (steps.hold key until))
+        × Answered result cells.old floats.old cells.new floats.new }
+{
+    live::buttons::tg18_lent_hold_until(cells, floats, key, until)
+}
+
+// A press of a key at a time.
+#[unsafe(no_mangle)]
+pub extern "C" fn tg18_lent_press(
+    starts: &mut [f64; 64],
+    codes: &mut [u8; 64],
+    cells: &mut Cells,
+    floats: &Floats,
+    key: u32,
+    at: f64,
+) -> u32
+    ensures { (slots addresses values rtc page : List ℕ) (onsets frequencies duties : List Float)
+        (ram sram gpio fb : List ℕ) →
+        (plainly (machine_of slots addresses values rtc page onsets frequencies duties starts.new
+        codes.new (parts_in cells.new floats.now) ram sram gpio fb) result
+        ≡ step (machine_of slots addresses values rtc page onsets frequencies duties starts.old
+        codes.old (parts_in cells.old floats.now) ram sram gpio fb) (steps.press key
+        at))
+        × Answered result cells.old floats.now cells.new floats.now }
+{
+    live::buttons::tg18_lent_press(starts, codes, cells, floats, key, at)
+}
+
+// Which keys are down now: 1 A, 2 B, 4 C, added.
+#[unsafe(no_mangle)]
+pub extern "C" fn tg18_lent_keys_held(
+    starts: &[f64; 64],
+    codes: &[u8; 64],
+    cells: &Cells,
+    floats: &Floats,
+) -> u32
+    ensures { (slots addresses values rtc page : List ℕ) (onsets frequencies duties : List Float)
+        (ram sram gpio fb : List ℕ) →
+        words (machine_of slots addresses values rtc page onsets frequencies duties starts.now
+        codes.now (parts_in cells.now floats.now) ram sram gpio fb) 0 result 0 0
+        ≡ step (machine_of slots addresses values rtc page onsets frequencies duties starts.now
+        codes.now (parts_in cells.now floats.now) ram sram gpio fb) steps.keys_held }
+{
+    live::buttons::tg18_lent_keys_held(starts, codes, cells, floats)
+}
