@@ -31,6 +31,7 @@ read-requires c = (
 -- src/units.rt:67:1
 pub returns : goal.returns
 returns c = (
-  resume_done _ _ (sym c.bad_memory.ensures ∙ c.if-bad_memory.false) (sym c.good_session.ensures ∙ c.if-not-good_session.false) c.read.ensures.0,
+  resume_done _ _ (sym c.bad_memory.ensures ∙ c.if-bad_memory.false)
+      (sym c.good_session.ensures ∙ c.if-not-good_session.false) c.read.ensures.0,
   words_read _ _ c.read.ensures.1,
 )

@@ -17,9 +17,11 @@ unfolding over
 more q ys zs i is told = rw (add-one i, is, told)
 
 -- as many as fit are all
-all : (q : Queue) (ys zs : List Event) (i n : ℕ) → i ≤ n → n ≤ i → n ≡ fit_of q.ring.count (length ys) → zs ≡ over q ys i
+all : (q : Queue) (ys zs : List Event) (i n : ℕ) → i ≤ n → n ≤ i → n ≡ fit_of q.ring.count (length ys) → zs ≡ over q
+    ys i
     → zs ≡ over q ys (fit_of q.ring.count (length ys))
-all q ys zs i n most least is laid = let same : i ≡ fit_of q.ring.count (length ys) = omega arith in laid ∙ ap (over q ys) same
+all q ys zs i n most least is laid = let same : i ≡ fit_of q.ring.count (length ys) = omega arith in laid ∙ ap
+    (over q ys) same
 
 pub loop-i-init : goal.loop-i-init
 loop-i-init c = record {
@@ -30,7 +32,8 @@ loop-i-init c = record {
 
 pub offset_bounds-records-i : goal.offset_bounds-records-i
 offset_bounds-records-i c =
-    let less : c.loop-i.i < length c.loop-i.records = below _ _ _ _ _ c.loop-i-test.true c.loop-i.invariant.counted c.loop-i.auto.records in
+    let less : c.loop-i.i < length c.loop-i.records = below _ _ _ _ _ c.loop-i-test.true c.loop-i.invariant.counted
+    c.loop-i.auto.records in
     omega arith
 
 pub bounds-records-i : goal.bounds-records-i
