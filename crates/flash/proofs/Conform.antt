@@ -16,7 +16,7 @@ use Rattle.flash.specs.Buf.{blank}
 use Rattle.flash.specs.Xfer.{jedec, kind_of, maker_of, read_of, reply_to, answer_of}
 use Rattle.flash.specs.Finish.{order_of, exactly, guard_of, act_of, ands, patch, array_after, wel_after, writes_after}
 use Rattle.flash.specs.Flash.{deselect_act}
-use Rattle.flash.specs.Steps.{Step, cs, byte, sends}
+use Rattle.flash.specs.Steps.{cs, byte, sends}
 use Rattle.flash.specs.Rust.{Sys}
 use Rattle.flash.specs.Run.{Bytes, Good, after_step, after_steps, answers, transaction}
 use Rattle.flash.proofs.Whole.{at, trans_at, exact_trans, rounded_trans, ands_from, page_of, compact_board, list_after}

@@ -1,5 +1,5 @@
 -- The branches of the definitions, as the functions meet them.
-use Rattle.std.proofs.Common.{◌≡◌, ℕ, Bool, true, false, ◌||◌, List, get_or, refl}
+use Rattle.std.proofs.Common.{◌≡◌, ℕ, Bool, true, false, ◌||◌, List, get_or}
 use mathlib.Core.Bool.{and-false}
 use lib.Ieee.{Float, binary64, of_bits}
 use Rattle.map.specs.Numbers.{DONE, NO_NEXT_TIME}

@@ -1,10 +1,10 @@
 -- The number that a binary64 bit pattern with a clear sign stands for, in units of 2 ^ -1074; that a larger pattern
 -- stands for a larger number; and what the other patterns stand for.
 use Rattle.std.proofs.Common.{◌≡◌, ℕ, zero, suc, ◌+◌, ◌-◌, ◌*◌, ◌/◌, ◌%◌, ◌^◌, ◌<◌, ◌≤◌, Bool, true, false, cond}
-use Rattle.std.proofs.Common.{not, T, eqb, ltb, leb, ◌⊎◌, ℤ, pos, sym, refl, ap, ◌∙◌, subst, inl, inr, true≢false}
+use Rattle.std.proofs.Common.{not, T, eqb, leb, ◌⊎◌, ℤ, pos, sym, refl, ap, ◌∙◌, subst, inl, inr, true≢false}
 use Rattle.std.proofs.Common.{zero-le, le_trans, le_of_eq, lt_of_lt_of_le, mul-le-mul_right, mod-eq_of_lt}
 use Rattle.std.proofs.Common.{eq-or-lt_of_le, mul-lt-mul_of_pos_right, not-le_of_lt, arith, lit≤, le→leb, eqb→eq}
-use Rattle.std.proofs.Common.{ltb→lt, leb→le, nltb→le, pow_pos, pow_mono, pow-add}
+use Rattle.std.proofs.Common.{leb→le, pow_pos, pow_mono, pow-add}
 use lib.Dec.{not_T}
 use lib.Count.{count_trailing_zeros}
 use lib.Ieee.{minus, Float, nan, inf, fin, binary64, odd, of_fields, of_bits, to_bits, fits, ne, is_nan}

@@ -1,6 +1,5 @@
 use Rattle.std.proofs.Common.{sym, ◌∙◌, arith}
 use Rattle.resuming.proofs.Entire.{resume_bad, resume_refused, resume_done, words_still, words_read}
-use borrow.Author.Tests.{not-true, not-false}
 use Rattle.resuming.proofs.units.tg18_lent_resume.Goals as goal
 
 -- src/units.rt:97:9

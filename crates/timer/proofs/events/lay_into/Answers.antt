@@ -1,8 +1,7 @@
-use Rattle.std.proofs.Common.{◌≡◌, ◌<◌, ◌≤◌, ◌+◌, ℕ, List, length, refl, ap, ◌∙◌, arith, set, add-one}
+use Rattle.std.proofs.Common.{◌≡◌, ◌<◌, ◌≤◌, ◌+◌, ℕ, List, length, ap, ◌∙◌, arith, set, add-one}
 use Rattle.timer.specs.declared.Event.{Event}
 use Rattle.timer.specs.declared.Queue.{Queue}
 use Rattle.timer.specs.Events.{queue_of, event_of, fit_of}
-use Rattle.timer.specs.Inner.{lay_outcome}
 use Rattle.timer.proofs.Laid.{over, over_none, over_laid, fits}
 use Rattle.timer.proofs.events.lay_into.Goals as goal
 
