@@ -1,5 +1,7 @@
 -- The branches of the definitions, each with the facts that lead to it.
-use Rattle.std.proofs.Common.{◌≡◌, ℕ, ◌+◌, ◌-◌, ◌%◌, ◌^◌, ◌<◌, ◌≤◌, Bool, true, false, leb, List, ◌∷◌, length, get_or, drop, sym, ap, ◌∙◌, ⊎_elim, add-one, arith, drop_of_length-le, drop-cons, le-leb}
+use Rattle.std.proofs.Common.{◌≡◌, ℕ, ◌+◌, ◌-◌, ◌%◌, ◌^◌, ◌<◌, ◌≤◌, Bool, true, false, leb, List, ◌∷◌, length}
+use Rattle.std.proofs.Common.{get_or, drop, sym, ap, ◌∙◌, ⊎_elim, add-one, arith, drop_of_length-le, drop-cons}
+use Rattle.std.proofs.Common.{le-leb}
 use borrow.Author.Tests.{lt-leb}
 use Rattle.whole.proofs.Choice.{lt_or_ge}
 use Rattle.registers.specs.declared.Registers.{Registers}
@@ -49,7 +51,8 @@ pub lay_step : (p : Plain) {q : Plain} (a i : ℕ) (bytes : List ℕ) {k : ℕ} 
     → q ≡ poked_of p k (get_or bytes i 0) → laid_from q a (i + 1) (drop (i + 1) bytes) ≡ laid_from p a i (drop i bytes)
 unfolding laid_from
 lay_step p a i bytes l e h =
-    ap (λ (z : Plain). laid_from z a (i + 1) (drop (i + 1) bytes)) (h ∙ ap (λ (x : ℕ). poked_of p x (get_or bytes i 0)) e)
+    ap (λ (z : Plain). laid_from z a (i + 1) (drop (i + 1) bytes))
+    (h ∙ ap (λ (x : ℕ). poked_of p x (get_or bytes i 0)) e)
     ∙ sym (ap (λ (bs : List ℕ). laid_from p a i bs)
     (drop-cons bytes i 0 l ∙ ap (λ (x : ℕ). get_or bytes i 0 ∷ drop x bytes) (sym (add-one i))))
 

@@ -1,5 +1,7 @@
 -- A part of a memory that is copied byte by byte, in whatever order.
-use Rattle.std.proofs.Common.{◌≡◌, ℕ, ◌+◌, ◌-◌, ◌*◌, ◌<◌, ◌≤◌, List, length, get_or, take, drop, set, sym, refl, ap, ◌∙◌, subst, arith, length-drop, length-set, length-take-le, get_or-drop, get_or-set_other, get_or-take, get_or-set_same, ext_get_or}
+use Rattle.std.proofs.Common.{◌≡◌, ℕ, ◌+◌, ◌-◌, ◌*◌, ◌<◌, ◌≤◌, List, length, get_or, take, drop, set, sym, refl, ap}
+use Rattle.std.proofs.Common.{◌∙◌, subst, arith, length-drop, length-set, length-take-le, get_or-drop}
+use Rattle.std.proofs.Common.{get_or-set_other, get_or-take, get_or-set_same, ext_get_or}
 use Rattle.whole.proofs.Choice.{by_same, by_less}
 
 module _ (l : List ℕ) (at : ℕ) where

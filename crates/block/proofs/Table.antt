@@ -1,5 +1,7 @@
 -- A table that a loop fills.
-use Rattle.std.proofs.Common.{◌≡◌, ℕ, zero, suc, ◌+◌, ◌<◌, List, [], ◌∷◌, ◌++◌, length, take, drop, set, refl, ap, append-nil, le_of_eq, le_refl, le_of_suc-le-suc, not-suc-le-zero, arith, drop_of_length-le, take_all}
+use Rattle.std.proofs.Common.{◌≡◌, ℕ, zero, suc, ◌+◌, ◌<◌, List, [], ◌∷◌, ◌++◌, length, take, drop, set, refl, ap}
+use Rattle.std.proofs.Common.{append-nil, le_of_eq, le_refl, le_of_suc-le-suc, not-suc-le-zero, arith}
+use Rattle.std.proofs.Common.{drop_of_length-le, take_all}
 use Rattle.block.specs.Block.{table}
 
 pub table_step : (f : ℕ → ℕ) (k i j : ℕ) (d : List ℕ) → i + k ≡ j → k < length d

@@ -1,5 +1,6 @@
 -- Bytes of the bus without side effects: peek8, peek32, read_block; and poke.
-use Rattle.std.specs.Prelude.{ℕ, zero, suc, ◌+◌, ◌-◌, ◌*◌, ◌%◌, ◌^◌, Bool, false, cond, ◌&&◌, List, [], ◌∷◌, length, nat_le, slice_index}
+use Rattle.std.specs.Prelude.{ℕ, zero, suc, ◌+◌, ◌-◌, ◌*◌, ◌%◌, ◌^◌, Bool, false, cond, ◌&&◌, List, [], ◌∷◌, length}
+use Rattle.std.specs.Prelude.{nat_le, slice_index}
 use Rattle.map.specs.Numbers.{FLASH_BASE, RAM_SIZE, SRAM_BASE, SRAM_SIZE, GPIO_BASE, GPIO_SIZE}
 use Rattle.registers.specs.declared.Registers.{Registers}
 use Rattle.registers.specs.Words.{word_at}
@@ -69,7 +70,8 @@ abbrev pub block : Bool → List ℕ → Block
 block b l = record { whole = b; bytes = l }
 
 unfoldable pub read_of : Registers → List ℕ → List ℕ → List ℕ → ℕ → ℕ → Block
-read_of r ram sram gpio a n = block (whole_of (length ram) (length sram) (length gpio) a n) (block_of r ram sram gpio a n)
+read_of r ram sram gpio a n = block (whole_of (length ram) (length sram) (length gpio) a n)
+    (block_of r ram sram gpio a n)
 
 -- ---- poke
 

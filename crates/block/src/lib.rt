@@ -1,7 +1,8 @@
 // Bytes of the bus without side effects, and bytes laid into plain memory.
 #![tactic(auto)]
 
-ghost use Rattle.std.specs.Prelude.{◌≡◌, ◌+◌, ◌-◌, ◌%◌, ◌^◌, ◌<◌, ◌≤◌, length, take, drop, nat_le, slice_index, slice_set};
+ghost use Rattle.std.specs.Prelude.{◌≡◌, ◌+◌, ◌-◌, ◌%◌, ◌^◌, ◌<◌, ◌≤◌, length, take, drop, nat_le, slice_index};
+ghost use Rattle.std.specs.Prelude.{slice_set};
 ghost use Rattle.registers.specs.Words.{registers_of};
 ghost use Rattle.block.specs.Block.{peek_of, joined_of, peeked32, block_of, lies_in, run_of, whole_of};
 ghost use Rattle.block.specs.Block.{block, read_of, plain, poked_of, laid_of};

@@ -17,10 +17,12 @@ use Rattle.registers.specs.declared.Port.TheVariants.{Select, Send, LcdControl, 
 use Rattle.registers.specs.declared.Refusal.{Refusal}
 use Rattle.registers.specs.declared.Spot.{Spot}
 use Rattle.registers.specs.declared.Spot.TheVariants.{Own, Never, Present, Absent}
-use Rattle.registers.specs.Words.{number_of, own_at, own_with, unstored, place, Others, others, put_present, OtherOutcome}
+use Rattle.registers.specs.Words.{number_of, own_at, own_with, unstored, place, Others, others, put_present}
+use Rattle.registers.specs.Words.{OtherOutcome}
 use Rattle.registers.specs.Words.{other_outcome}
 use Rattle.registers.specs.Ports.{slot_of, slot_word, day_word, port_of, field_of}
-use Rattle.registers.specs.Words.{put_absent, registers_of, others_of, other_spot, word_in, word_at, beside, put_in, put_word}
+use Rattle.registers.specs.Words.{put_absent, registers_of, others_of, other_spot, word_in, word_at, beside, put_in}
+use Rattle.registers.specs.Words.{put_word}
 use Rattle.registers.proofs.Cases.{spot_other}
 use Rattle.registers.proofs.Own.{slot_hit, own_word, own_put}
 use Rattle.registers.proofs.Slots.{slot_back, port_none}
@@ -195,7 +197,8 @@ module _ (w : World) (full : Bool) (word old new part : ℕ) where
       by false = refl
 
 -- one that is only stored, by its slot
-pub port_holds : (w : World) (full : Bool) (s old new part : ℕ) (p : Port) → s < 76 → port_of (slot_word s) ≡ p → Stores p
+pub port_holds : (w : World) (full : Bool) (s old new part : ℕ) (p : Port) → s < 76 → port_of (slot_word s) ≡ p →
+    Stores p
     → {slots₁ : List ℕ} {t : WriteAnswer} → (slots₁ ≡ set w.registers.slots s new) × (t ≡ without_event DONE)
     → out_of (world (registers_of slots₁ w.registers.addresses w.registers.values) w.rtc w.page w.ram
     w.sram
@@ -343,7 +346,8 @@ module _ (r : Registers) (rtc page ram sram gpio fb : List ℕ) (l : List ℕ) (
   unfolding noted_write
   write_noted {r₁} {rtc₁} {page₁} {ram₁} {sram₁} {gpio₁} {fb₁} {l₁} {l₂} {v₁} {ring} {full} {t} i j w n =
       let e : out_of (world r₁ rtc₁ page₁ ram₁ sram₁ gpio₁ fb₁ (parts_in l₁ v₁).devices) t
-      ≡ write_of (world r rtc page ram sram gpio fb (parts_in l v).devices) (full_of (parts_in l v).ring) addr size value
+      ≡ write_of (world r rtc page ram sram gpio fb (parts_in l v).devices) (full_of (parts_in l v).ring) addr size
+      value
       = w.0 ∙ ap (λ (b : Bool). write_of (world r rtc page ram sram gpio fb (parts_in l v).devices) b addr size value)
       (j ∙ ap (λ (o : Ring). full_of o) i) in
       let d : (parts_in l₂ v₁).devices ≡ (parts_in l₁ v₁).devices = ap (λ (o : Parts). o.devices) n.1 in (

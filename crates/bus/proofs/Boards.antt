@@ -40,7 +40,8 @@ abbrev pub board_left : Chipped → Board
 board_left c = board_of c.chip c.page c.ram
 
 module _ (c : Chip) (page ram : List ℕ) where
-  ram_step : (x : Step) → board_left (in_ram (after_step (board_of c page ram) x) ram) ≡ after_step (board_of c page ram) x
+  ram_step : (x : Step) → board_left (in_ram (after_step (board_of c page ram) x) ram) ≡ after_step
+      (board_of c page ram) x
   ram_step x =
       let b : Board = after_step (board_of c page ram) x in
       ap (λ (l : List ℕ). board b.chip b.page l)

@@ -62,7 +62,8 @@ module _ (slots : List ℕ) {slots₁ : List ℕ} where
 
   pub command_done : (r : Rtc) (game : Float) (new : ℕ) {x y : ℕ} {s : Rtc} → slots₁ ≡ own_with slots RTC_COMMAND new
       → x ≡ own_at slots₁ RTC_ADDRESS
-      → y ≡ own_at slots₁ RTC_DATA → s ≡ commanded_of r game x y new → rtc_done slots₁ s ≡ command_written slots r game new
+      → y ≡ own_at slots₁ RTC_DATA → s ≡ commanded_of r game x y new → rtc_done slots₁ s ≡ command_written slots r
+      game new
   unfolding command_written
   command_done r game new e hx hy h = rw (h, hx, hy, e)
 
@@ -87,7 +88,8 @@ module _ (s : Screen) (one : Bool) (word : ℕ) where
   feed_two {t = t} h e k e' k' =
       rw h
       (k' ∙ ap (λ (b : ℕ). screen_after_input t (byte b)) e'
-      ∙ ap (λ (z : Screen). screen_after_input z (byte (word % 256))) (k ∙ ap (λ (a : ℕ). screen_after_input s (byte a)) e))
+      ∙ ap (λ (z : Screen). screen_after_input z (byte (word % 256)))
+      (k ∙ ap (λ (a : ℕ). screen_after_input s (byte a)) e))
 
 module _ (r : Registers) (ram sram gpio : List ℕ) (t : Screen) where
   pub dma_none : {a : ℕ} → a ≡ own_at r.slots LCD_DMA → a ≡ 0 → copied r.slots t ≡ dma_done r ram sram gpio t

@@ -45,30 +45,31 @@ panel_again {n = n} a b =
 
 -- ---- a data byte
 
-module _ (l fb : List ℕ) (b : ℕ) {order : MaybeByte} {n : ℕ} (o : order ≡ (panel_in l).cmd) (e : n ≡ code_of order) where
-  code : code_of (panel_in l).cmd ≡ n
-  code = ap (λ (h : MaybeByte). code_of h) (sym o) ∙ sym e
+module _ (l fb : List ℕ) (b : ℕ) {order : MaybeByte} {n : ℕ} (o : order ≡ (panel_in l).cmd) (e : n ≡ code_of order)
+  where
+    code : code_of (panel_in l).cmd ≡ n
+    code = ap (λ (h : MaybeByte). code_of h) (sym o) ∙ sym e
 
-  pub data_pixel : {l' w fb' : List ℕ} {window : Window} {pen next : Pen} → n ≡ 0x2C → window ≡ (panel_in l).window
-      → pen ≡ (panel_in l).pen
-      → drawing next fb' ≡ drawing (penned window pen b) (inked fb pen b)
-      → ((f : List Float) → Put l f l' f w f (panel_put (parts_in l f) (with_pen (panel_in l) next)))
-      → (screen (panel_in l') fb' ≡ screen_after_input (screen (panel_in l) fb) (byte b)) × OnlyPanel l l'
-  data_pixel {fb' = fb'} {pen = pen} {next} h i j d p =
-      let r = panel_put_lem (with_pen (panel_in l) next) p in (
-        ap (λ (q : Panel). screen q fb') r.0
-            ∙ draws (panel_in l) fb b next fb' (code ∙ h)
-            (d ∙ ap (λ (z : Window). drawing (penned z pen b) (inked fb pen b)) i ∙ ap
-            (λ (z : Pen). drawing (penned (panel_in l).window z b) (inked fb z b)) j),
-        r.1,
-      )
+    pub data_pixel : {l' w fb' : List ℕ} {window : Window} {pen next : Pen} → n ≡ 0x2C → window ≡ (panel_in l).window
+        → pen ≡ (panel_in l).pen
+        → drawing next fb' ≡ drawing (penned window pen b) (inked fb pen b)
+        → ((f : List Float) → Put l f l' f w f (panel_put (parts_in l f) (with_pen (panel_in l) next)))
+        → (screen (panel_in l') fb' ≡ screen_after_input (screen (panel_in l) fb) (byte b)) × OnlyPanel l l'
+    data_pixel {fb' = fb'} {pen = pen} {next} h i j d p =
+        let r = panel_put_lem (with_pen (panel_in l) next) p in (
+          ap (λ (q : Panel). screen q fb') r.0
+              ∙ draws (panel_in l) fb b next fb' (code ∙ h)
+              (d ∙ ap (λ (z : Window). drawing (penned z pen b) (inked fb pen b)) i ∙ ap
+              (λ (z : Pen). drawing (penned (panel_in l).window z b) (inked fb z b)) j),
+          r.1,
+        )
 
-  pub data_argument : {l' w : List ℕ} {p q : Panel} → n ≢ 0x2C → p ≡ panel_in l → q ≡ argued p b
-      → ((f : List Float) → Put l f l' f w f (panel_put (parts_in l f) q))
-      → (screen (panel_in l') fb ≡ screen_after_input (screen (panel_in l) fb) (byte b)) × OnlyPanel l l'
-  data_argument {q = q} h i j k =
-      let r = panel_put_lem q k in (
-        ap (λ (z : Panel). screen z fb) r.0 ∙ argues (panel_in l) fb b q (λ z. h (sym code ∙ z))
-            (j ∙ ap (λ (z : Panel). argued z b) i),
-        r.1,
-      )
+    pub data_argument : {l' w : List ℕ} {p q : Panel} → n ≢ 0x2C → p ≡ panel_in l → q ≡ argued p b
+        → ((f : List Float) → Put l f l' f w f (panel_put (parts_in l f) q))
+        → (screen (panel_in l') fb ≡ screen_after_input (screen (panel_in l) fb) (byte b)) × OnlyPanel l l'
+    data_argument {q = q} h i j k =
+        let r = panel_put_lem q k in (
+          ap (λ (z : Panel). screen z fb) r.0 ∙ argues (panel_in l) fb b q (λ z. h (sym code ∙ z))
+              (j ∙ ap (λ (z : Panel). argued z b) i),
+          r.1,
+        )

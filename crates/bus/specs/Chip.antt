@@ -44,7 +44,8 @@ flashed slots c = record { slots = slots; left = c }
 
 -- bit 6 selects
 unfoldable pub select_written : List ℕ → Chip → List ℕ → List ℕ → ℕ → Flashed
-select_written slots c page ram new = flashed (own_with slots SPIFC_SELECT new) (selected_over c page ram (has new 0x40))
+select_written slots c page ram new = flashed (own_with slots SPIFC_SELECT new)
+    (selected_over c page ram (has new 0x40))
 
 -- the low byte is sent
 unfoldable pub send_written : List ℕ → Chip → List ℕ → List ℕ → ℕ → Flashed

@@ -101,7 +101,8 @@ abbrev pub cut_given : Given → ℕ → ℕ → Given
 cut_given x a n = given x.slots (cut_of x.value a n)
 
 unfoldable pub reg_read : Registers → List ℕ → Devices → ℕ → ℕ → Given
-reg_read r sram d a n = cut_given (word_read r.slots d (clock_in sram) (word_address a) (word_at r (word_address a))) a n
+reg_read r sram d a n = cut_given (word_read r.slots d (clock_in sram) (word_address a)
+    (word_at r (word_address a))) a n
 
 pub record ReadOut : Type 0 where
   pub slots : List ℕ

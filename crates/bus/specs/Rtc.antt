@@ -13,7 +13,8 @@ abbrev pub rtc_done : List ℕ → Rtc → RtcDone
 rtc_done slots r = record { slots = slots; chip = r }
 
 abbrev pub commanded_by : List ℕ → Rtc → Float → ℕ → RtcDone
-commanded_by slots r game new = rtc_done slots (commanded_of r game (own_at slots RTC_ADDRESS) (own_at slots RTC_DATA) new)
+commanded_by slots r game new = rtc_done slots (commanded_of r game (own_at slots RTC_ADDRESS)
+    (own_at slots RTC_DATA) new)
 
 unfoldable pub command_written : List ℕ → Rtc → Float → ℕ → RtcDone
 command_written slots r game new = commanded_by (own_with slots RTC_COMMAND new) r game new

@@ -1,5 +1,6 @@
 -- The branches of the definitions, as the functions meet them.
-use Rattle.std.proofs.Common.{◌≡◌, ℕ, suc, ◌-◌, ◌*◌, ◌/◌, ◌%◌, ◌^◌, ◌<◌, ◌≤◌, true, false, ◌≢◌, List, get_or, set, ℤ, pos, negsuc, sym, ap, ◌∙◌, arith, eq-eqb, ne_eqb, le-leb}
+use Rattle.std.proofs.Common.{◌≡◌, ℕ, suc, ◌-◌, ◌*◌, ◌/◌, ◌%◌, ◌^◌, ◌<◌, ◌≤◌, true, false, ◌≢◌, List, get_or, set}
+use Rattle.std.proofs.Common.{ℤ, pos, negsuc, sym, ap, ◌∙◌, arith, eq-eqb, ne_eqb, le-leb}
 use lib.Bits.{bit_and}
 use lib.Signed.{mag}
 use lib.Ieee.{Float, binary64, of_bits, lt, to_signed}
@@ -55,7 +56,8 @@ below (negsuc n) t m e l = ap (λ (x : ℕ). 86399 - x % 86400) (back n t m e)
     back : (n t : ℕ) → n < 2 ^ 63 → t ≡ 2 ^ 64 - suc n → 2 ^ 64 - 1 - t ≡ n
     back n t m e = omega arith
 
-pub day_from : (x : Float) (t : ℕ) → t ≡ twos (to_signed 63 x) → t < 2 ^ 63 → t % 86400 ≡ rem_euclid (to_signed 63 x) 86400
+pub day_from : (x : Float) (t : ℕ) → t ≡ twos (to_signed 63 x) → t < 2 ^ 63 → t % 86400 ≡ rem_euclid
+    (to_signed 63 x) 86400
 day_from x t e l = from (to_signed 63 x) t (to_signed_in 63 x) e l
 
 pub day_below : (x : Float) (t : ℕ) → t ≡ twos (to_signed 63 x) → 2 ^ 63 ≤ t
@@ -101,7 +103,8 @@ module _ (latch : Latch) (regs : List ℕ) (game : Float) (address word cmd : �
   unfolding commanded_of
   commands_ask o c d e = rw (has_not cmd 1 c, has_some cmd 2 d, e)
 
-  pub commands_nothing : bit_and cmd 1 ≡ 0 → bit_and cmd 2 ≡ 0 → rtc_of regs latch ≡ commanded_of (rtc_of regs latch) game
+  pub commands_nothing : bit_and cmd 1 ≡ 0 → bit_and cmd 2 ≡ 0 → rtc_of regs latch ≡ commanded_of
+      (rtc_of regs latch) game
       address word cmd
   unfolding commanded_of
   commands_nothing c d = rw (has_not cmd 1 c, has_not cmd 2 d)

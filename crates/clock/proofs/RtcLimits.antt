@@ -1,5 +1,8 @@
 -- Within the limits the RTC's ticks are exact and below 2 ^ 63; and the chip stays within them, and does not go back.
-use Rattle.std.proofs.Common.{◌≡◌, ℕ, zero, suc, ◌+◌, ◌-◌, ◌*◌, ◌/◌, ◌%◌, ◌^◌, ◌<◌, ◌≤◌, false, cond, ◌&&◌, T, eqb, leb, List, [], ◌∷◌, length, get_or, set, replicate, pos, sym, ap, ◌∙◌, le_trans, le_of_eq, lt_of_lt_of_le, lt_of_le_of_lt, mod-lt, mod-eq_of_lt, arith, lit<, lit≤, length-set}
+use Rattle.std.proofs.Common.{◌≡◌, ℕ, zero, suc, ◌+◌, ◌-◌, ◌*◌, ◌/◌, ◌%◌, ◌^◌, ◌<◌, ◌≤◌, false, cond, ◌&&◌, T, eqb}
+use Rattle.std.proofs.Common.{leb, List, [], ◌∷◌, length, get_or, set, replicate, pos, sym, ap, ◌∙◌, le_trans}
+use Rattle.std.proofs.Common.{le_of_eq, lt_of_lt_of_le, lt_of_le_of_lt, mod-lt, mod-eq_of_lt, arith, lit<, lit≤}
+use Rattle.std.proofs.Common.{length-set}
 use lib.Bits.{bit_and, and_le_r}
 use lib.ListN.{length-replicate}
 use lib.Ieee.{Float, fin, binary64, of_bits, add, sub, mul, le, to_unsigned}

@@ -1,5 +1,6 @@
 -- Within the limits a periodic source has signalled exactly the whole periods that have passed.
-use Rattle.std.proofs.Common.{◌≡◌, ℕ, ◌^◌, ◌≤◌, Bool, true, false, cond, T, ltb, pos, refl, le_trans, le_of_eq, arith, lit<, lit≤, ltb-false}
+use Rattle.std.proofs.Common.{◌≡◌, ℕ, ◌^◌, ◌≤◌, Bool, true, false, cond, T, ltb, pos, refl, le_trans, le_of_eq}
+use Rattle.std.proofs.Common.{arith, lit<, lit≤, ltb-false}
 use lib.Bits.{bit_or}
 use lib.Ieee.{Float, fin, binary64, of_bits, mul, div, le, to_unsigned}
 use Rattle.whole.specs.Bounds.{AtMost, WholePart}

@@ -1,5 +1,6 @@
 -- The RTC chip, as document 000 has it: Rtc, ticks, alarm_ticks, rtc_command. An i64 is given by its 64 bits.
-use Rattle.std.specs.Prelude.{ℕ, ◌+◌, ◌-◌, ◌*◌, ◌/◌, ◌%◌, ◌^◌, cond, ◌&&◌, List, replicate, ◌==◌, bit_and, from_bits, nat_le, slice_index, slice_set, Float}
+use Rattle.std.specs.Prelude.{ℕ, ◌+◌, ◌-◌, ◌*◌, ◌/◌, ◌%◌, ◌^◌, cond, ◌&&◌, List, replicate, ◌==◌, bit_and}
+use Rattle.std.specs.Prelude.{from_bits, nat_le, slice_index, slice_set, Float}
 use Rattle.std.specs.Float.{binary64}
 use Rattle.std.specs.Float.Ieee.{sub, mul, to_signed}
 use Rattle.whole.specs.Cut.{twos}
@@ -21,7 +22,8 @@ joined_of a b c d e f = a + b * 2 ^ 8 + c * 2 ^ 16 + d * 2 ^ 24 + e * 2 ^ 32 + f
 
 unfoldable pub six_bytes : List ℕ → ℕ → ℕ
 six_bytes regs from =
-    joined_of (slice_index regs from) (slice_index regs (from + 1)) (slice_index regs (from + 2)) (slice_index regs (from + 3))
+    joined_of (slice_index regs from) (slice_index regs (from + 1)) (slice_index regs (from + 2))
+    (slice_index regs (from + 3))
     (slice_index regs (from + 4)) (slice_index regs (from + 5))
 
 unfoldable pub alarm_of : List ℕ → Alarm

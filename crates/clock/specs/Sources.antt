@@ -19,7 +19,8 @@ vsync_of last now status = signal_of (to_unsigned 64 (mul binary64 now (from_bit
 
 -- (game / 1.0) as u64
 abbrev pub tick_of : ℕ → Float → ℕ → Signal
-tick_of fired game status = signal_of (to_unsigned 64 (div binary64 game (from_bits binary64 0x3FF0_0000_0000_0000))) fired
+tick_of fired game status = signal_of (to_unsigned 64 (div binary64 game
+    (from_bits binary64 0x3FF0_0000_0000_0000))) fired
     status RTC_TICK_BIT
 
 abbrev pub ticked_of : RtcIrq → Float → ℕ → Ticked

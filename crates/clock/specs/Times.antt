@@ -11,7 +11,12 @@ use Rattle.clock.specs.declared.Paced.{Paced}
 use Rattle.clock.specs.declared.Paced.TheVariants.{By, BadTurbo}
 
 abbrev pub fresh_times : Times
-fresh_times = record { now = from_bits binary64 0; game = from_bits binary64 0; turbo = from_bits binary64 0x3FF0_0000_0000_0000 }
+fresh_times = record {
+  now = from_bits binary64 0;
+  game = from_bits binary64 0;
+  turbo = from_bits binary64
+      0x3FF0_0000_0000_0000;
+}
 
 -- `game_time += (now - self.now) * self.turbo`
 abbrev pub game_after : Times → Float → Float

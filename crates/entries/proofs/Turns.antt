@@ -22,7 +22,8 @@ use Rattle.system.specs.declared.Changed.{Changed}
 use Rattle.system.specs.declared.Read.{Read}
 use Rattle.system.specs.declared.Taken.{Taken}
 use Rattle.system.specs.System.{Machine, machine, Left, left}
-use Rattle.system.specs.Calls.{changed, Moved, moved, read_of, write_of, advance_of, next_of, turbo_of, pending_of, take_of}
+use Rattle.system.specs.Calls.{changed, Moved, moved, read_of, write_of, advance_of, next_of, turbo_of, pending_of}
+use Rattle.system.specs.Calls.{take_of}
 use Rattle.system.specs.Calls.{live_of, hold_of, press_of, wiped_of}
 use Rattle.system.specs.Steps as steps
 use Rattle.system.specs.Steps.{Op, step, with_system, by_change}

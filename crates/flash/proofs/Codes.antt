@@ -45,7 +45,8 @@ pub by_code : (P : ℕ → Type 0)
 by_code P p06 p04 p05 p35 p03 p0_b p02 p20 p52 p_d8 p_c7 p60 p9_f p90 pAB p4_b rest c =
     is P c 0x06 p06 λ h06. is P c 0x04 p04 λ h04. is P c 0x05 p05 λ h05. is P c 0x35 p35 λ h35. is P c 0x03 p03 λ h03.
     is P c 0x0B p0_b λ h0_b.
-    is P c 0x02 p02 λ h02. is P c 0x20 p20 λ h20. is P c 0x52 p52 λ h52. is P c 0xD8 p_d8 λ h_d8. is P c 0xC7 p_c7 λ h_c7.
+    is P c 0x02 p02 λ h02. is P c 0x20 p20 λ h20. is P c 0x52 p52 λ h52. is P c 0xD8 p_d8 λ h_d8. is P c 0xC7 p_c7 λ
+    h_c7.
     is P c 0x60 p60 λ h60.
     is P c 0x9F p9_f λ h9_f. is P c 0x90 p90 λ h90. is P c 0xAB pAB λ hAB. is P c 0x4B p4_b λ h4_b.
     rest c (unlisted c h06 h04 h05 h35 h03 h0_b h02 h20 h52 h_d8 h_c7 h60 h9_f h90 hAB h4_b)

@@ -1,6 +1,10 @@
 -- The chip against the data sheet: over the whole list of bytes first, then over the definition that the contracts
 -- cite.
-use Rattle.std.proofs.Common.{◌≡◌, ℕ, zero, suc, ◌+◌, ◌-◌, ◌*◌, ◌%◌, ◌<◌, ◌≤◌, Bool, true, false, not, eqb, ltb, leb, List, [], ◌∷◌, ◌++◌, length, get_or, take, drop, set, replicate, sym, refl, ap, ◌∙◌, subst, ap₂, append_assoc, append-nil, not-suc-le-zero, mod-lt, mod-eq_of_lt, arith, length-drop, length-set, get_or-drop, get_or-set_other, ltb-false, le-ltb, lt-ltb, eq-eqb, ne_eqb, le-leb}
+use Rattle.std.proofs.Common.{◌≡◌, ℕ, zero, suc, ◌+◌, ◌-◌, ◌*◌, ◌%◌, ◌<◌, ◌≤◌, Bool, true, false, not, eqb, ltb}
+use Rattle.std.proofs.Common.{leb, List, [], ◌∷◌, ◌++◌, length, get_or, take, drop, set, replicate, sym, refl, ap}
+use Rattle.std.proofs.Common.{◌∙◌, subst, ap₂, append_assoc, append-nil, not-suc-le-zero, mod-lt, mod-eq_of_lt}
+use Rattle.std.proofs.Common.{arith, length-drop, length-set, get_or-drop, get_or-set_other, ltb-false, le-ltb}
+use Rattle.std.proofs.Common.{lt-ltb, eq-eqb, ne_eqb, le-leb}
 use native.Mathlib.Nat.{add-mod-mod, mod-mod_of_dvd, dvd_of_mod-eq-zero}
 use lib.ListN.{get_or-replicate}
 use lib.Bits.{bit_and, and_mask, and_comm}
@@ -12,7 +16,7 @@ use Rattle.flash.specs.Buf.{blank}
 use Rattle.flash.specs.Xfer.{jedec, kind_of, maker_of, read_of, reply_to, answer_of}
 use Rattle.flash.specs.Finish.{order_of, exactly, guard_of, act_of, ands, patch, array_after, wel_after, writes_after}
 use Rattle.flash.specs.Flash.{deselect_act}
-use Rattle.flash.specs.Steps.{Step, cs, byte, sends}
+use Rattle.flash.specs.Steps.{cs, byte, sends}
 use Rattle.flash.specs.Rust.{Sys}
 use Rattle.flash.specs.Run.{Bytes, Good, after_step, after_steps, answers, transaction}
 use Rattle.flash.proofs.Whole.{at, trans_at, exact_trans, rounded_trans, ands_from, page_of, compact_board, list_after}
@@ -355,7 +359,8 @@ module _ (e : Mode) (w : Bool) (m : List ℕ) (s : Sized (length m)) (y : Bytes 
       → Left (afterwards (state m w) (c ∷ bs)) (state_after_act w m (c ∷ bs) (act_of e w (exact_trans (c ∷ bs))))
   erases c k b p q x z h =
       ends c (erase k) _ p (q ∙ ap (λ (t : Bool). pick t b Nothing) (just_4 w e (suc (length bs)) h))
-      (runs (both w (eqb (suc (length bs)) 4)) e w m (c ∷ bs) b (array_after_erase m (address (c ∷ bs) (length m)) k) x z)
+      (runs (both w (eqb (suc (length bs)) 4)) e w m (c ∷ bs) b
+      (array_after_erase m (address (c ∷ bs) (length m)) k) x z)
 
   wipes : (c : ℕ) → instruction c ≡ chip_erase → act_of e w (exact_trans (c ∷ bs))
       ≡ pick (may_wipe e w (suc (length bs))) EraseAll Nothing
@@ -380,7 +385,8 @@ module _ (e : Mode) (w : Bool) (m : List ℕ) (s : Sized (length m)) (y : Bytes 
   pub ends_agree : Bytes bs → (c : ℕ) → c < 256 → EndsAt e w m bs c
   unfolding instruction table others
   ends_agree z c₀ l₀ = by_code (λ (c : ℕ). c < 256 → EndsAt e w m bs c)
-      (λ l h. ends 0x06 write_enable Enable refl (act_cons e w 0x06 bs) (maybe (eqb (suc (length bs)) 1) (state m true)))
+      (λ l h. ends 0x06 write_enable Enable refl (act_cons e w 0x06 bs)
+      (maybe (eqb (suc (length bs)) 1) (state m true)))
       (λ l h. ends 0x04 write_disable Disable refl (act_cons e w 0x04 bs)
       (maybe (eqb (suc (length bs)) 1) (state m false)))
       (λ l. quiet 0x05 1 status_register1 refl (act_cons e w 0x05 bs))

@@ -1,5 +1,8 @@
 -- The lists of departures are not too long: what is listed does differ from the data sheet.
-use Rattle.std.proofs.Common.{◌≡◌, ℕ, zero, suc, ◌+◌, ◌-◌, ◌%◌, ◌<◌, ◌≤◌, Bool, true, false, eqb, ltb, leb, List, [], ◌∷◌, ◌++◌, length, get_or, take, drop, replicate, sym, refl, ap, ◌∙◌, subst, ap₂, not-suc-le-zero, mod-eq_of_lt, arith, ltb-true, le-ltb, lt-ltb, ne_eqb, eqb-true, le-leb}
+use Rattle.std.proofs.Common.{◌≡◌, ℕ, zero, suc, ◌+◌, ◌-◌, ◌%◌, ◌<◌, ◌≤◌, Bool, true, false, eqb, ltb, leb, List}
+use Rattle.std.proofs.Common.{[], ◌∷◌, ◌++◌, length, get_or, take, drop, replicate, sym, refl, ap, ◌∙◌, subst, ap₂}
+use Rattle.std.proofs.Common.{not-suc-le-zero, mod-eq_of_lt, arith, ltb-true, le-ltb, lt-ltb, ne_eqb, eqb-true}
+use Rattle.std.proofs.Common.{le-leb}
 use native.Mathlib.Nat.{zero-mod}
 use lib.Bits.{bit_and, and_mask, and_zero_r}
 use Rattle.flash.specs.Pick.{pick, both}
@@ -80,7 +83,8 @@ module _ (w : Board) (g : Good w.array) (s : w.chip.cs ≡ false) (r : w.chip.mo
       executes c 4 (erase k) (array_after_erase w.array (address (c ∷ bs) (length w.array)) k) a
       (may_erase Rust true (suc (length bs))) p refl l o (rw (le-leb 4 (suc (length bs)) (omega arith))) z
 
-  wipes : (c : ℕ) → instruction c ≡ chip_erase → act_of Rust true (exact_trans (c ∷ bs)) ≡ EraseAll → 1 < suc (length bs)
+  wipes : (c : ℕ) → instruction c ≡ chip_erase → act_of Rust true (exact_trans (c ∷ bs)) ≡ EraseAll → 1 < suc
+      (length bs)
       → Conforms w (c ∷ bs) → ⊥
   wipes c p o l = executes c 1 chip_erase (replicate (length w.array) 0xFF) EraseAll true p refl l o refl refl
 

@@ -1,5 +1,6 @@
 -- Demand 3 for the flash: the bytes of a transaction with write enable off, none of them a first 0x06, are forgotten.
-use Rattle.std.proofs.Common.{◌≡◌, ℕ, zero, suc, ◌+◌, Bool, true, false, eqb, leb, ◌⊎◌, List, [], ◌∷◌, ◌++◌, length, sym, refl, ap, ◌∙◌, subst, ap₂, inl, inr, ⊎_elim, arith, ne_eqb}
+use Rattle.std.proofs.Common.{◌≡◌, ℕ, zero, suc, ◌+◌, Bool, true, false, eqb, leb, ◌⊎◌, List, [], ◌∷◌, ◌++◌, length}
+use Rattle.std.proofs.Common.{sym, refl, ap, ◌∙◌, subst, ap₂, inl, inr, ⊎_elim, arith, ne_eqb}
 use Rattle.whole.proofs.Choice.{by_test}
 use Rattle.flash.specs.Pick.{pick}
 use Rattle.flash.specs.Board.{Board, Outcome, board, with_cs, with_rx, with_tx, good_size}

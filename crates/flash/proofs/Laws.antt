@@ -1,5 +1,7 @@
 -- Laws of sizes, of addresses within them, and of a part that was lent and has come back.
-use Rattle.std.proofs.Common.{◌≡◌, ℕ, zero, suc, ◌+◌, ◌-◌, ◌%◌, ◌^◌, ◌<◌, ◌≤◌, Bool, true, false, not, eqb, List, length, take, drop, sym, refl, ◌∙◌, subst, arith, length-drop, length-take-le, drop-drop, eqb-true}
+use Rattle.std.proofs.Common.{◌≡◌, ℕ, zero, suc, ◌+◌, ◌-◌, ◌%◌, ◌^◌, ◌<◌, ◌≤◌, Bool, true, false, not, eqb, List}
+use Rattle.std.proofs.Common.{length, take, drop, sym, refl, ◌∙◌, subst, arith, length-drop, length-take-le}
+use Rattle.std.proofs.Common.{drop-drop, eqb-true}
 use native.Mathlib.Nat.{add-sub_cancel_left}
 use borrow.Author.Tests.{eqb-false, not-false}
 use borrow.Rule.Slice.PartMut.{put_mid}
@@ -61,7 +63,8 @@ sizes n = (
         let p = both_parts (good_size (2 ^ (16 + j))) (goods j) h in
         last (eqb k (16 + j)) refl p.0 (tested j p.1 k l)
       where
-        last : (t : Bool) → eqb k (16 + j) ≡ t → good_size (2 ^ (16 + j)) ≡ true → (k < 16 + j → good_size (2 ^ k) ≡ true)
+        last : (t : Bool) → eqb k (16 + j) ≡ t → good_size (2 ^ (16 + j)) ≡ true →
+            (k < 16 + j → good_size (2 ^ k) ≡ true)
             → good_size (2 ^ k) ≡ true
         last true e g f = rw (eqb-true k (16 + j) e) g
         last false e g f = let n : k ≡ 16 + j → ⊥ = eqb-false k (16 + j) e in f (omega arith)

@@ -1,5 +1,8 @@
 -- sys.rs word for word, and the chip: every run in the Rust's mode is the Rust's.
-use Rattle.std.proofs.Common.{◌≡◌, ℕ, zero, suc, ◌+◌, ◌-◌, ◌*◌, ◌/◌, ◌%◌, ◌^◌, ◌<◌, ◌≤◌, Bool, true, false, eqb, ltb, leb, List, [], ◌∷◌, ◌++◌, length, get_or, drop, sym, refl, ap, ◌∙◌, subst, ap₂, mod-lt, mod-eq_of_lt, div-lt_iff_lt-mul, div-add-mod', arith, length-append, pow_pos, pow-add, le-ltb, lt-ltb, ne_eqb, le-leb}
+use Rattle.std.proofs.Common.{◌≡◌, ℕ, zero, suc, ◌+◌, ◌-◌, ◌*◌, ◌/◌, ◌%◌, ◌^◌, ◌<◌, ◌≤◌, Bool, true, false, eqb}
+use Rattle.std.proofs.Common.{ltb, leb, List, [], ◌∷◌, ◌++◌, length, get_or, drop, sym, refl, ap, ◌∙◌, subst, ap₂}
+use Rattle.std.proofs.Common.{mod-lt, mod-eq_of_lt, div-lt_iff_lt-mul, div-add-mod', arith, length-append, pow_pos}
+use Rattle.std.proofs.Common.{pow-add, le-ltb, lt-ltb, ne_eqb, le-leb}
 use native.Mathlib.Nat.{add-mod-mod}
 use lib.ListN.{get_or-eq_default}
 use lib.Seq.{take-append_seam}
@@ -89,7 +92,8 @@ module _ (w : Bool) (m b : List ℕ) (y : Bytes b) (i : ℕ) (u : 1 ≤ i) where
   unfolding kind_of
   no_kind c h9_f h90 hAB h05 h35 h15 h03 h0_b h4_b = rw (h9_f, h90, hAB, h05, h35, h15, h03, h0_b, h4_b)
 
-  read_is : (k : ℕ) → k ≤ i → get_or m ((flash_addr b (length m) + i - k) % length m) 0 ≡ read_of (trans_at b i) (i - k) m
+  read_is : (k : ℕ) → k ≤ i → get_or m ((flash_addr b (length m) + i - k) % length m) 0 ≡ read_of (trans_at b i)
+      (i - k) m
   unfolding read_of
   read_is k l =
       ap (λ (j : ℕ). get_or m j 0)
@@ -132,7 +136,8 @@ module _ (w : Bool) (n : ℕ) (m : List ℕ) (s : Sized (length m)) (z : Bytes m
   allows t true c a x p h = rw p h
   allows t false c a x p h = rw p
 
-  acts : (c : ℕ) (a : Act) → act_of Rust w (exact_trans (c ∷ bs)) ≡ a → finish_cmd w n m (c ∷ bs) c ≡ ends a w n (c ∷ bs) m
+  acts : (c : ℕ) (a : Act) → act_of Rust w (exact_trans (c ∷ bs)) ≡ a → finish_cmd w n m (c ∷ bs) c ≡ ends a w n
+      (c ∷ bs) m
       → finish_cmd w n m (c ∷ bs) c ≡ ends (act_of Rust w (exact_trans (c ∷ bs))) w n (c ∷ bs) m
   acts c a p h = h ∙ ap (λ (a : Act). ends a w n (c ∷ bs) m) (sym p)
 

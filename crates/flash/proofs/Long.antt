@@ -1,5 +1,6 @@
 -- No step changes the length of the array.
-use Rattle.std.proofs.Common.{◌≡◌, ℕ, suc, ◌+◌, ◌≤◌, Bool, true, false, List, [], ◌∷◌, length, take, drop, replicate, refl, ap, ◌∙◌, mod-lt, arith, length-append, length-drop, length-take-le}
+use Rattle.std.proofs.Common.{◌≡◌, ℕ, suc, ◌+◌, ◌≤◌, Bool, true, false, List, [], ◌∷◌, length, take, drop}
+use Rattle.std.proofs.Common.{replicate, refl, ap, ◌∙◌, mod-lt, arith, length-append, length-drop, length-take-le}
 use lib.ListN.{length-replicate}
 use Rattle.flash.specs.Pick.{pick}
 use Rattle.flash.specs.declared.Act.{Act}

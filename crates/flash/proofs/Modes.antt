@@ -1,6 +1,7 @@
 -- Strict mode differs from document 000 by the rules named for it alone, and each strict departure keeps document 000's
 -- behaviour.
-use Rattle.std.proofs.Common.{◌≡◌, ℕ, zero, suc, ◌-◌, ◌%◌, ◌<◌, ◌≤◌, Bool, true, false, eqb, List, [], ◌∷◌, length, sym, refl, ap, ◌∙◌, not-suc-le-zero, mod-lt, arith, ltb-false, le-ltb, lt-ltb}
+use Rattle.std.proofs.Common.{◌≡◌, ℕ, zero, suc, ◌-◌, ◌%◌, ◌<◌, ◌≤◌, Bool, true, false, eqb, List, [], ◌∷◌, length}
+use Rattle.std.proofs.Common.{sym, refl, ap, ◌∙◌, not-suc-le-zero, mod-lt, arith, ltb-false, le-ltb, lt-ltb}
 use borrow.Author.Tests.{eqb-false}
 use Rattle.whole.proofs.Choice.{by_less}
 use Rattle.flash.specs.Pick.{pick}
@@ -89,7 +90,8 @@ module _ (w : Bool) (m : List ℕ) (bs : List ℕ) (i : ℕ) where
       (λ k. rw (le-ltb i 4 k) (maker_0 Strict b i (even_90 bs h) ∙ sym (maker_0 Rust b i (even_90 bs h))))
 
   reply_same : (c : ℕ) → SameReply c
-  reply_same c = is SameReply c 0x90 maker_same (λ f g. free_reply (kind_of c) (free_kind c f) w (trans_at (c ∷ bs) i) m)
+  reply_same c = is SameReply c 0x90 maker_same (λ f g. free_reply (kind_of c) (free_kind c f) w
+      (trans_at (c ∷ bs) i) m)
 
 answer_same : (w : Bool) (m : List ℕ) (bs : List ℕ) (i : ℕ) → i < length bs → named bs ≡ false
     → answer_of Strict w (trans_at bs i) m ≡ answer_of Rust w (trans_at bs i) m
@@ -122,7 +124,8 @@ module _ (w : Bool) (bs : List ℕ) where
       → size ≤ 4 → Same c
   erases c a f l = tested c (λ e. may_erase e w size) a f (just_4 w Strict size tt ∙ sym (just_4 w Rust size l))
 
-  wipes : (c : ℕ) → ((e : Mode) → act_of e w (exact_trans (c ∷ bs)) ≡ pick (may_wipe e w size) EraseAll Nothing) → size ≤ 1
+  wipes : (c : ℕ) → ((e : Mode) → act_of e w (exact_trans (c ∷ bs)) ≡ pick (may_wipe e w size) EraseAll Nothing) →
+      size ≤ 1
       → Same c
   wipes c f l =
       tested c (λ e. may_wipe e w size) EraseAll f
@@ -149,7 +152,8 @@ module _ (w : Bool) (bs : List ℕ) where
       (λ h. calm 0x4B Nothing (λ e. act_cons e w 0x4B bs))
       (λ c u h. calm c Nothing (λ e. act_cons e w c bs ∙ rw u.order))
 
-act_same : (w : Bool) (bs : List ℕ) → named bs ≡ false → act_of Strict w (exact_trans bs) ≡ act_of Rust w (exact_trans bs)
+act_same : (w : Bool) (bs : List ℕ) → named bs ≡ false → act_of Strict w (exact_trans bs) ≡ act_of Rust w
+    (exact_trans bs)
 unfolding act_of
 act_same w [] h = refl
 act_same w (c ∷ bs) h = same_act w bs c h

@@ -1,5 +1,6 @@
 -- The position that stands for a length: exact through the header, then going round.
-use Rattle.std.proofs.Common.{◌≡◌, ℕ, suc, ◌+◌, ◌-◌, ◌%◌, ◌<◌, ◌≤◌, Bool, true, false, eqb, ltb, leb, sym, refl, ap, ◌∙◌, mod-lt, mod-eq_of_lt, arith, le-ltb, lt-ltb, ne_eqb, le-leb}
+use Rattle.std.proofs.Common.{◌≡◌, ℕ, suc, ◌+◌, ◌-◌, ◌%◌, ◌<◌, ◌≤◌, eqb, ltb, leb, sym, ap}
+use Rattle.std.proofs.Common.{◌∙◌, mod-lt, mod-eq_of_lt, arith, le-ltb, lt-ltb, ne_eqb, le-leb}
 use native.Mathlib.Nat.{mod_self, zero-mod, suc-mod, add-mod-mod, mod-mod_of_dvd}
 use native.Mathlib.Nat.{dvd_of_mod-eq-zero}
 use borrow.Author.Tests.{lt-leb}

@@ -1,6 +1,9 @@
 -- The compact state refines the list of bytes: what a step does to the list, the chip does to the list's compact state;
 -- and a position that goes round answers and acts as the length does.
-use Rattle.std.proofs.Common.{◌≡◌, ℕ, zero, suc, ◌+◌, ◌-◌, ◌%◌, ◌<◌, ◌≤◌, Bool, true, false, eqb, ltb, List, [], ◌∷◌, ◌++◌, length, get_or, take, drop, set, sym, refl, ap, ◌∙◌, ap₂, not-suc-le-zero, le_of_lt, mod-lt, arith, length-append, length-drop, drop_of_length-le, length-take-le, get_or-take, le-ltb, lt-ltb, eq-eqb, ne_eqb}
+use Rattle.std.proofs.Common.{◌≡◌, ℕ, zero, suc, ◌+◌, ◌-◌, ◌%◌, ◌<◌, ◌≤◌, Bool, true, false, eqb, ltb, List, []}
+use Rattle.std.proofs.Common.{◌∷◌, ◌++◌, length, get_or, take, drop, set, sym, refl, ap, ◌∙◌, ap₂, not-suc-le-zero}
+use Rattle.std.proofs.Common.{le_of_lt, mod-lt, arith, length-append, length-drop, drop_of_length-le}
+use Rattle.std.proofs.Common.{length-take-le, get_or-take, le-ltb, lt-ltb, eq-eqb, ne_eqb}
 use native.Mathlib.Nat.{mod-add-mod, add-mod-mod, mod_self}
 use lib.ListN.{get_or-append}
 use lib.ListN.{get_or-eq_default}
@@ -126,7 +129,8 @@ pub on_view : (e : Mode) (s : Sys) → select_board (compact_board e s) true ≡
 on_view e s = go s.cs s.buf s.rx s.wel s.writes s.ram
   where
     go : (c : Bool) (b : List ℕ) (r : ℕ) (w : Bool) (n : ℕ) (m : List ℕ)
-        → select_board (compact_board e (sys c b r w n m)) true ≡ compact_board e (list_after e (sys c b r w n m) (cs true))
+        → select_board (compact_board e (sys c b r w n m)) true ≡ compact_board e
+        (list_after e (sys c b r w n m) (cs true))
     go true b r w n m = refl
     go false b r w n m = refl
 
@@ -156,7 +160,8 @@ ltb_pick n i c {u} {v} h f =
     ∙ by_less i c (λ l. rw (lt-ltb i c l)) (λ l. rw (le-ltb i c l) (f l))
 
 read_exact : (c : ℕ) (b m : List ℕ) → c ≤ 5 → c ≤ length b
-    → read_of (rounded_trans (length m) b) (place (length m) (length b) - c) m ≡ read_of (exact_trans b) (length b - c) m
+    → read_of (rounded_trans (length m) b) (place (length m) (length b) - c) m ≡ read_of (exact_trans b)
+    (length b - c) m
 unfolding read_of
 read_exact c b m f l =
     ap (λ (k : ℕ). get_or m ((addr_of (exact_trans b) (length m) + k) % length m) 0)
@@ -178,7 +183,8 @@ reply_exact FastRead e w b m s = ltb_pick (length m) (length b) 5 (omega arith) 
 reply_exact Unique e w b m s = ltb_pick (length m) (length b) 5 (omega arith) (λ h. refl)
 reply_exact Other e w b m s = refl
 
-pub answer_exact : (e : Mode) (w : Bool) (b m : List ℕ) → Sized (length m) → answer_of e w (rounded_trans (length m) b) m
+pub answer_exact : (e : Mode) (w : Bool) (b m : List ℕ) → Sized (length m) → answer_of e w
+    (rounded_trans (length m) b) m
     ≡ answer_of e w (exact_trans b) m
 unfolding answer_of
 answer_exact e w b m s =
@@ -212,7 +218,12 @@ read_ahead : (b m : List ℕ) (i far : ℕ) (l : Bool) → 4 ≤ i
       long = l;
     }) far m ≡ read_of (trans_at b i) far m
 unfolding read_of
-read_ahead b m i far l h = rw (get_or-take i b 1 0 (omega arith), get_or-take i b 2 0 (omega arith), get_or-take i b 3 0 h)
+read_ahead b m i far l h = rw (
+  get_or-take i b 1 0 (omega arith),
+  get_or-take i b 2 0 (omega arith),
+  get_or-take i b
+      3 0 h,
+)
 
 reply_ahead : (k : Kind) (e : Mode) (w : Bool) (b m : List ℕ) (i : ℕ) → i ≤ length b
     → reply_to k e w (exact_trans (take i b)) m ≡ reply_to k e w (trans_at b i) m
@@ -226,7 +237,8 @@ reply_ahead FastRead e w b m i l = rw (length-take-le i b l) (past i 5 (λ h. re
 reply_ahead Unique e w b m i l = rw (length-take-le i b l)
 reply_ahead Other e w b m i l = refl
 
-pub answer_ahead : (e : Mode) (w : Bool) (b m : List ℕ) (i : ℕ) → i ≤ length b → answer_of e w (exact_trans (take i b)) m
+pub answer_ahead : (e : Mode) (w : Bool) (b m : List ℕ) (i : ℕ) → i ≤ length b → answer_of e w
+    (exact_trans (take i b)) m
     ≡ answer_of e w (trans_at b i) m
 unfolding answer_of
 answer_ahead e w b m zero l = refl

@@ -1,5 +1,6 @@
 -- Every run of the chip is the run beside the list of bytes, made compact.
-use Rattle.std.proofs.Common.{◌≡◌, ℕ, zero, suc, ◌+◌, Bool, true, false, List, [], ◌∷◌, ◌++◌, length, take, drop, replicate, refl, ap, ◌∙◌, ap₂, lt_of_le_of_lt, arith, get_or-drop}
+use Rattle.std.proofs.Common.{◌≡◌, ℕ, zero, suc, ◌+◌, Bool, true, false, List, [], ◌∷◌, ◌++◌, length, take, drop}
+use Rattle.std.proofs.Common.{replicate, refl, ap, ◌∙◌, ap₂, lt_of_le_of_lt, arith, get_or-drop}
 use lib.Bits.{and_le_l}
 use Rattle.flash.specs.Pick.{pick}
 use Rattle.flash.specs.Board.{Board, board}

@@ -1,5 +1,6 @@
 -- A chip in strict mode keeps 01's rules for it.
-use Rattle.std.proofs.Common.{◌≡◌, ℕ, suc, ◌-◌, ◌%◌, ◌<◌, ◌≤◌, Bool, true, false, eqb, leb, List, [], ◌∷◌, length, get_or, refl, ap, ◌∙◌, not-suc-le-zero, arith, le-ltb, ne_eqb, eqb-true}
+use Rattle.std.proofs.Common.{◌≡◌, ℕ, suc, ◌-◌, ◌%◌, ◌<◌, ◌≤◌, Bool, true, false, eqb, leb, List, [], ◌∷◌, length}
+use Rattle.std.proofs.Common.{get_or, refl, ap, ◌∙◌, not-suc-le-zero, arith, le-ltb, ne_eqb, eqb-true}
 use Rattle.flash.specs.Pick.{pick, both}
 use Rattle.flash.specs.Board.{Board}
 use Rattle.flash.specs.Run.{Good}

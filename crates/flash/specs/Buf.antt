@@ -1,6 +1,7 @@
 -- `flash.buf`, compact: the first bytes of a transaction, its position, and the running AND of the page that it
 -- programs.
-use Rattle.std.specs.Prelude.{ℕ, ◌+◌, ◌-◌, ◌*◌, ◌%◌, false, List, replicate, ◌==◌, bit_and, nat_le, nat_lt, slice_index, slice_set}
+use Rattle.std.specs.Prelude.{ℕ, ◌+◌, ◌-◌, ◌*◌, ◌%◌, false, List, replicate, ◌==◌, bit_and, nat_le, nat_lt}
+use Rattle.std.specs.Prelude.{slice_index, slice_set}
 use Rattle.flash.specs.Pick.{pick, either}
 use Rattle.flash.specs.declared.Trans.{Trans}
 

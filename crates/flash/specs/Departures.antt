@@ -1,5 +1,6 @@
 -- Where a chip departs from the data sheet, by the instruction's code and shape: the exact lists of the two modes.
-use Rattle.std.specs.Prelude.{◌≡◌, ℕ, suc, ◌%◌, ◌≤◌, Bool, true, false, List, [], ◌∷◌, length, replicate, ◌==◌, ◌≢◌, nat_lt, slice_index}
+use Rattle.std.specs.Prelude.{◌≡◌, ℕ, suc, ◌%◌, ◌≤◌, Bool, true, false, List, [], ◌∷◌, length, replicate, ◌==◌, ◌≢◌}
+use Rattle.std.specs.Prelude.{nat_lt, slice_index}
 use Rattle.flash.specs.Pick.{either, both}
 use Rattle.flash.specs.Sheet.{Part, State, no_instruction, instruction, Says, drives, unsaid, After, leaves}
 use Rattle.flash.specs.Sheet.{not_said, not_here, code, address, member, others, reply, afterwards, w25q64}
@@ -115,7 +116,8 @@ Shows busy w = (bs : List ℕ) → answer_at (transaction w bs) (0x05 ∷ 0 ∷ 
 Shows unselected w = answers w (cs true ∷ byte 0x9F ∷ cs false ∷ byte 0 ∷ []) ≡ 0xFF ∷ 0xEF ∷ []
 Shows unique_number w = (bs : List ℕ) (i : ℕ) → 5 ≤ i → i ≤ length bs → answer_at w (0x4B ∷ bs) i ≡ 0x5A
 Shows third_status w =
-    (instruction 0x15 ≡ no_instruction) × ((bs : List ℕ) (i : ℕ) → 1 ≤ i → i ≤ length bs → answer_at w (0x15 ∷ bs) i ≡ 0)
+    (instruction 0x15 ≡ no_instruction) × ((bs : List ℕ) (i : ℕ) → 1 ≤ i → i ≤ length bs → answer_at w (0x15 ∷ bs) i
+    ≡ 0)
 
 -- ---- strict mode beside document 000's
 -- the same board with its chip in a mode

@@ -1,5 +1,6 @@
 -- flash_finish: what a deselect does.
-use Rattle.std.specs.Prelude.{ℕ, ◌+◌, ◌-◌, ◌%◌, ◌^◌, Bool, true, false, not, List, [], ◌∷◌, ◌++◌, length, take, drop, replicate, ◌==◌, bit_and, nat_le, nat_lt}
+use Rattle.std.specs.Prelude.{ℕ, ◌+◌, ◌-◌, ◌%◌, ◌^◌, Bool, true, false, not, List, [], ◌∷◌, ◌++◌, length, take}
+use Rattle.std.specs.Prelude.{drop, replicate, ◌==◌, bit_and, nat_le, nat_lt}
 use Rattle.flash.specs.Pick.{pick, either, both}
 use Rattle.flash.specs.declared.Mode.{Mode}
 use Rattle.flash.specs.declared.Act.{Act}
@@ -68,7 +69,8 @@ array_after Enable t p m = m
 array_after Disable t p m = m
 array_after Program t p m =
     patch m (start_of t (length m) 256) 256 (ands (take 256 (drop (start_of t (length m) 256) m)) p)
-array_after (Erase b) t p m = patch m (start_of t (length m) (block_size b)) (block_size b) (replicate (block_size b) 0xFF)
+array_after (Erase b) t p m = patch m (start_of t (length m) (block_size b)) (block_size b)
+    (replicate (block_size b) 0xFF)
 array_after EraseAll t p m = replicate (length m) 0xFF
 
 -- every act but nothing sets or clears write enable

@@ -2,7 +2,8 @@
 -- An instruction is the list of bytes that go in between the falling and the rising edge of /CS, its code first. It
 -- finds the chip idle: powered up and not busy. The array's length is the part's size, so that the parts of one family
 -- share this page.
-use Rattle.std.specs.Prelude.{ℕ, ◌+◌, ◌-◌, ◌*◌, ◌%◌, Bool, true, false, List, [], ◌∷◌, ◌++◌, length, take, drop, replicate, ◌==◌, bit_and, nat_le, nat_lt, slice_index, slice_set}
+use Rattle.std.specs.Prelude.{ℕ, ◌+◌, ◌-◌, ◌*◌, ◌%◌, Bool, true, false, List, [], ◌∷◌, ◌++◌, length, take, drop}
+use Rattle.std.specs.Prelude.{replicate, ◌==◌, bit_and, nat_le, nat_lt, slice_index, slice_set}
 use Rattle.flash.specs.Pick.{pick, either, both}
 
 -- what one unit has of its own

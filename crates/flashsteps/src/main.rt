@@ -1,6 +1,6 @@
 // Steps of a flash from standard input, one a line, answered on standard output.
 #![tactic(auto)]
 
-fn main() {
-    steps::talk::serve(flash::Mode::Rust, 0, 1);
+fn main(rt: HostRuntime) {
+    steps::talk::serve(flash::Mode::Rust, &mut rt.stdin(), &mut rt.stdout());
 }

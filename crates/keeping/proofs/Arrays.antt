@@ -11,7 +11,8 @@ use borrow.Author.Tests.{ltb-true}
 use Rattle.whole.specs.Forms.{bit}
 use Rattle.flash.specs.declared.Mode.TheVariants.{Rust, Strict}
 use Rattle.panel.specs.declared.MaybeByte.TheVariants.{Nothing, Byte}
-use Rattle.state.specs.Bank.{flag_in, mode_in, maybe_in, chip_in, panel_in, times_in, timer_in, irq_in, latch_in, tone_in, ring_in}
+use Rattle.state.specs.Bank.{flag_in, mode_in, maybe_in, chip_in, panel_in, times_in, timer_in, irq_in, latch_in}
+use Rattle.state.specs.Bank.{tone_in, ring_in}
 use Rattle.state.specs.Bank.{keys_in, parts_in}
 use Rattle.state.specs.Packed.{mode_number, maybe_number, chip_cells, panel_cells, clock_cells, key_cells, times_floats}
 use Rattle.state.specs.Packed.{cells_of, floats_of}
@@ -36,14 +37,16 @@ unfolding maybe_in maybe_number
 maybe_again v = by (ltb v 256) refl
   where
     by : (b : Bool) → ltb v 256 ≡ b
-        → cond (ltb (maybe_number (cond b (Byte v) Nothing)) 256) (Byte (maybe_number (cond b (Byte v) Nothing))) Nothing
+        → cond (ltb (maybe_number (cond b (Byte v) Nothing)) 256) (Byte (maybe_number (cond b (Byte v) Nothing)))
+        Nothing
         ≡ cond b (Byte v) Nothing
     by true e = rw e
     by false e = refl
 
 pub arrays_scalars : (l : List ℕ) (f : List Float)
     → parts_in (cells_of (parts_in l f)) (floats_of (parts_in l f)) ≡ parts_in l f
-unfolding cells_of chip_cells panel_cells clock_cells key_cells floats_of times_floats chip_in panel_in times_in timer_in irq_in
+unfolding cells_of chip_cells panel_cells clock_cells key_cells floats_of times_floats chip_in panel_in times_in
+    timer_in irq_in
     latch_in tone_in ring_in keys_in
 arrays_scalars l f =
     rw (
@@ -130,7 +133,8 @@ mode_small v = by (eqb v 0)
     by false = omega arith
 
 cells_small : (l : List ℕ) (f : List Float) → Below (2 ^ 64) l → Each Small (cells_of (parts_in l f))
-unfolding cells_of chip_cells panel_cells clock_cells key_cells chip_in panel_in times_in timer_in irq_in latch_in tone_in ring_in
+unfolding cells_of chip_cells panel_cells clock_cells key_cells chip_in panel_in times_in timer_in irq_in latch_in
+    tone_in ring_in
     keys_in
 cells_small l f small =
     also (mode_small (get_or l 0 0))

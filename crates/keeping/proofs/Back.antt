@@ -22,12 +22,14 @@ use Rattle.state.specs.Bank.{times_in, ring_in, keys_in}
 use Rattle.time.specs.Resync.{clocks_resynced}
 use Rattle.system.specs.System.{Machine}
 use Rattle.session.specs.Fields.{number, part}
-use Rattle.session.specs.Layout.{cells_long, flags_at, panel_at, clocks_at, sound_at, flash_at, keys_at, presses_at, events_at}
+use Rattle.session.specs.Layout.{cells_long, flags_at, panel_at, clocks_at, sound_at, flash_at, keys_at, presses_at}
+use Rattle.session.specs.Layout.{events_at}
 use Rattle.session.specs.Layout.{starts_at, others_at, ram_at, sram_at, gpio_at, fb_at, size_of}
 use Rattle.session.specs.Sections.{press_bytes, event_bytes}
 use Rattle.session.specs.Read.{float_at, floats_read, cells_read, cells_in, floats_in, starts_in, codes_in}
 use Rattle.session.specs.Good.{others_in, presses_in, events_in, good_session}
-use Rattle.session.specs.Session.{others_of, presses_of, events_of, bytes_in, bank_in, parts_read, parts_back, machine_in}
+use Rattle.session.specs.Session.{others_of, presses_of, events_of, bytes_in, bank_in, parts_read, parts_back}
+use Rattle.session.specs.Session.{machine_in}
 use Rattle.session.specs.Session.{saved_size, saved, save_of}
 use Rattle.runner.specs.Script.{bad_memory}
 use Rattle.keeping.specs.Typed.{Below, UnitLengths}
@@ -99,7 +101,8 @@ module _ (s : List ℕ) (n k e : ℕ) (b : Body s n k e) where
   press_some : (j : ℕ) → j < k → is_nan (float_at s (presses_at n + 4 + 9 * j + 1)) ≡ false
   press_some j below = up_number 2097152 _ (press_apart _ _ _ (b.presses j below)).1
 
-  press_waits : (j : ℕ) → j < k → waits (float_at s (presses_at n + 4 + 9 * j + 1)) (get_or (floats_in s n) 0 nan) ≡ true
+  press_waits : (j : ℕ) → j < k → waits (float_at s (presses_at n + 4 + 9 * j + 1)) (get_or (floats_in s n) 0 nan) ≡
+      true
   press_waits j below = (press_apart _ _ _ (b.presses j below)).2
 
   event_some : (j : ℕ) → j < e
@@ -192,7 +195,8 @@ module _ (s : List ℕ) (bytes : Below 256 s) (a : Facts s) where
   presses_stand =
       subst
       (λ (i : ℕ). Stands s (presses_at n + 4)
-      (press_bytes (starts_in s (presses_at n + 4) k) (codes_in s (presses_at n + 4) k) (get_or (floats_in s n) 0 nan) i))
+      (press_bytes (starts_in s (presses_at n + 4) k) (codes_in s (presses_at n + 4) k)
+      (get_or (floats_in s n) 0 nan) i))
       (sym (places_is k a.presses))
       (presses_back s (presses_at n + 4) k a.presses bytes (get_or (floats_in s n) 0 nan)
       (press_waits s n k e b) (press_some s n k e b) (fits _ (omega arith)))
@@ -283,7 +287,8 @@ sets_whole s =
     sets-eq s s 0 (omega arith) ∙ rw (z, drop-length s, append-nil s)
 
 -- a resumed session that is saved over the same bytes leaves them as they are
-pub resume_writes : (s : List ℕ) → Below 256 s → good_session s ≡ true → save_of (machine_in s) s ≡ saved DONE (length s) s
+pub resume_writes : (s : List ℕ) → Below 256 s → good_session s ≡ true → save_of (machine_in s) s ≡ saved DONE
+    (length s) s
 resume_writes s bytes h =
     let a = facts s h in
     let m = machine_in s in

@@ -55,7 +55,8 @@ module _ (s : List ℕ) (sram : List ℕ) where
       }
 
   pub back_floats : f ≡ floats_in s n
-  unfolding floats_of times_floats parts_back parts_read clocks_resynced timers_resynced resynced_of times_in timer_in irq_in
+  unfolding floats_of times_floats parts_back parts_read clocks_resynced timers_resynced resynced_of times_in
+      timer_in irq_in
       latch_in tone_in keys_in floats_in floats_read
   back_floats = refl
 

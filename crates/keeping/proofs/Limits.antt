@@ -80,6 +80,7 @@ module _ (s : List ℕ) (n k e : ℕ) (most : n ≤ 256) (b : Body s n k e) wher
 
   rising : (i j : ℕ) → i < j → j < n → address i < address j
   unfolding last_at
+  rising i Prim.Native.Nat.zero less below = elim less [ ]
   rising i (suc j) less below =
       let next : address j < address (suc j) = (entry (suc j) below).1 in
       by_less i j

@@ -17,7 +17,8 @@ use Rattle.keeping.specs.Typed.{Fits}
 
 -- what holds of every place and of what counts past the end
 module _ {A : Type 0} (P : A → Type 0) (d : A) (none : P d) where
-  pub each_set : (l : List A) (i : ℕ) (x : A) → ((j : ℕ) → P (get_or l j d)) → P x → (j : ℕ) → P (get_or (set l i x) j d)
+  pub each_set : (l : List A) (i : ℕ) (x : A) → ((j : ℕ) → P (get_or l j d)) → P x → (j : ℕ) → P
+      (get_or (set l i x) j d)
   each_set l i x all here j =
       by_same j i
       (λ same. by_less i (length l)

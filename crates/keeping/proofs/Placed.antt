@@ -12,15 +12,19 @@ use Rattle.keys.specs.Script.{places_of}
 use Rattle.state.specs.Packed.{cells_of, floats_of}
 use Rattle.system.specs.System.{Machine}
 use Rattle.session.specs.Fields.{counted}
-use Rattle.session.specs.Layout.{widths, cells_long, flags_at, panel_at, clocks_at, sound_at, flash_at, keys_at, presses_at}
+use Rattle.session.specs.Layout.{widths, cells_long, flags_at, panel_at, clocks_at, sound_at, flash_at, keys_at}
+use Rattle.session.specs.Layout.{presses_at}
 use Rattle.session.specs.Layout.{events_at, ram_at, sram_at, gpio_at, fb_at, size_of}
-use Rattle.session.specs.Sections.{cell_bytes, float_bytes, slot_bytes, other_bytes, press_bytes, event_bytes, timers_section}
-use Rattle.session.specs.Sections.{words_section, flags_section, panel_section, clocks_section, sound_section, flash_section}
+use Rattle.session.specs.Sections.{cell_bytes, float_bytes, slot_bytes, other_bytes, press_bytes, event_bytes}
+use Rattle.session.specs.Sections.{timers_section}
+use Rattle.session.specs.Sections.{words_section, flags_section, panel_section, clocks_section, sound_section}
+use Rattle.session.specs.Sections.{flash_section}
 use Rattle.session.specs.Sections.{keys_section, devices_sections, presses_section, events_section, memory_sections}
 use Rattle.session.specs.Session.{others_of, presses_of, events_of, parts_of, table_sections, bytes_in}
 use Rattle.session.proofs.Digits.{length_bytes}
 use Rattle.session.proofs.Stands.{Stands, stands_first}
-use Rattle.session.proofs.Long.{cells_long_lem, floats_long, slots_long, timers_long, words_long, flags_long, panel_long}
+use Rattle.session.proofs.Long.{cells_long_lem, floats_long, slots_long, timers_long, words_long, flags_long}
+use Rattle.session.proofs.Long.{panel_long}
 use Rattle.session.proofs.Long.{clocks_long, sound_long, flash_long, devices_long, pressed_long, sounds_long}
 use Rattle.session.proofs.Long.{memories_long, counted_long}
 use Rattle.keeping.proofs.Runs.{stands_next, stands_then}
@@ -474,7 +478,8 @@ module _ (s : List ℕ) (m : Machine) (z : Sized m) where
         ++ (sound_section f ++ (flash_section l m.system.page ++ keys_section l f))))
     unfolding devices_sections
     past_flags =
-        let a = flags_long l in stands_then s (flags_at n) (flags_section l) _ (panel_at n) (omega arith) devices_here_lem
+        let a = flags_long l in stands_then s (flags_at n) (flags_section l) _ (panel_at n) (omega arith)
+        devices_here_lem
 
     past_panel : Stands s (clocks_at n)
         (clocks_section l f m.system.rtc

@@ -45,7 +45,8 @@ module _ (starts : List Float) (now : Float) where
       by : (b : Bool)
           → waiting_of l d starts now (i + 1) (suc p)
           ≡ waiting_of l d starts now (i + 1) p ++ cond (waits_at (i + suc p)) (get_or l (i + suc p) d ∷ []) []
-          → cond b (get_or l i d ∷ waiting_of l d starts now (i + 1) (suc p)) (waiting_of l d starts now (i + 1) (suc p))
+          → cond b (get_or l i d ∷ waiting_of l d starts now (i + 1) (suc p))
+          (waiting_of l d starts now (i + 1) (suc p))
           ≡ cond b (get_or l i d ∷ waiting_of l d starts now (i + 1) p) (waiting_of l d starts now (i + 1) p)
           ++ cond (waits_at (i + suc p)) (get_or l (i + suc p) d ∷ []) []
       by true h = ap (λ (t : List A). get_or l i d ∷ t) h
@@ -141,7 +142,8 @@ module _ (s : List ℕ) (at : ℕ) (starts : List Float) (codes : List ℕ) (now
     unfolding span
     key_read j below =
         let small = key_low j below in
-        stands_number s (at + 9 * j) 1 (get_or keys j 0) (omega arith) (stands_first s (at + 9 * j) _ _ (row_at j below))
+        stands_number s (at + 9 * j) 1 (get_or keys j 0) (omega arith)
+        (stands_first s (at + 9 * j) _ _ (row_at j below))
 
     pub codes_read : codes_in s at k ≡ padded keys 0
     unfolding codes_in code_in padded

@@ -16,7 +16,8 @@ use Rattle.flash.specs.declared.Trans.{Trans}
 use Rattle.whole.proofs.Choice.{both as apart}
 use Rattle.reach.specs.Reach.{reachable, header_ok, mark_ok, page_ok}
 use Rattle.state.specs.declared.Parts.{Parts}
-use Rattle.state.specs.Bank.{mode_in, maybe_in, chip_in, panel_in, times_in, timer_in, irq_in, latch_in, tone_in, ring_in, keys_in}
+use Rattle.state.specs.Bank.{mode_in, maybe_in, chip_in, panel_in, times_in, timer_in, irq_in, latch_in, tone_in}
+use Rattle.state.specs.Bank.{ring_in, keys_in}
 use Rattle.state.specs.Packed.{maybe_number, chip_cells, panel_cells, clock_cells, key_cells, cells_of}
 use Rattle.state.specs.Parts.{none}
 use Rattle.system.specs.System.{Machine}
@@ -113,7 +114,8 @@ module _ (m : Machine) (w : WithinLimits m) (t : Typed m) (z : Sized m) where
       omega arith
 
   words_most : AtMosts (cells m) tops
-  unfolding tops cells_of chip_cells panel_cells clock_cells key_cells mode_in chip_in panel_in times_in timer_in irq_in latch_in
+  unfolding tops cells_of chip_cells panel_cells clock_cells key_cells mode_in chip_in panel_in times_in timer_in
+      irq_in latch_in
       tone_in ring_in keys_in
   words_most =
       also (cell 0)

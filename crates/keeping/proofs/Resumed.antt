@@ -25,7 +25,8 @@ use Rattle.timer.specs.Within.{Started, ToneFinite, EventsWithin}
 use Rattle.keys.specs.Within as pressing
 use Rattle.keys.proofs.Kept.{places_is}
 use Rattle.reach.specs.Reach.{reachable}
-use Rattle.state.specs.Bank.{mode_in, chip_in, panel_in, times_in, timer_in, irq_in, latch_in, tone_in, ring_in, keys_in}
+use Rattle.state.specs.Bank.{mode_in, chip_in, panel_in, times_in, timer_in, irq_in, latch_in, tone_in, ring_in}
+use Rattle.state.specs.Bank.{keys_in}
 use Rattle.state.specs.Parts.{none}
 use Rattle.time.specs.Within.{ClocksWithin}
 use Rattle.time.specs.Clocks.{clock_in}
@@ -36,7 +37,8 @@ use Rattle.system.specs.Carried.{array_in, board_in}
 use Rattle.system.specs.Limits.{FlashWithin, WithinLimits}
 use Rattle.session.specs.Fields.{number, part}
 use Rattle.session.specs.Layout.{mosts, clocks_at, flash_at, presses_at, events_at, ram_at, sram_at}
-use Rattle.session.specs.Read.{cells_read, floats_read, cells_in, floats_in, slots_in, start_in, code_in, starts_in, codes_in}
+use Rattle.session.specs.Read.{cells_read, floats_read, cells_in, floats_in, slots_in, start_in, code_in, starts_in}
+use Rattle.session.specs.Read.{codes_in}
 use Rattle.session.specs.Read.{column_at, column_in}
 use Rattle.session.specs.Good.{good_flash, others_in, presses_in, events_in, good_session}
 use Rattle.session.specs.Session.{bank_in, parts_read, parts_back, machine_in}
@@ -292,7 +294,8 @@ module _ (s : List ℕ) (bytes : Below 256 s) (a : Facts s) where
   read_limits = record {
     registers = read_words;
     others = read_registers s n k e a.others b;
-    clocks = resynced_within (slots_in s) (parts_read s).devices.clocks (clock_in (part s (sram_at n k e + 4) SRAM_SIZE))
+    clocks = resynced_within (slots_in s) (parts_read s).devices.clocks
+        (clock_in (part s (sram_at n k e + 4) SRAM_SIZE))
         (load_fits (part s (sram_at n k e + 4) SRAM_SIZE) 0x90A4 4) read_clocks;
     rtc = read_latched;
     tone = read_tone;

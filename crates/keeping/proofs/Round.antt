@@ -20,7 +20,8 @@ use Rattle.keys.specs.Script.{places_of}
 use Rattle.keys.specs.Closed.{waiting_of, padded, closed_up}
 use Rattle.keys.specs.Within.{with_count}
 use Rattle.state.specs.declared.Parts.{Parts}
-use Rattle.state.specs.Bank.{mode_in, chip_in, panel_in, times_in, timer_in, irq_in, latch_in, tone_in, ring_in, keys_in, parts_in}
+use Rattle.state.specs.Bank.{mode_in, chip_in, panel_in, times_in, timer_in, irq_in, latch_in, tone_in, ring_in}
+use Rattle.state.specs.Bank.{keys_in, parts_in}
 use Rattle.state.specs.Packed.{chip_cells, panel_cells, clock_cells, key_cells, times_floats, cells_of, floats_of}
 use Rattle.state.specs.Parts.{parts, clocks_put, with_clocks, with_flash}
 use Rattle.time.specs.Clocks.{clock_in}
@@ -34,7 +35,8 @@ use Rattle.session.specs.Layout.{clocks_at, flash_at, presses_at, events_at, ram
 use Rattle.session.specs.Read.{float_at, cells_in, floats_in, slots_in, places_in, starts_in, codes_in, column_in}
 use Rattle.session.specs.Good.{others_in, presses_in, events_in}
 use Rattle.session.specs.Session as session
-use Rattle.session.specs.Session.{presses_of, events_of, parts_of, bytes_in, bank_in, parts_read, parts_back, machine_in}
+use Rattle.session.specs.Session.{presses_of, events_of, parts_of, bytes_in, bank_in, parts_read, parts_back}
+use Rattle.session.specs.Session.{machine_in}
 use Rattle.keeping.specs.Typed.{Typed, UnitLengths}
 use Rattle.keeping.proofs.Placed.{cells, floats}
 use Rattle.keeping.proofs.Runs.{copied}
@@ -89,8 +91,10 @@ kept e k slots clock mode x =
 kept_words : (x : Parts) (e k : ℕ) (slots : List ℕ) (clock : ℕ)
     → parts_with (saved_of (cells_of x)) (floats_of x) e k slots clock
     ≡ kept e k slots clock Rust (parts_in (cells_of x) (floats_of x))
-unfolding parts_with kept chip_with saved_of copied cells_of chip_cells panel_cells clock_cells key_cells floats_of times_floats
-    mode_in chip_in panel_in times_in timer_in irq_in latch_in tone_in ring_in keys_in clocks_resynced timers_resynced resynced_of
+unfolding parts_with kept chip_with saved_of copied cells_of chip_cells panel_cells clock_cells key_cells floats_of
+    times_floats
+    mode_in chip_in panel_in times_in timer_in irq_in latch_in tone_in ring_in keys_in clocks_resynced
+    timers_resynced resynced_of
 kept_words x e k slots clock = refl
 
 kept_same : (x : Parts) (e k : ℕ) (slots : List ℕ) (clock : ℕ)
@@ -211,7 +215,8 @@ module _ (m : Machine) (w : WithinLimits m) (t : Typed m) (u : UnitLengths m) wh
       → parts_with l f e k c (clock_in v) ≡ parts_with (saved_of (cells m)) (floats m) e k slots (clock_in m.sram)
   parts_with_lem l f c v p q r o = rw (p, q, r, o)
 
-  parts_back_lem : parts_with (cells_in s n) (floats_in s n) e k (slots_in s) (clock_in (part s (sram_at n k e + 4) SRAM_SIZE))
+  parts_back_lem : parts_with (cells_in s n) (floats_in s n) e k (slots_in s)
+      (clock_in (part s (sram_at n k e + 4) SRAM_SIZE))
       ≡ parts (with_clocks m.system.devices (clocks_resynced slots m.system.devices.clocks (clock_in m.sram)))
       (ring_of 0 e) (with_count m.system.keys k)
   parts_back_lem =

@@ -71,7 +71,8 @@ module _ (s : List ℕ) (bytes : (i : ℕ) → get_or s i 0 < 256) where
   unfolding rows_of cells_long
   cells_read_lem at i zero fits = refl
   cells_read_lem at i (suc n) fits =
-      stands_next s at (rows_of (λ j. bytes_of (width_at (i + j)) (number s (at + cells_long i j) (width_at (i + j)))) n)
+      stands_next s at (rows_of (λ j. bytes_of (width_at (i + j))
+      (number s (at + cells_long i j) (width_at (i + j)))) n)
       (bytes_of (width_at (i + n)) (number s (at + cells_long i n) (width_at (i + n)))) (at + cells_long i n)
       (ap (λ (k : ℕ). at + k) (cell_run_long s at i n)) (cells_read_lem at i n (omega arith))
       (stands_read s (at + cells_long i n) (width_at (i + n)) bytes (omega arith))

@@ -33,10 +33,12 @@ use Rattle.system.specs.Refusals.{is_register}
 use Rattle.system.specs.Limits.{RegisterWord, WithinLimits}
 use Rattle.script.proofs.Wiped.{good_memory}
 use Rattle.session.specs.Fields.{number, part}
-use Rattle.session.specs.Layout.{flags_at, panel_at, clocks_at, sound_at, flash_at, keys_at, presses_at, events_at, others_at}
+use Rattle.session.specs.Layout.{flags_at, panel_at, clocks_at, sound_at, flash_at, keys_at, presses_at, events_at}
+use Rattle.session.specs.Layout.{others_at}
 use Rattle.session.specs.Layout.{ram_at, sram_at, gpio_at, fb_at, size_of}
 use Rattle.session.specs.Read.{float_at, cells_in, floats_in}
-use Rattle.session.specs.Good.{other_word, last_at, good_other, good_press, good_event, good_flash, others_in, presses_in}
+use Rattle.session.specs.Good.{other_word, last_at, good_other, good_press, good_event, good_flash, others_in}
+use Rattle.session.specs.Good.{presses_in}
 use Rattle.session.specs.Good.{events_in, good_session}
 use Rattle.session.specs.Session as session
 use Rattle.session.specs.Session.{presses_of, events_of, bytes_in}

@@ -20,8 +20,10 @@ use Rattle.timer.specs.Events.{ring_of, place_of, queue_of, event_of}
 use Rattle.timer.specs.Straight.{held_of}
 use Rattle.keys.specs.Script.{waits, waiting_in}
 use Rattle.session.specs.Fields.{number, part, rows_of}
-use Rattle.session.specs.Sections.{slot_bytes, used_from, other_row, other_bytes, press_if, press_bytes, event_row, event_bytes}
-use Rattle.session.specs.Read.{float_at, slots_in, place_in, places_in, start_in, code_in, starts_in, codes_in, column_at}
+use Rattle.session.specs.Sections.{slot_bytes, used_from, other_row, other_bytes, press_if, press_bytes, event_row}
+use Rattle.session.specs.Sections.{event_bytes}
+use Rattle.session.specs.Read.{float_at, slots_in, place_in, places_in, start_in, code_in, starts_in, codes_in}
+use Rattle.session.specs.Read.{column_at}
 use Rattle.session.specs.Read.{column_in}
 use Rattle.session.proofs.Digits.{length_bytes}
 use Rattle.session.proofs.Stands.{Stands, stands_read, stands_rows, rows_long}
@@ -152,7 +154,8 @@ module _ (s : List ℕ) (at k : ℕ) (most : k ≤ 64) where
     pub presses_back : at + 9 * k ≤ length s → Stands s at (press_bytes (starts_in s at k) (codes_in s at k) now k)
     unfolding press_bytes
     presses_back fits =
-        stands_rows s at (λ j. press_if (get_or (codes_in s at k) j 0) (get_or (starts_in s at k) j nan) now) k (λ j below.
+        stands_rows s at (λ j. press_if (get_or (codes_in s at k) j 0) (get_or (starts_in s at k) j nan) now) k
+        (λ j below.
         rw (long j below, waits_at_lem j below, start_at j below, code_at j below)
         (stands_next s (at + 9 * j) (bytes_of 1 (number s (at + 9 * j) 1))
         (bytes_of 8 (bits_of (float_at s (at + 9 * j + 1)))) (at + 9 * j + 1)
@@ -161,7 +164,8 @@ module _ (s : List ℕ) (at k : ℕ) (most : k ≤ 64) where
         (float_bytes_lem s bytes (at + 9 * j + 1) (omega arith) (some j below))))
       where
         long : (j : ℕ) → j < k
-            → length (rows_of (λ j. press_if (get_or (codes_in s at k) j 0) (get_or (starts_in s at k) j nan) now) j) ≡ 9 * j
+            → length (rows_of (λ j. press_if (get_or (codes_in s at k) j 0) (get_or (starts_in s at k) j nan) now)
+            j) ≡ 9 * j
         long j below =
             presses_long (starts_in s at k) (codes_in s at k) now j
             ∙ ap (λ (n : ℕ). 9 * n) (all_wait (starts_in s at k) now j (λ i less. waits_at_lem i (omega arith)))
@@ -180,7 +184,8 @@ module _ (s : List ℕ) (e : ℕ) (most : e ≤ 256) where
   unfolding column_in column_at
   column_at_lem at i below = get_or_tabled (λ i. column_at s at e i) 256 i nan (omega arith) ∙ rw (lt-ltb i e below)
 
-  pub event_back : (at i : ℕ) → i < e → get_or (column_in s at e) (place_of (ring_of 0 e) i) nan ≡ float_at s (at + 24 * i)
+  pub event_back : (at i : ℕ) → i < e → get_or (column_in s at e) (place_of (ring_of 0 e) i) nan ≡ float_at s
+      (at + 24 * i)
   event_back at i below =
       let first : place_of (ring_of 0 e) i ≡ i = omega arith in
       ap (λ (p : ℕ). get_or (column_in s at e) p nan) first ∙ column_at_lem at i below

@@ -16,8 +16,10 @@ use Rattle.whole.proofs.Choice.{by_less, by_cond}
 use Rattle.timer.specs.declared.Timer.{Timer}
 use Rattle.timer.specs.Timers.{resynced_of}
 use Rattle.state.specs.declared.Parts.{Parts}
-use Rattle.state.specs.Bank.{chip_in, panel_in, times_in, timer_in, irq_in, latch_in, tone_in, ring_in, keys_in, parts_in}
-use Rattle.state.specs.Packed.{chip_cells, panel_cells, clock_cells, key_cells, times_floats, of_timers, cells_of, floats_of}
+use Rattle.state.specs.Bank.{chip_in, panel_in, times_in, timer_in, irq_in, latch_in, tone_in, ring_in, keys_in}
+use Rattle.state.specs.Bank.{parts_in}
+use Rattle.state.specs.Packed.{chip_cells, panel_cells, clock_cells, key_cells, times_floats, of_timers, cells_of}
+use Rattle.state.specs.Packed.{floats_of}
 use Rattle.state.specs.Packed.{laid_at}
 use Rattle.state.specs.Parts.{none, clocks_put}
 use Rattle.time.specs.Clocks.{clock_in}
@@ -25,7 +27,8 @@ use Rattle.time.specs.Resync.{timers_resynced, clocks_resynced}
 use Rattle.time.proofs.Limits.{resynced_within}
 use Rattle.session.specs.Fields.{number, part, span, all_below}
 use Rattle.session.specs.Layout.{mosts, most_at, presses_at, events_at, sram_at}
-use Rattle.session.specs.Read.{float_at, cells_read, floats_read, cells_in, floats_in, slots_in, place_in, places_in, start_in}
+use Rattle.session.specs.Read.{float_at, cells_read, floats_read, cells_in, floats_in, slots_in, place_in}
+use Rattle.session.specs.Read.{places_in, start_in}
 use Rattle.session.specs.Read.{starts_in, column_at, column_in}
 use Rattle.session.specs.Good.{others_in, presses_in, events_in, good_session}
 use Rattle.session.specs.Session.{bank_in, parts_read, parts_back, machine_in}
@@ -46,7 +49,8 @@ resynced slots clock x = clocks_put x (clocks_resynced slots x.devices.clocks cl
 -- stay those that their words make
 resynced_parts : (slots : List ℕ) (clock : ℕ) (x : Parts) → parts_in (cells_of x) (floats_of x) ≡ x
     → parts_in (cells_of (resynced slots clock x)) (floats_of (resynced slots clock x)) ≡ resynced slots clock x
-unfolding resynced clocks_resynced timers_resynced resynced_of cells_of chip_cells panel_cells clock_cells key_cells floats_of
+unfolding resynced clocks_resynced timers_resynced resynced_of cells_of chip_cells panel_cells clock_cells key_cells
+    floats_of
     times_floats chip_in panel_in times_in timer_in irq_in latch_in tone_in ring_in keys_in
 resynced_parts slots clock x e = ap (resynced slots clock) e
 
@@ -54,7 +58,8 @@ resynced_parts slots clock x e = ap (resynced slots clock) e
 resynced_cells : (slots : List ℕ) (clock : ℕ) (x : Parts)
     → cells_of (resynced slots clock x)
     ≡ laid_at (cells_of x) 25 (of_timers (λ (t : Timer). t.seen) (resynced slots clock x).devices.clocks.timers)
-unfolding resynced clocks_resynced timers_resynced resynced_of cells_of chip_cells panel_cells clock_cells key_cells laid_at
+unfolding resynced clocks_resynced timers_resynced resynced_of cells_of chip_cells panel_cells clock_cells key_cells
+    laid_at
 resynced_cells slots clock x = refl
 
 -- ---- numbers of a session
@@ -84,7 +89,8 @@ starts_fit : (s : List ℕ) (at k : ℕ) → Fits (starts_in s at k)
 unfolding starts_in start_in
 starts_fit s at k =
     each_tabled Fit nan nan_fit (λ i. start_in s at k i) 64
-    (λ i. by_cond Fit (ltb i k) (float_at s (at + 9 * i + 1)) nought (λ h. float_fits s _) (λ h. of_bits-fits binary64 0))
+    (λ i. by_cond Fit (ltb i k) (float_at s (at + 9 * i + 1)) nought (λ h. float_fits s _)
+    (λ h. of_bits-fits binary64 0))
 
 column_fits : (s : List ℕ) (at e : ℕ) → Fits (column_in s at e)
 unfolding column_in column_at

@@ -14,7 +14,8 @@ use Rattle.registers.specs.Words.{fresh_registers}
 use Rattle.clock.specs.Rtc.{fresh_rtc}
 use Rattle.timer.specs.Events.{empty_queue}
 use Rattle.keys.specs.Keys.{fresh_buttons}
-use Rattle.state.specs.Bank.{mode_in, maybe_in, chip_in, panel_in, times_in, timer_in, irq_in, latch_in, tone_in, ring_in, keys_in}
+use Rattle.state.specs.Bank.{mode_in, maybe_in, chip_in, panel_in, times_in, timer_in, irq_in, latch_in, tone_in}
+use Rattle.state.specs.Bank.{ring_in, keys_in}
 use Rattle.state.specs.Bank.{parts_in}
 use Rattle.state.specs.Packed.{mode_number, maybe_number, chip_cells, panel_cells, clock_cells, key_cells, times_floats}
 use Rattle.state.specs.Packed.{cells_of, floats_of}
@@ -42,7 +43,8 @@ module _ (ram sram gpio fb : List ℕ) where
 
   fresh_scalars : parts_in (cells_of (parts_of fresh)) (floats_of (parts_of fresh)) ≡ parts_of fresh
   unfolding fresh_system fresh_devices fresh_clocks fresh_rtc empty_queue fresh_buttons cells_of chip_cells panel_cells
-      clock_cells key_cells floats_of times_floats mode_number maybe_number mode_in maybe_in chip_in panel_in times_in timer_in
+      clock_cells key_cells floats_of times_floats mode_number maybe_number mode_in maybe_in chip_in panel_in
+      times_in timer_in
       irq_in latch_in tone_in ring_in keys_in
   fresh_scalars = refl
 
@@ -58,12 +60,14 @@ module _ (ram sram gpio fb : List ℕ) where
   fresh_cells : Below (2 ^ 64) (cells_of (parts_of fresh))
   fresh_cells i =
       by_less i 51
-      (λ less. ltb-true _ _ (all_apart (λ i. ltb (get_or (cells_of (parts_of fresh)) i 0) (2 ^ 64)) 51 cells_tested i less))
+      (λ less. ltb-true _ _ (all_apart (λ i. ltb (get_or (cells_of (parts_of fresh)) i 0) (2 ^ 64)) 51 cells_tested
+      i less))
       (λ past. subst (λ (v : ℕ). v < 2 ^ 64)
       (sym (get_or-eq_default (cells_of (parts_of fresh)) 0 (let z = cells_long_lem in omega arith))) (omega arith))
 
   floats_tested : all_below (λ i. fits binary64 (get_or (floats_of (parts_of fresh)) i nan)) 16 ≡ true
-  unfolding fresh_system fresh_devices fresh_clocks fresh_rtc empty_queue fresh_buttons floats_of times_floats fits of_bits
+  unfolding fresh_system fresh_devices fresh_clocks fresh_rtc empty_queue fresh_buttons floats_of times_floats fits
+      of_bits
       all_below
   floats_tested = refl
 

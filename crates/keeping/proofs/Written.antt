@@ -18,11 +18,13 @@ use Rattle.timer.specs.Events.{place_of, event_of}
 use Rattle.timer.specs.Straight.{held_of, straight_at, straight}
 use Rattle.state.specs.Packed.{floats_of, times_floats}
 use Rattle.session.specs.Fields.{number, span, part, all_below}
-use Rattle.session.specs.Layout.{widths, width_at, flags_at, panel_at, clocks_at, sound_at, flash_at, keys_at, starts_at}
+use Rattle.session.specs.Layout.{widths, width_at, flags_at, panel_at, clocks_at, sound_at, flash_at, keys_at}
+use Rattle.session.specs.Layout.{starts_at}
 use Rattle.session.specs.Layout.{pending_at}
 use Rattle.session.specs.Sections.{cell_bytes, float_bytes, slot_bytes, used_from, other_row, other_bytes, event_row}
 use Rattle.session.specs.Sections.{event_bytes}
-use Rattle.session.specs.Read.{float_at, cells_read, floats_read, cells_in, floats_in, slots_in, place_in, places_in, column_at}
+use Rattle.session.specs.Read.{float_at, cells_read, floats_read, cells_in, floats_in, slots_in, place_in}
+use Rattle.session.specs.Read.{places_in, column_at}
 use Rattle.session.specs.Read.{column_in}
 use Rattle.system.specs.System.{Machine}
 use Rattle.session.proofs.Digits.{length_bytes}

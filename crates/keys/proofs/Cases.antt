@@ -26,7 +26,8 @@ use Rattle.keys.specs.declared.Refusal.TheVariants.{Done, BadKey, BadTime, KeysF
 use Rattle.keys.specs.Script.{places_of, waits, free_from, free_of, counted_of, Script, script, Outcome, outcome}
 use Rattle.keys.specs.Script.{placed, put_of, press_of}
 use Rattle.keys.specs.Live as live
-use Rattle.keys.specs.Live.{held_with, holds_with, with_live, with_holds, key_refusal, live_of, tap_of, tap_put, hold_of}
+use Rattle.keys.specs.Live.{held_with, holds_with, with_live, with_holds, key_refusal, live_of, tap_of, tap_put}
+use Rattle.keys.specs.Live.{hold_of}
 use Rattle.keys.specs.Live.{down_of, also, held_from, held_of, tapped}
 use Rattle.keys.specs.Lines.{wanted, driven, lines, sync_of}
 use Rattle.keys.specs.Edges.{edges_of, edges_from, press_edges}
@@ -50,7 +51,8 @@ module _ (place count n : ℕ) (e : n ≡ places_of count) where
 
 -- ---- the search for a place
 module _ (starts : List Float) (now : Float) (m i : ℕ) where
-  pub from_waits : waits (get_or starts i nan) now ≡ true → free_from (suc m) i starts now ≡ free_from m (i + 1) starts now
+  pub from_waits : waits (get_or starts i nan) now ≡ true → free_from (suc m) i starts now ≡ free_from m (i + 1)
+      starts now
   unfolding free_from
   from_waits h = rw h
 
@@ -222,7 +224,8 @@ module _ (starts : List Float) (now t : Float) where
   unfolding edges_from
   edges_none = refl
 
-  pub edges_more : (r : Float) (i : ℕ) → r ≡ edges_from starts now t i → edges_of (get_or starts i nan) now r ≡ edges_from
+  pub edges_more : (r : Float) (i : ℕ) → r ≡ edges_from starts now t i → edges_of (get_or starts i nan) now r ≡
+      edges_from
       starts now t (i + 1)
   unfolding edges_from
   edges_more r i e = rw (add-one, e)

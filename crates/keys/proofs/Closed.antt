@@ -68,9 +68,12 @@ module _ (starts : List Float) (now : Float) where
           → ((j : ℕ) → j < length (waiting_of l d starts now (i + 1) n)
           → P (get_or (waiting_of l d starts now (i + 1) n) j x) (get_or (waiting_of m e starts now (i + 1) n) j y))
           → (j : ℕ)
-          → j < length (cond b (get_or l i d ∷ waiting_of l d starts now (i + 1) n) (waiting_of l d starts now (i + 1) n))
-          → P (get_or (cond b (get_or l i d ∷ waiting_of l d starts now (i + 1) n) (waiting_of l d starts now (i + 1) n)) j x)
-          (get_or (cond b (get_or m i e ∷ waiting_of m e starts now (i + 1) n) (waiting_of m e starts now (i + 1) n)) j y)
+          → j < length (cond b (get_or l i d ∷ waiting_of l d starts now (i + 1) n)
+          (waiting_of l d starts now (i + 1) n))
+          → P (get_or (cond b (get_or l i d ∷ waiting_of l d starts now (i + 1) n)
+          (waiting_of l d starts now (i + 1) n)) j x)
+          (get_or (cond b (get_or m i e ∷ waiting_of m e starts now (i + 1) n)
+          (waiting_of m e starts now (i + 1) n)) j y)
       by true w rest zero less = h i (omega arith) (omega arith) w
       by true w rest (suc j) less = rest j (le_of_suc-le-suc less)
       by false w rest j less = rest j less

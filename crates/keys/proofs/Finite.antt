@@ -37,7 +37,8 @@ module _ (n : ℕ) (room : 2 ^ 22 ≤ n) (now : Float) where
   good : (k : Float) → T (good_time k) → AtMost k n
   good k g = weaken k (2 ^ 21) n (le_trans (lit≤ tt) room) (good_at_most k g)
 
-  pub edges_at_most : (starts : List Float) (t : Float) (m : ℕ) → ((i : ℕ) → i < m → T (good_time (get_or starts i nan)))
+  pub edges_at_most : (starts : List Float) (t : Float) (m : ℕ) →
+      ((i : ℕ) → i < m → T (good_time (get_or starts i nan)))
       → AtMost t n → AtMost (edges_from starts now t m) n
   unfolding edges_from
   edges_at_most starts t zero g p = p

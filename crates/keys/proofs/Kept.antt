@@ -60,7 +60,8 @@ grown p count h l = by (ltb p (places_of count)) refl
 -- the place of a press, among those that it finds
 pub place_most : (starts : List Float) (count : ℕ) (now : Float) → free_of starts count now ≤ places_of count
 unfolding free_of
-place_most starts count now = let l : free_from (places_of count) 0 starts now ≤ 0 + places_of count = (free_between starts
+place_most starts count now = let l : free_from (places_of count) 0 starts now ≤ 0 + places_of count =
+    (free_between starts
     now (places_of count) 0).1 in omega arith
 
 place_expired : (starts : List Float) (count : ℕ) (now : Float) → free_of starts count now < places_of count
@@ -149,7 +150,8 @@ press_kept s key at now k a b z =
 -- ---- the limits
 pub set_both : (P : Float → ℕ → Type 0) (starts : List Float) (codes : List ℕ) (p key : ℕ) (at : Float) (i : ℕ)
     → p < length starts → p < length codes → P at key
-    → (i ≢ p → P (get_or starts i nan) (get_or codes i 0)) → P (get_or (set starts p at) i nan) (get_or (set codes p key) i 0)
+    → (i ≢ p → P (get_or starts i nan) (get_or codes i 0)) → P (get_or (set starts p at) i nan)
+    (get_or (set codes p key) i 0)
 set_both P starts codes p key at i a b new old = by (eqb i p) refl
   where
     by : (t : Bool) → eqb i p ≡ t → P (get_or (set starts p at) i nan) (get_or (set codes p key) i 0)

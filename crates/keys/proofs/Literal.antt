@@ -41,7 +41,8 @@ module _ (starts : List Float) (codes : List ℕ) (even : length codes ≡ lengt
   longer : length times_more ≡ length starts + 1
   longer = length-append starts (at ∷ [])
 
-  lift : {t : Float} {c : ℕ} → Found starts codes (length starts) t c → Found times_more codes_more (length times_more) t c
+  lift : {t : Float} {c : ℕ} → Found starts codes (length starts) t c → Found times_more codes_more
+      (length times_more) t c
   lift f = record {
     place = f.place;
     below = let l : f.place < length starts = f.below in omega (arith, longer);
@@ -59,7 +60,8 @@ module _ (starts : List Float) (codes : List ℕ) (even : length codes ≡ lengt
   }
 
   -- what holds of each press so far, and of the new one
-  each : (P : Float → ℕ → Type 0) → ((j : ℕ) → j < length starts → P (get_or starts j nan) (get_or codes j 0)) → P at key
+  each : (P : Float → ℕ → Type 0) → ((j : ℕ) → j < length starts → P (get_or starts j nan) (get_or codes j 0)) → P
+      at key
       → (j : ℕ) → j < length times_more → P (get_or times_more j nan) (get_or codes_more j 0)
   each P old new j l = by (lt_or_ge j (length starts))
     where
@@ -70,8 +72,10 @@ module _ (starts : List Float) (codes : List ℕ) (even : length codes ≡ lengt
           rw (a, b) (old j (omega arith))
       by (inr m) =
           let z : j ≡ length starts = omega (arith, longer) in
-          let a : get_or times_more j nan ≡ at = ap (λ (n : ℕ). get_or times_more n nan) z ∙ get_or_last starts at nan in
-          let b : get_or codes_more j 0 ≡ key = ap (λ (n : ℕ). get_or codes_more n 0) (z ∙ sym even) ∙ get_or_last codes key 0
+          let a : get_or times_more j nan ≡ at = ap (λ (n : ℕ). get_or times_more n nan) z ∙ get_or_last starts at
+          nan in
+          let b : get_or codes_more j 0 ≡ key = ap (λ (n : ℕ). get_or codes_more n 0) (z ∙ sym even) ∙ get_or_last
+          codes key 0
           in
           rw (a, b) new
 

@@ -1,6 +1,6 @@
 -- The next edge is the least of the time so far and of the edges ahead, so two lists with the same edges ahead have
 -- the same next edge.
-use Prim.Native.Nat.{ℕ, zero, suc, ◌+◌, ◌≤◌, ◌<◌}
+use Prim.Native.Nat.{ℕ, zero, suc, ◌≤◌, ◌<◌}
 use mathlib.Core.Path.{◌≡◌, refl, ap, ◌∙◌}
 use mathlib.Core.Bool.{Bool, true, false, cond}
 use mathlib.Core.List.{List}
@@ -186,7 +186,8 @@ module _ (starts : List Float) (now t : Float) (c : Clear t) where
 
 pub same_edges : (starts : List Float) (n : ℕ) (ts : List Float) (m : ℕ) (now t : Float) → Clear t → T (fits binary64 t)
     → ((i : ℕ) → i < n → T (good_time (get_or starts i nan))) → ((i : ℕ) → i < m → T (good_time (get_or ts i nan)))
-    → ((i : ℕ) → i < n → T (fits binary64 (get_or starts i nan))) → ((i : ℕ) → i < m → T (fits binary64 (get_or ts i nan)))
+    → ((i : ℕ) → i < n → T (fits binary64 (get_or starts i nan))) →
+    ((i : ℕ) → i < m → T (fits binary64 (get_or ts i nan)))
     → ((e : Float) → Edge starts n now e → Edge ts m now e) → ((e : Float) → Edge ts m now e → Edge starts n now e)
     → edges_from starts now t n ≡ edges_from ts now t m
 same_edges starts n ts m now t c f g h p q there back =

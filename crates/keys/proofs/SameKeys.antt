@@ -86,7 +86,8 @@ held_is e f g = rw (e, f, g)
 
 pub same_keys : (starts : List Float) (codes : List ℕ) (n : ℕ) (ts : List Float) (cs : List ℕ) (m : ℕ) (h : Held)
     (now : Float)
-    → ((i : ℕ) → i < n → down_of (get_or starts i nan) now ≡ true → Found ts cs m (get_or starts i nan) (get_or codes i 0))
+    → ((i : ℕ) → i < n → down_of (get_or starts i nan) now ≡ true → Found ts cs m (get_or starts i nan)
+    (get_or codes i 0))
     → ((i : ℕ) → i < m → down_of (get_or ts i nan) now ≡ true → Found starts codes n (get_or ts i nan) (get_or cs i 0))
     → held_from starts codes h now n ≡ held_from ts cs h now m
 same_keys starts codes n ts cs m h now f g = held_is (one 0 (omega arith)) (one 1 (omega arith)) (one 2 (omega arith))

@@ -20,7 +20,8 @@ key_tested : (k : Keys) (o : Outcome) (b : Bool) → Still k o → Still k (cond
 key_tested k o true h = h
 key_tested k o false h = λ g. refl
 
-pub live_still : (k : Keys) (key : ℕ) (down : Bool) → (live_of k key down).refusal ≢ DONE → (live_of k key down).keys ≡ k
+pub live_still : (k : Keys) (key : ℕ) (down : Bool) → (live_of k key down).refusal ≢ DONE →
+    (live_of k key down).keys ≡ k
 unfolding live_of
 live_still k key down = key_tested k _ (leb key 2) (λ h. absurd (h refl))
 

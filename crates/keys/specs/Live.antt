@@ -92,7 +92,8 @@ also h t code now = record {
 -- the first n presses more
 unfoldable pub held_from : List Float → List ℕ → Held → Float → ℕ → Held
 held_from starts codes h now zero = h
-held_from starts codes h now (suc n) = also (held_from starts codes h now n) (get_or starts n nan) (get_or codes n 0) now
+held_from starts codes h now (suc n) = also (held_from starts codes h now n) (get_or starts n nan)
+    (get_or codes n 0) now
 
 unfoldable pub held_of : List Float → List ℕ → Keys → Float → Held
 held_of starts codes k now = held_from starts codes (tapped k.live k.holds now) now (places_of k.count)

@@ -66,4 +66,5 @@ put_of s code at now =
 
 -- key not 0, 1 or 2; then a time that is not good; then no place
 unfoldable pub press_of : Script → ℕ → Float → Float → Outcome
-press_of s key at now = cond (leb key 2) (cond (good_time at) (put_of s key at now) (outcome BadTime s)) (outcome BadKey s)
+press_of s key at now = cond (leb key 2) (cond (good_time at) (put_of s key at now) (outcome BadTime s))
+    (outcome BadKey s)

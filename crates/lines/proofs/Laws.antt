@@ -1,5 +1,7 @@
 -- Laws of a number that is read digit by digit, and of a line that is written from the front.
-use Rattle.std.proofs.Common.{◌≡◌, ℕ, zero, suc, ◌+◌, ◌-◌, ◌*◌, ◌/◌, ◌%◌, ◌^◌, ◌<◌, ◌≤◌, List, [], ◌∷◌, ◌++◌, length, get_or, take, set, sym, refl, ◌∙◌, append_assoc, append-nil, add-one, arith, take_all, take-suc-set}
+use Rattle.std.proofs.Common.{◌≡◌, ℕ, zero, suc, ◌+◌, ◌-◌, ◌*◌, ◌/◌, ◌%◌, ◌^◌, ◌<◌, ◌≤◌, List, [], ◌∷◌, ◌++◌}
+use Rattle.std.proofs.Common.{length, get_or, take, set, sym, refl, ◌∙◌, append_assoc, append-nil, add-one, arith}
+use Rattle.std.proofs.Common.{take_all, take-suc-set}
 use Rattle.io.specs.Digits.{hex_digit_ascii, last_digits}
 use Rattle.lines.specs.declared.Answer.{Answer}
 use Rattle.lines.specs.Line.{digit_of, number_at, line_of}
@@ -46,7 +48,8 @@ hex_more a b c at (suc w) n g l p e q =
     let i : suc w - 1 ≡ w = omega arith in
     let j : at + suc w - 1 ≡ at + w = omega arith in
     let k : at + w + 1 ≡ at + suc w = omega arith in
-    (rw (j, k) at q) ∙ rw ((rw i at p), e) (append_assoc (take at a) (last_digits 16 w (n / 16)) (hex_digit_ascii (n % 16) ∷ []))
+    (rw (j, k) at q) ∙ rw ((rw i at p), e) (append_assoc (take at a) (last_digits 16 w (n / 16))
+    (hex_digit_ascii (n % 16) ∷ []))
 
 pub field_more : (a b c : List ℕ) (at width n g : ℕ) → take (at + width) b ≡ take at a ++ last_digits 16 width n
     → take (at + width + 1) c ≡ take (at + width) b ++ (g ∷ []) → take (at + width + 1) c ≡ take at a ++

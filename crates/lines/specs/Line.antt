@@ -1,5 +1,6 @@
 -- What a line of a list says, and the line that an answer is.
-use Rattle.std.specs.Prelude.{◌≡◌, ℕ, zero, suc, ◌+◌, ◌-◌, ◌*◌, ◌%◌, ◌^◌, cond, List, [], ◌∷◌, ◌++◌, nat_le, nat_lt, slice_index}
+use Rattle.std.specs.Prelude.{◌≡◌, ℕ, zero, suc, ◌+◌, ◌-◌, ◌*◌, ◌%◌, ◌^◌, cond, List, [], ◌∷◌, ◌++◌, nat_le, nat_lt}
+use Rattle.std.specs.Prelude.{slice_index}
 use Rattle.io.specs.Digits.{last_digits}
 use Rattle.lines.specs.declared.Step.{Step}
 use Rattle.lines.specs.declared.Answer.{Answer}

@@ -10,6 +10,7 @@ ghost use Rattle.lines.specs.Line.{answer, Read};
 
 pub use bytes::{digest, least, lent};
 use parse::step_of;
+use std::io::Read;
 pub use text::spell;
 
 // What a line says.
@@ -58,14 +59,13 @@ pub fn refused(refusal: u8) -> Answer
     }
 }
 
-// The next line of a list. What is shorter than a line ends it.
-pub fn next(input: i32) -> Input
+// The next line of a list. What is shorter than a line ends it, and so does a read that fails.
+pub fn next<R: Read>(input: &mut R) -> Input
     ensures { Read result }
 {
     let mut line = [0u8; 29];
-    let count = io::read_full(input, &mut line);
-    if count < 29 {
-        return Input::End;
+    match input.read_exact(&mut line) {
+        Ok(()) => Input::Line(step_of(&line)),
+        Err(_) => Input::End,
     }
-    Input::Line(step_of(&line))
 }

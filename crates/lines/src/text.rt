@@ -45,8 +45,8 @@ fn put_field(out: &mut [u8], at: usize, width: usize, n: u64, after: u8)
 }
 
 pub fn spell(answer: Answer) -> [u8; 54]
-    ensures value { result ≡ line_of answer }
-    ensures value_2 { 54 ≡ length result }
+    ensures line { result ≡ line_of answer }
+    ensures full { 54 ≡ length result }
 {
     let mut out = [0u8; 54];
     put_field(&mut out, 0, 2, answer.refusal as u64, b' ');

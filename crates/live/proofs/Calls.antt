@@ -25,10 +25,12 @@ use Rattle.system.specs.declared.Changed.{Changed}
 use Rattle.system.specs.declared.Read.{Read}
 use Rattle.system.specs.System.{Machine, machine, left}
 use Rattle.system.specs.Bank.{fresh_parts}
-use Rattle.system.specs.Calls.{changed, Moved, moved, read_of, write_of, advance_of, next_of, turbo_of, pending_of, wanted_of}
+use Rattle.system.specs.Calls.{changed, Moved, moved, read_of, write_of, advance_of, next_of, turbo_of, pending_of}
+use Rattle.system.specs.Calls.{wanted_of}
 use Rattle.system.specs.Calls.{live_of, hold_of, press_of, held_of, wiped_of}
 use Rattle.system.specs.Steps as steps
-use Rattle.system.specs.Steps.{Op, Outcome, step, words, plainly, floats, with_system, by_change, by_read, by_left, by_move}
+use Rattle.system.specs.Steps.{Op, Outcome, step, words, plainly, floats, with_system, by_change, by_read, by_left}
+use Rattle.system.specs.Steps.{by_move}
 use Rattle.system.specs.Steps.{by_next, by_poke}
 use Rattle.live.specs.Live.{alarm_seen, alarm_of}
 use Rattle.live.specs.Live.{notAUnit, called, Zeroed, block_seen, seen_of, block_of, screen_seen, screen_of}

@@ -102,7 +102,8 @@ live_wipe m n before others later h i =
     let q : notAUnit (left_by_all n others) ≡ false = unit_left n others i in
     let wiped : called (left_by_all m before) wipe ≡ called (left_by_all n others) wipe =
     called_is (left_by_all m before) wipe p
-    ∙ wipe_same (left_by_all m before) (left_by_all n others) (same_lengths (left_by_all m before) (left_by_all n others) p q)
+    ∙ wipe_same (left_by_all m before) (left_by_all n others)
+    (same_lengths (left_by_all m before) (left_by_all n others) p q)
     ∙ sym (called_is (left_by_all n others) wipe q) in
     left_both m before (acts wipe ∷ later)
     ∙ ap (λ (z : Outcome). left_by_all z.machine later) wiped
@@ -111,7 +112,8 @@ live_wipe m n before others later h i =
 -- and so does the same answer to whatever is asked then
 pub live_wipe_forgets : (m n : Machine) (before others later : List Call) (o : Op) → notAUnit m ≡ false
     → notAUnit n ≡ false
-    → called (left_by_all m (before ++ (acts wipe ∷ later))) o ≡ called (left_by_all n (others ++ (acts wipe ∷ later))) o
+    → called (left_by_all m (before ++ (acts wipe ∷ later))) o ≡ called
+    (left_by_all n (others ++ (acts wipe ∷ later))) o
 live_wipe_forgets m n before others later o h i =
     ap (λ (z : Machine). called z o) (live_wipe m n before others later h i)
 

@@ -12,7 +12,8 @@ use Rattle.timer.specs.declared.Event.{Event}
 use Rattle.timer.specs.declared.Ring.{Ring}
 use Rattle.timer.specs.declared.Queue.{Queue}
 use Rattle.timer.specs.declared.Batch.{Batch}
-use Rattle.timer.specs.Events.{waiting_from, waiting, cleared, fit_of, laid_over, queue_of, BulkOutcome, batched, bulk_of}
+use Rattle.timer.specs.Events.{waiting_from, waiting, cleared, fit_of, laid_over, queue_of, BulkOutcome, batched}
+use Rattle.timer.specs.Events.{bulk_of}
 use Rattle.timer.specs.Events.{bulk_outcome}
 use Rattle.state.specs.declared.Parts.{Parts}
 use Rattle.state.specs.Bank.{ring_in, parts_in}

@@ -1,7 +1,7 @@
 -- A register access reads back what it wrote where it lies in its word.
 use Prim.Native.Nat.{ℕ, zero, suc, ◌+◌, ◌-◌, ◌*◌, ◌/◌, ◌%◌, ◌^◌, ◌≤◌}
 use mathlib.Core.Path.{◌≡◌, refl, sym, ◌∙◌}
-use mathlib.Core.Bool.{true, false, cond, true≢false}
+use mathlib.Core.Bool.{true, cond, true≢false}
 use native.Mathlib.Nat.{mod-mod}
 use native.Mathlib.Omega.{arith}
 use lib.Dec.{eqb}
@@ -24,7 +24,8 @@ abbrev mask_at : ℕ → ℕ → ℕ
 mask_at r n = cond (eqb n 4) 0xFFFFFFFF ((span_of n - 1) * 2 ^ (8 * r) % 2 ^ 32)
 
 abbrev Back : ℕ → ℕ → ℕ → ℕ → Type 0
-Back r n old v = bit_or (bit_and old (0xFFFFFFFF - mask_at r n)) (bit_and (v * 2 ^ (8 * r) % 2 ^ 32) (mask_at r n)) / 2 ^
+Back r n old v = bit_or (bit_and old (0xFFFFFFFF - mask_at r n)) (bit_and (v * 2 ^ (8 * r) % 2 ^ 32) (mask_at r n))
+    / 2 ^
     (8 * r) % span_of n ≡ v % span_of n
 
 byte_back : (r old v : ℕ) → r ≤ 3 → Back r 1 old v

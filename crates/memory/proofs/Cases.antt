@@ -187,7 +187,8 @@ module _ (m : List ℕ) (o n : ℕ) where
   unfolding le
   le_none = rw sub_self
 
-  pub le_more : (i v r : ℕ) → 0 < i → i ≤ n → v ≡ le m (o + i) (n - i) → r ≡ (get_or m (o + (i - 1)) 0 + 256 * v) % 2 ^ 32
+  pub le_more : (i v r : ℕ) → 0 < i → i ≤ n → v ≡ le m (o + i) (n - i) → r ≡ (get_or m (o + (i - 1)) 0 + 256 * v) %
+      2 ^ 32
       → r ≡ le m (o + (i - 1)) (n - (i - 1))
   unfolding le
   le_more i v r h g e f =

@@ -47,7 +47,8 @@ byte_other m o n v p h = either (λ (k : List ℕ). get_or k p 0 ≡ get_or m p 
     (sets m o (bytes_of n v)) m (sets_other n m o v p h) refl
 
 -- the same bytes are the same number
-le_same : (n : ℕ) (k m : List ℕ) (o : ℕ) → ((i : ℕ) → o ≤ i → i < o + n → get_or k i 0 ≡ get_or m i 0) → le k o n ≡ le m o n
+le_same : (n : ℕ) (k m : List ℕ) (o : ℕ) → ((i : ℕ) → o ≤ i → i < o + n → get_or k i 0 ≡ get_or m i 0) → le k o n ≡
+    le m o n
 unfolding le
 le_same zero k m o h = refl
 le_same (suc n) k m o h =

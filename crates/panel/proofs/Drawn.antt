@@ -1,5 +1,6 @@
 -- The screen pixel by pixel is the whole screen, and each pixel's colours stand in it.
-use Rattle.std.proofs.Common.{◌≡◌, ℕ, zero, suc, ◌+◌, ◌*◌, ◌/◌, ◌%◌, ◌^◌, ◌<◌, ◌≤◌, List, [], ◌∷◌, ◌++◌, length, get_or, set, sym, refl, ap, ◌∙◌, arith}
+use Rattle.std.proofs.Common.{◌≡◌, ℕ, zero, suc, ◌+◌, ◌*◌, ◌/◌, ◌%◌, ◌^◌, ◌<◌, ◌≤◌, List, [], ◌∷◌, ◌++◌, length}
+use Rattle.std.proofs.Common.{get_or, set, sym, refl, ap, ◌∙◌, arith}
 use lib.Bits.{and_mask}
 use Rattle.map.specs.Numbers.{FRAMEBUFFER_SIZE, SCREEN_BYTES}
 use Rattle.panel.specs.declared.Colours.{Colours}

@@ -1,5 +1,6 @@
 -- The panel's arguments that have not come are 0: from the fresh panel on, whatever it is told.
-use Rattle.std.proofs.Common.{◌≡◌, ℕ, zero, suc, ◌<◌, Bool, true, false, cond, eqb, ltb, List, [], ◌∷◌, get_or, set, refl, ◌∙◌, arith, length-set, get_or-set_other, ltb-true}
+use Rattle.std.proofs.Common.{◌≡◌, ℕ, zero, suc, ◌<◌, Bool, true, false, cond, eqb, ltb, List, [], ◌∷◌, get_or, set}
+use Rattle.std.proofs.Common.{refl, ◌∙◌, arith, length-set, get_or-set_other, ltb-true}
 use Rattle.whole.proofs.Words.{either}
 use Rattle.panel.specs.declared.MaybeByte.{MaybeByte}
 use Rattle.panel.specs.declared.Window.{Window}

@@ -1,5 +1,6 @@
 -- The panel does as sys.rs does from any state within the limits on: the proof of a run takes any start that fits.
-use Rattle.std.proofs.Common.{◌≡◌, ℕ, zero, suc, ◌<◌, ◌≤◌, min, ◌⊎◌, List, [], ◌∷◌, length, get_or, take, sym, refl, ap, ◌∙◌, inl, inr, arith, length-take-le, get_or-take}
+use Rattle.std.proofs.Common.{◌≡◌, ℕ, zero, suc, ◌<◌, ◌≤◌, min, ◌⊎◌, List, [], ◌∷◌, length, get_or, take, sym, refl}
+use Rattle.std.proofs.Common.{ap, ◌∙◌, inl, inr, arith, length-take-le, get_or-take}
 use lib.ListN.{get_or-eq_default}
 use Rattle.whole.proofs.Choice.{lt_or_ge}
 use Rattle.panel.specs.declared.MaybeByte.{MaybeByte}

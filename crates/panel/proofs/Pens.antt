@@ -62,7 +62,8 @@ module _ (w : Window) (x y : ℕ) where
   -- it holds no half pixel
   pub next_empty : (h : MaybeByte) (f : ℕ)
       → next_pen w (pen_at x y h f)
-      ≡ pen_at (next_pen w (pen_at x y h f)).x (next_pen w (pen_at x y h f)).y Nothing (next_pen w (pen_at x y h f)).frames
+      ≡ pen_at (next_pen w (pen_at x y h f)).x (next_pen w (pen_at x y h f)).y Nothing
+      (next_pen w (pen_at x y h f)).frames
   next_empty h f = rw (next_is h f)
 
 -- the pen but for its frames

@@ -1,5 +1,6 @@
 -- One whole window, the same in both, writes every pixel of the window: what differed before is gone.
-use Rattle.std.proofs.Common.{◌≡◌, ℕ, suc, ◌+◌, ◌-◌, ◌*◌, ◌<◌, ◌≤◌, max, List, [], ◌∷◌, length, get_or, sym, refl, ap, ◌∙◌, suc-mul, arith, ext_get_or}
+use Rattle.std.proofs.Common.{◌≡◌, ℕ, suc, ◌+◌, ◌-◌, ◌*◌, ◌<◌, ◌≤◌, max, List, [], ◌∷◌, length, get_or, sym, refl}
+use Rattle.std.proofs.Common.{ap, ◌∙◌, suc-mul, arith, ext_get_or}
 use native.Mathlib.Decide.{dec_lt}
 use Rattle.panel.specs.declared.MaybeByte.{MaybeByte}
 use Rattle.panel.specs.declared.MaybeByte.TheVariants.{Nothing, Byte}

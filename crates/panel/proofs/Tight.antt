@@ -1,6 +1,7 @@
 -- Fewer bytes than a whole window do not heal: they never come to the window's last pixel, which damage can have left
 -- in two ways.
-use Rattle.std.proofs.Common.{◌≡◌, ℕ, zero, suc, ◌+◌, ◌-◌, ◌*◌, ◌<◌, ◌≤◌, Bool, true, false, List, [], ◌∷◌, length, get_or, set, sym, refl, ap, ◌∙◌, zero-mul, arith, get_or-set_other, get_or-set_same}
+use Rattle.std.proofs.Common.{◌≡◌, ℕ, zero, suc, ◌+◌, ◌-◌, ◌*◌, ◌<◌, ◌≤◌, Bool, true, false, List, [], ◌∷◌, length}
+use Rattle.std.proofs.Common.{get_or, set, sym, refl, ap, ◌∙◌, zero-mul, arith, get_or-set_other, get_or-set_same}
 use native.Mathlib.Decide.{dec_lt}
 use Rattle.panel.specs.declared.MaybeByte.{MaybeByte}
 use Rattle.panel.specs.declared.MaybeByte.TheVariants.{Nothing, Byte}

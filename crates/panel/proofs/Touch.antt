@@ -1,5 +1,6 @@
 -- What one pixel does to each byte of the framebuffer.
-use Rattle.std.proofs.Common.{◌≡◌, ℕ, ◌+◌, ◌/◌, ◌%◌, ◌<◌, ◌≤◌, List, length, get_or, set, sym, ap, ◌∙◌, arith, length-set, get_or-set_other, get_or-set_same}
+use Rattle.std.proofs.Common.{◌≡◌, ℕ, ◌+◌, ◌/◌, ◌%◌, ◌<◌, ◌≤◌, List, length, get_or, set, sym, ap, ◌∙◌, arith}
+use Rattle.std.proofs.Common.{length-set, get_or-set_other, get_or-set_same}
 use lib.ListN.{get_or-eq_default}
 use native.Mathlib.Decide.{dec_lt, ℕ_discrete}
 use Rattle.panel.specs.Lcd.{put, spot}

@@ -49,7 +49,8 @@ spot x y = (y * LCD_W + x) * 2
 
 -- high byte h and low byte b of a pixel, the low one first, where x, y lies on the glass
 unfoldable pub put : List ℕ → ℕ → ℕ → ℕ → ℕ → List ℕ
-put fb x y h b = cond (nat_lt x LCD_W) (cond (nat_lt y LCD_H) (slice_set (slice_set fb (spot x y) b) (spot x y + 1) h) fb) fb
+put fb x y h b = cond (nat_lt x LCD_W) (cond (nat_lt y LCD_H)
+    (slice_set (slice_set fb (spot x y) b) (spot x y + 1) h) fb) fb
 
 -- along the row; past its end to the next row; past the last row to the first, which counts a frame
 unfoldable pub next_pen : Window → Pen → Pen

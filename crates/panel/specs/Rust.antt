@@ -1,7 +1,8 @@
 -- core/src/sys.rs, "LCD", word for word: Lcd, command, data, pixel, and what lcd_dma does to it. LCD_W and LCD_H are
 -- 128. It shares nothing with the panel's own definition but what reaches it. last_vsync is with the clocks; rgb is in
 -- Colour.antt.
-use Rattle.std.specs.Prelude.{ℕ, ◌+◌, ◌-◌, ◌*◌, ◌/◌, ◌%◌, ◌^◌, Bool, false, cond, ◌&&◌, ◌||◌, List, [], ◌∷◌, ◌++◌, length, ◌==◌, bit_or, nat_lt, slice_index, slice_set}
+use Rattle.std.specs.Prelude.{ℕ, ◌+◌, ◌-◌, ◌*◌, ◌/◌, ◌%◌, ◌^◌, Bool, false, cond, ◌&&◌, ◌||◌, List, [], ◌∷◌, ◌++◌}
+use Rattle.std.specs.Prelude.{length, ◌==◌, bit_or, nat_lt, slice_index, slice_set}
 use Rattle.map.specs.Numbers.{LCD_W, LCD_H}
 use Rattle.panel.specs.Runs.{byte, copy, Act, order, input}
 

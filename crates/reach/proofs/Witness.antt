@@ -76,7 +76,8 @@ page_made : (p : List ℕ) (off d : ℕ) → off < 256 → d ≤ 256 → length 
     → ((k : ℕ) → k < 256 → d ≤ (k + 256 - off) % 256 → get_or p k 0 ≡ 255)
     → ands_from blank off (data_of p off d) ≡ p
 page_made p off d h l e b rest =
-    let n : length (ands_from blank off (data_of p off d)) ≡ 256 = ands_length (data_of p off d) blank off ∙ blank_length
+    let n : length (ands_from blank off (data_of p off d)) ≡ 256 = ands_length (data_of p off d) blank off ∙
+    blank_length
     in
     ext_get_or 0 (ands_from blank off (data_of p off d)) p (n ∙ sym e) (λ k less. by k (omega arith))
   where

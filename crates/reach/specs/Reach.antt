@@ -1,6 +1,7 @@
 -- Which flash transactions a run of selects, deselects and bytes can leave, in the compact form, over an array of n
 -- bytes; and what the theorems about them say.
-use Rattle.std.specs.Prelude.{ℕ, zero, suc, ◌+◌, ◌-◌, ◌%◌, ◌<◌, ◌≡◌, Bool, true, cond, ◌&&◌, ◌||◌, List, length, get_or, eqb, ltb, leb}
+use Rattle.std.specs.Prelude.{ℕ, zero, suc, ◌+◌, ◌-◌, ◌%◌, ◌<◌, ◌≡◌, Bool, true, cond, ◌&&◌, ◌||◌, List, length}
+use Rattle.std.specs.Prelude.{get_or, eqb, ltb, leb}
 use Rattle.flash.specs.declared.Trans.{Trans}
 use Rattle.flash.specs.Steps.{Step, ByteSteps}
 use Rattle.flash.specs.Board.{Board}

@@ -29,7 +29,8 @@ counted_some v n = rw (ne_eqb v 0 n)
 counted_most : (v : ℕ) → count_of v ≤ 1
 counted_most v = by_same v 0 (λ z. omega (arith, counted_none v z)) (λ n. omega (arith, counted_some v n))
 
-count_set : (l : List ℕ) (i v : ℕ) → i < length l → non_zero (set l i v) + count_of (get_or l i 0) ≡ non_zero l + count_of v
+count_set : (l : List ℕ) (i v : ℕ) → i < length l → non_zero (set l i v) + count_of (get_or l i 0) ≡ non_zero l +
+    count_of v
 unfolding non_zero
 count_set [] i v less = absurd (omega arith)
 count_set (x ∷ xs) zero v less = omega arith

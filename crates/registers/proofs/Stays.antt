@@ -15,7 +15,8 @@ use Rattle.registers.proofs.Spots.{read_never, put_never, put_cases}
 
 -- ---- refused
 
-pub refused_stays : (r : Registers) (a v : ℕ) → (put_word r a v).refusal ≡ REGISTERS_FULL → (put_word r a v).registers ≡ r
+pub refused_stays : (r : Registers) (a v : ℕ) → (put_word r a v).refusal ≡ REGISTERS_FULL →
+    (put_word r a v).registers ≡ r
 refused_stays r a v =
     put_cases r a v (λ (p : Outcome). p.refusal ≡ REGISTERS_FULL → p.registers ≡ r)
     (λ less four. absurd (omega arith))

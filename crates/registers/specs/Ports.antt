@@ -1,6 +1,7 @@
 -- The register map: the words that are more than stored, and the port behind each. What a write does or is refused,
 -- what a read gives, and what is carried to flash and panel goes by the port.
-use Rattle.std.specs.Prelude.{ℕ, zero, suc, ◌+◌, ◌-◌, ◌*◌, ◌/◌, ◌%◌, Bool, cond, ◌||◌, List, [], ◌∷◌, ◌++◌, get_or, eqb, ltb}
+use Rattle.std.specs.Prelude.{ℕ, zero, suc, ◌+◌, ◌-◌, ◌*◌, ◌/◌, ◌%◌, Bool, cond, ◌||◌, List, [], ◌∷◌, ◌++◌, get_or}
+use Rattle.std.specs.Prelude.{eqb, ltb}
 use Rattle.map.specs.Numbers.{
   TIMER_BASE,
   TIMER_STEP,

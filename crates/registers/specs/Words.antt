@@ -1,5 +1,6 @@
 -- What the registers hold, and what a word put there changes.
-use Rattle.std.specs.Prelude.{ℕ, zero, suc, ◌+◌, ◌-◌, ◌/◌, ◌^◌, Bool, cond, ◌||◌, List, [], ◌∷◌, ◌++◌, get_or, set, take, drop, replicate, eqb, ltb}
+use Rattle.std.specs.Prelude.{ℕ, zero, suc, ◌+◌, ◌-◌, ◌/◌, ◌^◌, Bool, cond, ◌||◌, List, [], ◌∷◌, ◌++◌, get_or, set}
+use Rattle.std.specs.Prelude.{take, drop, replicate, eqb, ltb}
 use Rattle.map.specs.Numbers.{DONE, REGISTERS_FULL}
 use Rattle.registers.specs.declared.Registers.{Registers}
 use Rattle.registers.specs.declared.Refusal.{Refusal}

@@ -7,6 +7,6 @@ mod look;
 mod step;
 mod talk;
 
-fn main() {
-    talk::serve(0, 1);
+fn main(rt: HostRuntime) {
+    talk::serve(&mut rt.stdin(), &mut rt.stdout());
 }

@@ -2,6 +2,6 @@
 // beside src/.
 #![tactic(auto)]
 
-fn main() {
-    steps::talk::serve(flash::Mode::Rust, 0, 1);
+fn main(rt: HostRuntime) {
+    steps::talk::serve(flash::Mode::Rust, &mut rt.stdin(), &mut rt.stdout());
 }

@@ -8,6 +8,6 @@ mod send;
 mod step;
 mod talk;
 
-fn main() {
-    talk::serve(0, 1);
+fn main(rt: HostRuntime) {
+    talk::serve(&mut rt.stdin(), &mut rt.stdout());
 }

@@ -6,6 +6,6 @@ mod memories;
 mod step;
 mod talk;
 
-fn main() {
-    talk::serve(0, 1);
+fn main(rt: HostRuntime) {
+    talk::serve(&mut rt.stdin(), &mut rt.stdout());
 }

@@ -1,11 +1,12 @@
-// The list from one descriptor, the answers to another.
+// The list from a reader, the answers to a writer.
 use crate::desk::untouched;
 use crate::step::{known, step};
 use lines::{Input, Step};
+use std::io::{Read, Write};
 
 // A step and its answer. An answer that can't be written is lost: a partner that is gone misses nothing.
-fn take_turn(
-    output: i32,
+fn take_turn<W: Write>(
+    output: &mut W,
     ram: &mut [u8; 65536],
     sram: &mut [u8; 65536],
     gpio: &mut [u8; 4096],
@@ -17,12 +18,12 @@ fn take_turn(
 ) -> u64 {
     let stepped = step(ram, sram, gpio, fb, script, out, length, asked);
     let text = lines::spell(stepped.answer);
-    io::write_all(output, &text);
+    let _ = output.write_all(&text);
     stepped.length
 }
 
-// Nothing says that the input ends, so the turns are counted down from a number that no run uses up.
-pub(crate) fn serve(input: i32, output: i32) {
+// Nothing says that the input ends, so the turns are counted, up to a number that no run uses up.
+pub(crate) fn serve<R: Read, W: Write>(input: &mut R, output: &mut W) {
     let mut ram = [0u8; 65536];
     let mut sram = [0u8; 65536];
     let mut gpio = [0u8; 4096];
@@ -30,10 +31,8 @@ pub(crate) fn serve(input: i32, output: i32) {
     let mut script = [0u8; 16384];
     let mut out = untouched();
     let mut length = 0;
-    let mut turns = u64::MAX;
-    while turns > 0 {
-        let line = lines::next(input);
-        let Input::Line(asked) = line else {
+    for _ in 0..u64::MAX {
+        let Input::Line(asked) = lines::next(input) else {
             return;
         };
         if !known(asked.kind) {
@@ -50,6 +49,5 @@ pub(crate) fn serve(input: i32, output: i32) {
             length,
             asked,
         );
-        turns -= 1;
     }
 }

@@ -12,6 +12,6 @@ mod step;
 mod talk;
 mod write;
 
-fn main() {
-    talk::serve(0, 1);
+fn main(rt: HostRuntime) {
+    talk::serve(&mut rt.stdin(), &mut rt.stdout());
 }

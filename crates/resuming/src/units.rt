@@ -80,7 +80,11 @@ pub extern "C" fn tg18_lent_resume(
     fb: &mut [u8],
     saved: &[u8],
 ) -> u32
-    ensures { (left (machine_of slots.new addresses.new values.new rtc.exit.now page.new onsets.new frequencies.new duties.new starts.exit.now codes.new (parts_in cells.new floats.new) ram.new sram.exit.now gpio.new fb.new) result ≡ resume_of (machine_of slots.old addresses.entry.now values.old rtc.old page.old onsets.old frequencies.entry.now duties.old starts.old codes.old (parts_in cells.old floats.old) ram.old sram.old gpio.old fb.old) saved.entry.now) × Words result cells.old floats.old cells.new
+    ensures { (left (machine_of slots.new addresses.new values.new rtc.new page.new onsets.new frequencies.new
+        duties.new starts.new codes.new (parts_in cells.new floats.new) ram.new sram.new gpio.new fb.new)
+        result ≡ resume_of (machine_of slots.old addresses.old values.old rtc.old page.old onsets.old
+        frequencies.old duties.old starts.old codes.old (parts_in cells.old floats.old) ram.old sram.old
+        gpio.old fb.old) saved.now) × Words result cells.old floats.old cells.new
         floats.new }
 {
     if bad_memory(ram, sram, gpio, fb) {

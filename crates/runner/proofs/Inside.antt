@@ -16,7 +16,8 @@ module _ (s : List ℕ) (o j : ℕ) (h : o + j ≤ length s) where
   le_part zero k q e l = refl
   le_part (suc n) k q e l =
       let i : k < o + j - o = omega arith in
-      let first : get_or (part s o j) k 0 ≡ get_or s q 0 = rw (get_or-take (o + j - o) (drop o s) k 0 i, get_or-drop, e) in
+      let first : get_or (part s o j) k 0 ≡ get_or s q 0 = rw
+      (get_or-take (o + j - o) (drop o s) k 0 i, get_or-drop, e) in
       let rest : le (part s o j) (k + 1) n ≡ le s (q + 1) n = le_part n (k + 1) (q + 1) (omega arith) (omega arith) in
       rw (first, rest)
 

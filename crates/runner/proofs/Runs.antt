@@ -88,7 +88,8 @@ module _ (s : List ℕ) where
   -- four more
   pub four_kinds : (at q r t u n : ℕ) {a b c d : Bool} → q ≡ at + step_bytes → r ≡ q + step_bytes
       → t ≡ r + step_bytes → u ≡ t + step_bytes
-      → a ≡ kind_in (loaded s at 1) → b ≡ kind_in (loaded s q 1) → c ≡ kind_in (loaded s r 1) → d ≡ kind_in (loaded s t 1)
+      → a ≡ kind_in (loaded s at 1) → b ≡ kind_in (loaded s q 1) → c ≡ kind_in (loaded s r 1) → d ≡ kind_in
+      (loaded s t 1)
       → kinds_from s at (suc (suc (suc (suc n)))) ≡ ((a && (b && (c && d))) && kinds_from s u n)
   four_kinds at q r t u n {a} {b} {c} {d} f g h i j k l m =
       let x : kinds_from s t (suc n) ≡ (d && kinds_from s u n) = one_kind t u n i m in
@@ -243,7 +244,8 @@ module _ (s : List ℕ) (p : ℕ) where
   module _ (left from at : ℕ) (t : RunState) {e : Entry} {t' : RunState} (h : 0 < left) where
     pub press_next : (n : ℕ) → left ≤ p → p ≤ n → from + press_bytes * left ≡ 4 + press_bytes * p
         → e ≡ press_from s from → t' ≡ after_entry t at e
-        → after_entries t' (at + answer_bytes) (entries_from s p (n - (p - (left - 1))) (p - (left - 1))) ≡ after_entries
+        → after_entries t' (at + answer_bytes) (entries_from s p (n - (p - (left - 1))) (p - (left - 1))) ≡
+        after_entries
         t at
         (entries_from s p (n - (p - left)) (p - left))
     press_next n l m f e g =

@@ -1,6 +1,7 @@
 -- 01, Scripts: little-endian, a u32 count of presses, each key u8 and f64 time; a u32 count of steps, each kind u8,
 -- size u8, two unused bytes, address u32, value u64.
-use Rattle.std.specs.Prelude.{ℕ, zero, suc, ◌+◌, ◌-◌, ◌*◌, ◌^◌, Bool, true, not, cond, ◌&&◌, ◌||◌, List, [], ◌∷◌, length, eqb, ltb}
+use Rattle.std.specs.Prelude.{ℕ, zero, suc, ◌+◌, ◌-◌, ◌*◌, ◌^◌, Bool, true, not, cond, ◌&&◌, ◌||◌, List, [], ◌∷◌}
+use Rattle.std.specs.Prelude.{length, eqb, ltb}
 use Rattle.map.specs.Numbers.{MOST_PRESSES, MOST_STEPS, PRESS_BYTES, STEP_BYTES}
 use Rattle.memory.specs.Bytes.{loaded}
 use Rattle.entries.specs.declared.Entry.{Entry}
@@ -48,7 +49,8 @@ behind_presses p = 8 + press_bytes * p
 abbrev pub bad_with : List ℕ → ℕ → ℕ → Bool
 bad_with s p n =
     ltb most_presses p
-    || (ltb most_steps n || not (eqb (length s) (behind_presses p + step_bytes * n) && kinds_from s (behind_presses p) n))
+    || (ltb most_steps n || not (eqb (length s) (behind_presses p + step_bytes * n) && kinds_from s
+    (behind_presses p) n))
 
 unfoldable pub bad_script : List ℕ → Bool
 bad_script s = bad_with s (presses_in s) (steps_in s (presses_in s))

@@ -48,11 +48,13 @@ fn lay(
     k: usize,
     e: usize,
 )
-    requires { (length (layout cells.now floats.now slots.now addresses.now values.now n rtc.now page.now starts.now codes.now time places k (queue_of onsets.now frequencies.now duties.now ring) e
+    requires { (length (layout cells.now floats.now slots.now addresses.now values.now n rtc.now page.now starts.now
+        codes.now time places k (queue_of onsets.now frequencies.now duties.now ring) e
         ram.now sram.now gpio.now fb.now) ≤ length out.old) × ((n ≤ 256) × ((places ≤ 64) × (e ≤ 256))) }
     ensures { out.new ≡ sets out.old 0 (layout cells.now floats.now
         slots.now addresses.now values.now n rtc.now page.now
-        starts.now codes.now time places k (queue_of onsets.now frequencies.entry.now duties.now ring) e ram.now sram.now gpio.now fb.entry.now) }
+        starts.now codes.now time places k (queue_of onsets.now frequencies.now duties.now ring) e ram.now
+        sram.now gpio.now fb.now) }
 {
     let words = crate::writers::lay_timers(out, 0, cells, floats);
     let devices = crate::writers::lay_words(out, words, slots, addresses, values, n);
@@ -90,7 +92,9 @@ fn lay_parts(
         × ((n ≤ 256) × ((places ≤ 64) × (e ≤ 256))))) }
     ensures { out.new ≡ sets out.old 0 (layout (cells_of parts) (floats_of parts)
         slots.now addresses.now values.now n rtc.now page.now
-        starts.now codes.now parts.devices.clocks.times.now places k (queue_of onsets.entry.now frequencies.now duties.now parts.ring) e ram.now sram.entry.now gpio.now fb.now) }
+        starts.now codes.now parts.devices.clocks.times.now places k
+        (queue_of onsets.now frequencies.now duties.now parts.ring) e ram.now sram.now gpio.now
+        fb.now) }
 {
     session::sized::bytes_long(rtc);
     session::sized::bytes_long(page);
@@ -148,7 +152,9 @@ pub extern "C" fn tg18_lent_save(
     out: &mut [u8],
     written: &mut [u64; 1],
 ) -> u32
-    ensures { saved result (get_or written.new 0 0) out.new ≡ save_of (machine_of slots.entry.now addresses.now values.now rtc.now page.now onsets.entry.now frequencies.now duties.now starts.now codes.now (parts_in
+    ensures { saved result (get_or written.new 0 0) out.new ≡ save_of
+        (machine_of slots.now addresses.now values.now rtc.now page.now onsets.now frequencies.now
+        duties.now starts.now codes.now (parts_in
         cells.now floats.now) ram.now sram.now gpio.now fb.now) out.old }
 {
     *written = [0];

@@ -175,7 +175,8 @@ module _ (ram sram gpio fb script out : List ℕ) where
       (continued_of (start ram sram gpio fb) script out))
 
   -- 7, 10, 11 IN THIS ORDER, or done
-  pub refusals_in_order : (script_of ram sram gpio fb script out).refusal ≡ cond (bad_memory ram sram gpio fb) BAD_MEMORY
+  pub refusals_in_order : (script_of ram sram gpio fb script out).refusal ≡ cond (bad_memory ram sram gpio fb)
+      BAD_MEMORY
       (cond (bad_script script) BAD_SCRIPT (cond (out_too_short script out) OUT_TOO_SHORT DONE))
   unfolding script_of script_from
   refusals_in_order = by (bad_memory ram sram gpio fb)

@@ -41,7 +41,8 @@ cells_long_lem l i n = cells_long_by l i n
 pub floats_long : (f : List Float) (i n : ℕ) → length (float_bytes f i n) ≡ 8 * n
 unfolding float_bytes
 floats_long f i n =
-    rows_long (λ j. bytes_of 8 (bits_of (get_or f (i + j) nan))) 8 n (λ j below. length_bytes 8 (bits_of (get_or f (i + j)
+    rows_long (λ j. bytes_of 8 (bits_of (get_or f (i + j) nan))) 8 n
+    (λ j below. length_bytes 8 (bits_of (get_or f (i + j)
     nan)))
 
 pub slots_long : (slots : List ℕ) → length (slot_bytes slots) ≡ 304
@@ -196,7 +197,8 @@ clocks_long l f rtc size =
     let q3 = length-append (cell_bytes l 41 2) (rtc) in
     let q2 = length-append (cell_bytes l 37 3) (cell_bytes l 41 2 ++ rtc) in
     let q1 = length-append (float_bytes f 9 2) (cell_bytes l 37 3 ++ (cell_bytes l 41 2 ++ rtc)) in
-    let q0 = length-append (float_bytes f 0 3) (float_bytes f 9 2 ++ (cell_bytes l 37 3 ++ (cell_bytes l 41 2 ++ rtc))) in
+    let q0 = length-append (float_bytes f 0 3) (float_bytes f 9 2 ++
+    (cell_bytes l 37 3 ++ (cell_bytes l 41 2 ++ rtc))) in
     let c = counted_long 328 (float_bytes f 0 3 ++ (float_bytes f 9 2 ++ (cell_bytes l 37 3 ++ (cell_bytes l 41 2 ++
     rtc)))) in
     omega arith

@@ -11,7 +11,8 @@ use lib.Seq.{get_or-set_other}
 use borrow.Author.Tests.{ltb-false, leb-true}
 use Rattle.whole.specs.Forms.{bit}
 use Rattle.panel.specs.declared.MaybeByte.TheVariants.{Nothing, Byte}
-use Rattle.state.specs.Bank.{flag_in, mode_in, maybe_in, chip_in, panel_in, times_in, timer_in, irq_in, latch_in, tone_in, ring_in}
+use Rattle.state.specs.Bank.{flag_in, mode_in, maybe_in, chip_in, panel_in, times_in, timer_in, irq_in, latch_in}
+use Rattle.state.specs.Bank.{tone_in, ring_in}
 use Rattle.state.specs.Bank.{keys_in, parts_in}
 use Rattle.state.specs.Packed.{mode_number, maybe_number, chip_cells, panel_cells, clock_cells, key_cells, times_floats}
 use Rattle.state.specs.Packed.{cells_of, floats_of, Packed}
@@ -59,7 +60,8 @@ also p q = rw (p, q)
 packed_list : (l : List ℕ) (f : List Float) → ((i : ℕ) → i < 45 → get_or l i 0 ≤ most_at i)
     → ((i : ℕ) → 46 < i → i < 51 → get_or l i 0 ≤ most_at i)
     → cells_of (parts_in l f) ≡ spread 0 l 0 51
-unfolding cells_of chip_cells panel_cells clock_cells key_cells chip_in panel_in times_in timer_in irq_in latch_in tone_in ring_in
+unfolding cells_of chip_cells panel_cells clock_cells key_cells chip_in panel_in times_in timer_in irq_in latch_in
+    tone_in ring_in
     keys_in spread mosts
 packed_list l f low high =
     also (mode (get_or l 0 0) (low 0 (omega arith)))
@@ -135,14 +137,16 @@ module _ (s : List ℕ) where
     low_range : (i : ℕ) → i < 45 → get_or (bank_in s) i 0 ≤ most_at i
     unfolding bank_in
     low_range i below =
-        let a = get_or-set_other (set (cells_in s (others_in s)) 45 (events_in s)) 46 i (presses_in s) 0 (λ e. omega arith) in
+        let a = get_or-set_other (set (cells_in s (others_in s)) 45 (events_in s)) 46 i (presses_in s) 0
+        (λ e. omega arith) in
         let b = get_or-set_other (cells_in s (others_in s)) 45 i (events_in s) 0 (λ e. omega arith) in
         rw (a, b) (in_range i (omega arith))
 
     high_range : (i : ℕ) → 46 < i → i < 51 → get_or (bank_in s) i 0 ≤ most_at i
     unfolding bank_in
     high_range i above below =
-        let a = get_or-set_other (set (cells_in s (others_in s)) 45 (events_in s)) 46 i (presses_in s) 0 (λ e. omega arith) in
+        let a = get_or-set_other (set (cells_in s (others_in s)) 45 (events_in s)) 46 i (presses_in s) 0
+        (λ e. omega arith) in
         let b = get_or-set_other (cells_in s (others_in s)) 45 i (events_in s) 0 (λ e. omega arith) in
         rw (a, b) (in_range i below)
 

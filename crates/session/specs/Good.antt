@@ -1,6 +1,7 @@
 -- When the bytes of a session are good. Each condition is one of 02's, but for the panel's arguments and the lines
 -- (DECISIONS 152).
-use Rattle.std.specs.Prelude.{ℕ, zero, suc, ◌+◌, ◌*◌, ◌%◌, Bool, not, ◌&&◌, ◌||◌, List, eqb, ltb, leb, Float, length, get_or}
+use Rattle.std.specs.Prelude.{ℕ, zero, suc, ◌+◌, ◌*◌, ◌%◌, Bool, not, ◌&&◌, ◌||◌, List, eqb, ltb, leb, Float}
+use Rattle.std.specs.Prelude.{length, get_or}
 use Rattle.std.specs.Float.{nan, binary64}
 use Rattle.std.specs.Float.Ieee.{of_bits, div, mul, le, to_unsigned}
 use Rattle.map.specs.Numbers.{FLASH_SIZE, RAM_SIZE, SRAM_SIZE, GPIO_SIZE, FRAMEBUFFER_SIZE}
@@ -44,8 +45,10 @@ good_floats f =
 -- no timer was started after now, and nothing was set after game time
 unfoldable pub in_order : List Float → Bool
 in_order f =
-    ((le (get_or f 3 nan) (get_or f 0 nan) && (le (get_or f 4 nan) (get_or f 0 nan) && le (get_or f 5 nan) (get_or f 0 nan)))
-    && (le (get_or f 6 nan) (get_or f 0 nan) && (le (get_or f 7 nan) (get_or f 0 nan) && le (get_or f 8 nan) (get_or f 0 nan))))
+    ((le (get_or f 3 nan) (get_or f 0 nan) && (le (get_or f 4 nan) (get_or f 0 nan) && le (get_or f 5 nan)
+    (get_or f 0 nan)))
+    && (le (get_or f 6 nan) (get_or f 0 nan) && (le (get_or f 7 nan) (get_or f 0 nan) && le (get_or f 8 nan)
+    (get_or f 0 nan))))
     && (le (get_or f 9 nan) (get_or f 1 nan) && le (get_or f 10 nan) (get_or f 1 nan))
 
 -- the ticks are game time's whole part, the syncs that of now times 60
@@ -85,7 +88,8 @@ good_event time frequency duty = good_time time && (finite frequency && finite d
 
 unfoldable pub good_events : List ℕ → ℕ → ℕ → Bool
 good_events s at e =
-    all_below (λ j. good_event (float_at s (at + 24 * j)) (float_at s (at + 24 * j + 8)) (float_at s (at + 24 * j + 16))) e
+    all_below (λ j. good_event (float_at s (at + 24 * j)) (float_at s (at + 24 * j + 8))
+    (float_at s (at + 24 * j + 16))) e
 
 -- ---- all of it, with n other words, k presses and e sound events
 

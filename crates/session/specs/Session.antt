@@ -86,7 +86,8 @@ parts_read s = parts_in (bank_in s) (floats_in s (others_in s))
 
 -- with the counts recomputed
 unfoldable pub parts_back : List ℕ → List ℕ → Parts
-parts_back s sram = clocks_put (parts_read s) (clocks_resynced (slots_in s) (parts_read s).devices.clocks (clock_in sram))
+parts_back s sram = clocks_put (parts_read s) (clocks_resynced (slots_in s) (parts_read s).devices.clocks
+    (clock_in sram))
 
 unfoldable pub machine_in : List ℕ → Machine
 machine_in s =

@@ -2,6 +2,6 @@
 // README.md beside src/.
 #![tactic(auto)]
 
-fn main() {
-    steps::talk::serve(flash::Mode::Strict, 0, 1);
+fn main(rt: HostRuntime) {
+    steps::talk::serve(flash::Mode::Strict, &mut rt.stdin(), &mut rt.stdout());
 }

@@ -46,7 +46,8 @@ module _ {n : ℕ} {l : List ℕ} {f : List Float} where
   none_put = record { packed = λ k. k; still = λ h. (refl, refl) }
 
 pub zeros_packed : Packed (replicate cell_count 0) (replicate float_count (of_bits binary64 0))
-unfolding mode_in maybe_in mode_number maybe_number chip_in panel_in times_in timer_in irq_in latch_in tone_in ring_in keys_in
+unfolding mode_in maybe_in mode_number maybe_number chip_in panel_in times_in timer_in irq_in latch_in tone_in
+    ring_in keys_in
     chip_cells panel_cells clock_cells key_cells times_floats cells_of floats_of
 zeros_packed = record { cells = refl; floats = refl }
 

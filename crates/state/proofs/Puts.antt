@@ -26,7 +26,8 @@ use Rattle.state.specs.declared.Parts.{Parts}
 use Rattle.state.specs.Parts.{none, flash_put, sent_put, panel_put, pen_put, times_put, turbo_put, timer_put, irq_put}
 use Rattle.state.specs.Parts.{vsync_put, converting_put, latch_put, tone_put, off_put, ring_put, keys_put, count_put}
 use Rattle.state.specs.Parts.{live_put, hold_put, applied_put}
-use Rattle.state.specs.Bank.{cell_count, float_count, maybe_in, chip_in, panel_in, times_in, timer_in, timers_in, irq_in}
+use Rattle.state.specs.Bank.{cell_count, float_count, maybe_in, chip_in, panel_in, times_in, timer_in, timers_in}
+use Rattle.state.specs.Bank.{irq_in}
 use Rattle.state.specs.Bank.{latch_in, tone_in, ring_in, keys_in, parts_in}
 use Rattle.state.specs.Packed.{mode_number, maybe_number, chip_cells, sent_cells, panel_cells, pen_cells, clock_cells}
 use Rattle.state.specs.Packed.{key_cells, cells_of, times_floats, floats_of, laid_at, Put, timer_cells, timer_floats}
@@ -71,7 +72,8 @@ module _ (l : List ℕ) (long : length l ≡ cell_count) (f : List Float) where
       → Put l f (set (set (set (set (set (set (set l 4 rx) 5 x.cmd) 6 x.a1) 7 x.a2) 8 x.a3) 9 x.pos) 10
       a) f
       (laid_at l 4 (sent_cells rx x)) f (sent_put (parts_in l f) rx x)
-  unfolding chip_in panel_in times_in timer_in irq_in latch_in tone_in ring_in keys_in spread laid_at chip_cells panel_cells
+  unfolding chip_in panel_in times_in timer_in irq_in latch_in tone_in ring_in keys_in spread laid_at chip_cells
+      panel_cells
       clock_cells key_cells cells_of floats_of times_floats
   sent_put_lem rx x a h m n o p q =
       put_of (λ y. sent_put y rx x) (λ z. laid_at z 4 (sent_cells rx x)) (λ v. v) l f
@@ -94,7 +96,8 @@ module _ (l : List ℕ) (long : length l ≡ cell_count) (f : List Float) where
       (laid_at (set (set (set (set l 0 a) 1 b) 2 c) 3 x.writes) 4 (sent_cells x.rx x.tx)) f
       (sent_put (parts_in (set (set (set (set l 0 a) 1 b) 2 c) 3 x.writes) f) x.rx x.tx)
       → Put l f l' f (laid_at l 0 (chip_cells x)) f (flash_put (parts_in l f) x)
-  unfolding chip_in panel_in times_in timer_in irq_in latch_in tone_in ring_in keys_in spread laid_at chip_cells panel_cells
+  unfolding chip_in panel_in times_in timer_in irq_in latch_in tone_in ring_in keys_in spread laid_at chip_cells
+      panel_cells
       clock_cells key_cells cells_of floats_of times_floats
   chip_put x a b c h i j p =
       put_behind (λ y. flash_put y x) (λ z. laid_at z 0 (chip_cells x)) l f p
@@ -106,7 +109,8 @@ module _ (l : List ℕ) (long : length l ≡ cell_count) (f : List Float) where
   pub pen_put_lem : (x : Pen) (a : ℕ) → (a ≡ maybe_number x.half) × (maybe_in a ≡ x.half) → x.x < 65536 → x.y < 65536
       → Put l f (set (set (set (set l 21 x.x) 22 x.y) 23 a) 24 x.frames) f (laid_at l 21 (pen_cells x)) f
       (pen_put (parts_in l f) x)
-  unfolding chip_in panel_in times_in timer_in irq_in latch_in tone_in ring_in keys_in spread laid_at chip_cells panel_cells
+  unfolding chip_in panel_in times_in timer_in irq_in latch_in tone_in ring_in keys_in spread laid_at chip_cells
+      panel_cells
       clock_cells key_cells cells_of floats_of times_floats
   pen_put_lem x a h m n =
       put_of (λ y. pen_put y x) (λ z. laid_at z 21 (pen_cells x)) (λ v. v) l f
@@ -129,7 +133,8 @@ module _ (l : List ℕ) (long : length l ≡ cell_count) (f : List Float) where
         → x.count < 256 → x.window.x0 < 65536 → x.window.x1 < 65536 → x.window.y0 < 65536 → x.window.y1 < 65536
         → Put begun f l' f (laid_at begun 21 (pen_cells x.pen)) f (pen_put (parts_in begun f) x.pen)
         → Put l f l' f (laid_at l 11 (panel_cells x)) f (panel_put (parts_in l f) x)
-    unfolding chip_in panel_in times_in timer_in irq_in latch_in tone_in ring_in keys_in spread laid_at chip_cells panel_cells
+    unfolding chip_in panel_in times_in timer_in irq_in latch_in tone_in ring_in keys_in spread laid_at chip_cells
+        panel_cells
         clock_cells key_cells cells_of floats_of times_floats
     panel_put_lem h four i j k m n o q r s p =
         put_behind (λ y. panel_put y x) (λ z. laid_at z 11 (panel_cells x)) l f p
@@ -156,14 +161,16 @@ module _ (l : List ℕ) (long : length l ≡ cell_count) (f : List Float) where
         refl
 
   pub vsync_put_lem : (n : ℕ) → Put l f (set l 39 n) f (set l 39 n) f (vsync_put (parts_in l f) n)
-  unfolding chip_in panel_in times_in timer_in irq_in latch_in tone_in ring_in keys_in spread laid_at chip_cells panel_cells
+  unfolding chip_in panel_in times_in timer_in irq_in latch_in tone_in ring_in keys_in spread laid_at chip_cells
+      panel_cells
       clock_cells key_cells cells_of floats_of times_floats
   vsync_put_lem n = put_of (λ y. vsync_put y n) (λ m. set m 39 n) (λ v. v) l f refl refl
       (rw (spread_is 0 l cell_count long)) refl refl
 
   pub converting_put_lem : (on : Bool) (n : ℕ) → n ≡ bit on → Put l f (set l 40 n) f (set l 40 (bit on)) f
       (converting_put (parts_in l f) on)
-  unfolding chip_in panel_in times_in timer_in irq_in latch_in tone_in ring_in keys_in spread laid_at chip_cells panel_cells
+  unfolding chip_in panel_in times_in timer_in irq_in latch_in tone_in ring_in keys_in spread laid_at chip_cells
+      panel_cells
       clock_cells key_cells cells_of floats_of times_floats
   converting_put_lem on n e =
       put_of (λ y. converting_put y on) (λ m. set m 40 (bit on)) (λ v. v) l f (rw e) refl
@@ -171,7 +178,8 @@ module _ (l : List ℕ) (long : length l ≡ cell_count) (f : List Float) where
 
   pub off_put_lem : (on : Bool) (n : ℕ) → n ≡ bit on → Put l f (set l 43 n) f (set l 43 (bit on)) f
       (off_put (parts_in l f) on)
-  unfolding chip_in panel_in times_in timer_in irq_in latch_in tone_in ring_in keys_in spread laid_at chip_cells panel_cells
+  unfolding chip_in panel_in times_in timer_in irq_in latch_in tone_in ring_in keys_in spread laid_at chip_cells
+      panel_cells
       clock_cells key_cells cells_of floats_of times_floats
   off_put_lem on n e = put_of (λ y. off_put y on) (λ m. set m 43 (bit on)) (λ v. v) l f (rw e) refl
       (rw (spread_is 0 l cell_count long, flag_bit)) refl refl
@@ -179,7 +187,8 @@ module _ (l : List ℕ) (long : length l ≡ cell_count) (f : List Float) where
   pub ring_put_lem : (x : Ring) → x.head < 256
       → Put l f (set (set l 44 x.head) 45 x.count) f (laid_at l 44 (x.head ∷ x.count ∷ [])) f
       (ring_put (parts_in l f) x)
-  unfolding chip_in panel_in times_in timer_in irq_in latch_in tone_in ring_in keys_in spread laid_at chip_cells panel_cells
+  unfolding chip_in panel_in times_in timer_in irq_in latch_in tone_in ring_in keys_in spread laid_at chip_cells
+      panel_cells
       clock_cells key_cells cells_of floats_of times_floats
   ring_put_lem x e =
       put_of (λ y. ring_put y x) (λ m. laid_at m 44 (x.head ∷ x.count ∷ [])) (λ v. v) l f
@@ -190,13 +199,15 @@ module _ (l : List ℕ) (long : length l ≡ cell_count) (f : List Float) where
       refl
 
   pub count_put_lem : (n : ℕ) → Put l f (set l 46 n) f (set l 46 n) f (count_put (parts_in l f) n)
-  unfolding chip_in panel_in times_in timer_in irq_in latch_in tone_in ring_in keys_in spread laid_at chip_cells panel_cells
+  unfolding chip_in panel_in times_in timer_in irq_in latch_in tone_in ring_in keys_in spread laid_at chip_cells
+      panel_cells
       clock_cells key_cells cells_of floats_of times_floats
   count_put_lem n = put_of (λ y. count_put y n) (λ m. set m 46 n) (λ v. v) l f refl refl
       (rw (spread_is 0 l cell_count long)) refl refl
 
   pub applied_put_lem : (n : ℕ) → n < 2 ^ 32 → Put l f (set l 50 n) f (set l 50 n) f (applied_put (parts_in l f) n)
-  unfolding chip_in panel_in times_in timer_in irq_in latch_in tone_in ring_in keys_in spread laid_at chip_cells panel_cells
+  unfolding chip_in panel_in times_in timer_in irq_in latch_in tone_in ring_in keys_in spread laid_at chip_cells
+      panel_cells
       clock_cells key_cells cells_of floats_of times_floats
   applied_put_lem n e = put_of (λ y. applied_put y n) (λ m. set m 50 n) (λ v. v) l f refl refl
       (rw (spread_is 0 l cell_count long, mod-eq_of_lt e)) refl refl
@@ -204,14 +215,16 @@ module _ (l : List ℕ) (long : length l ≡ cell_count) (f : List Float) where
 module _ (f : List Float) (wide : length f ≡ float_count) (l : List ℕ) where
   pub times_put_lem : (x : Times) → Put l f l (set (set (set f 0 x.now) 1 x.game) 2 x.turbo) l
       (laid_at f 0 (times_floats x)) (times_put (parts_in l f) x)
-  unfolding chip_in panel_in times_in timer_in irq_in latch_in tone_in ring_in keys_in spread laid_at chip_cells panel_cells
+  unfolding chip_in panel_in times_in timer_in irq_in latch_in tone_in ring_in keys_in spread laid_at chip_cells
+      panel_cells
       clock_cells key_cells cells_of floats_of times_floats
   times_put_lem x =
       put_of (λ y. times_put y x) (λ m. m) (λ v. laid_at v 0 (times_floats x)) l f refl
       (rw (spread_is nan f float_count wide)) (rw (spread_is nan f float_count wide)) refl refl
 
   pub turbo_put_lem : (x : Float) → Put l f l (set f 2 x) l (set f 2 x) (turbo_put (parts_in l f) x)
-  unfolding chip_in panel_in times_in timer_in irq_in latch_in tone_in ring_in keys_in spread laid_at chip_cells panel_cells
+  unfolding chip_in panel_in times_in timer_in irq_in latch_in tone_in ring_in keys_in spread laid_at chip_cells
+      panel_cells
       clock_cells key_cells cells_of floats_of times_floats
   turbo_put_lem x = put_of (λ y. turbo_put y x) (λ m. m) (λ v. set v 2 x) l f refl refl
       (rw (spread_is nan f float_count wide)) refl refl
@@ -219,7 +232,8 @@ module _ (f : List Float) (wide : length f ≡ float_count) (l : List ℕ) where
   pub tone_put_lem : (x : Tone)
       → Put l f l (set (set f 11 x.frequency) 12 x.duty) l (laid_at f 11 (x.frequency ∷ x.duty ∷ []))
       (tone_put (parts_in l f) x)
-  unfolding chip_in panel_in times_in timer_in irq_in latch_in tone_in ring_in keys_in spread laid_at chip_cells panel_cells
+  unfolding chip_in panel_in times_in timer_in irq_in latch_in tone_in ring_in keys_in spread laid_at chip_cells
+      panel_cells
       clock_cells key_cells cells_of floats_of times_floats
   tone_put_lem x =
       put_of (λ y. tone_put y x) (λ m. m) (λ v. laid_at v 11 (x.frequency ∷ x.duty ∷ [])) l f
@@ -233,7 +247,8 @@ module _ (l : List ℕ) (f : List Float) (long : length l ≡ cell_count) (wide 
   pub irq_put_lem : (x : RtcIrq) → x.base < 2 ^ 32
       → Put l f (set (set l 37 x.fired) 38 x.base) (set f 9 x.set) (laid_at l 37 (x.fired ∷ x.base ∷ []))
       (set f 9 x.set) (irq_put (parts_in l f) x)
-  unfolding chip_in panel_in times_in timer_in irq_in latch_in tone_in ring_in keys_in spread laid_at chip_cells panel_cells
+  unfolding chip_in panel_in times_in timer_in irq_in latch_in tone_in ring_in keys_in spread laid_at chip_cells
+      panel_cells
       clock_cells key_cells cells_of floats_of times_floats
   irq_put_lem x e =
       put_of (λ y. irq_put y x) (λ m. laid_at m 37 (x.fired ∷ x.base ∷ [])) (λ v. set v 9 x.set) l f
@@ -246,7 +261,8 @@ module _ (l : List ℕ) (f : List Float) (long : length l ≡ cell_count) (wide 
   pub latch_put_lem : (x : Latch) → x.out < 2 ^ 32
       → Put l f (set (set l 41 x.base) 42 x.out) (set f 10 x.since) (laid_at l 41 (x.base ∷ x.out ∷ []))
       (set f 10 x.since) (latch_put (parts_in l f) x)
-  unfolding chip_in panel_in times_in timer_in irq_in latch_in tone_in ring_in keys_in spread laid_at chip_cells panel_cells
+  unfolding chip_in panel_in times_in timer_in irq_in latch_in tone_in ring_in keys_in spread laid_at chip_cells
+      panel_cells
       clock_cells key_cells cells_of floats_of times_floats
   latch_put_lem x e =
       put_of (λ y. latch_put y x) (λ m. laid_at m 41 (x.base ∷ x.out ∷ [])) (λ v. set v 10 x.since) l f
@@ -261,19 +277,28 @@ module _ (l : List ℕ) (f : List Float) (long : length l ≡ cell_count) (wide 
       → Put l f (set (set (set (set (set l 46 x.count) 47 a) 48 b) 49 c) 50 x.applied)
       (set (set (set f 13 x.holds.a) 14 x.holds.b) 15 x.holds.c)
       (laid_at l 46 (key_cells x)) (laid_at f 13 (x.holds.a ∷ x.holds.b ∷ x.holds.c ∷ [])) (keys_put (parts_in l f) x)
-  unfolding chip_in panel_in times_in timer_in irq_in latch_in tone_in ring_in keys_in spread laid_at chip_cells panel_cells
+  unfolding chip_in panel_in times_in timer_in irq_in latch_in tone_in ring_in keys_in spread laid_at chip_cells
+      panel_cells
       clock_cells key_cells cells_of floats_of times_floats
   keys_put_lem x a b c h i j e =
       put_of (λ y. keys_put y x) (λ m. laid_at m 46 (key_cells x))
       (λ v. laid_at v 13 (x.holds.a ∷ x.holds.b ∷ x.holds.c ∷ [])) l f
       (rw (spread_is 0 l cell_count long, h, i, j))
       (rw (spread_is nan f float_count wide))
-      (rw (spread_is 0 l cell_count long, spread_is nan f float_count wide, flag_bit, flag_bit, flag_bit, mod-eq_of_lt e))
+      (rw (
+        spread_is 0 l cell_count long,
+        spread_is nan f float_count wide,
+        flag_bit,
+        flag_bit,
+        flag_bit,
+        mod-eq_of_lt e,
+      ))
       refl
       refl
 
   -- the parts that a timer's words make
-  timer_laid : (x : Timer) (n : ℕ) → n < 6 → parts_in (timer_cells l n x) (timer_floats f n x) ≡ timer_put (parts_in l f) n x
+  timer_laid : (x : Timer) (n : ℕ) → n < 6 → parts_in (timer_cells l n x) (timer_floats f n x) ≡ timer_put
+      (parts_in l f) n x
   unfolding chip_in panel_in times_in timer_in irq_in latch_in tone_in ring_in keys_in spread timer_cells timer_floats
   timer_laid x zero h = rw (spread_is 0 l cell_count long, spread_is nan f float_count wide, flag_bit)
   timer_laid x (suc zero) h = rw (spread_is 0 l cell_count long, spread_is nan f float_count wide, flag_bit)
@@ -399,7 +424,8 @@ module _ (f : List Float) (wide : length f ≡ float_count) (l : List ℕ) (unti
   hold_words x (suc (suc zero)) = refl
   hold_words x (suc (suc (suc key))) = let n = no_key (suc (suc (suc key))) (omega arith) in rw (n.0, n.1, n.2, n.3)
 
-  pub hold_put_lem : (key : ℕ) {f' : List Float} → f' ≡ hold_floats f key until → Put l f l f' l (hold_floats f key until)
+  pub hold_put_lem : (key : ℕ) {f' : List Float} → f' ≡ hold_floats f key until → Put l f l f' l
+      (hold_floats f key until)
       (hold_put (parts_in l f) key until)
   unfolding cells_of key_cells
   hold_put_lem key e =

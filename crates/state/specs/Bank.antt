@@ -90,7 +90,12 @@ times_in f = record { now = get_or f 0 nan; game = get_or f 1 nan; turbo = get_o
 
 -- timer n of the six
 unfoldable pub timer_in : List ℕ → List Float → ℕ → Timer
-timer_in l f n = record { start = get_or f (3 + n) nan; seen = get_or l (25 + n) 0; pending = flag_in (get_or l (31 + n) 0) }
+timer_in l f n = record {
+  start = get_or f (3 + n) nan;
+  seen = get_or l (25 + n) 0;
+  pending = flag_in
+      (get_or l (31 + n) 0);
+}
 
 abbrev pub timers_in : List ℕ → List Float → List Timer
 timers_in l f = list_of (λ n. timer_in l f n) 0 TIMER_COUNT
@@ -108,7 +113,8 @@ unfoldable pub tone_in : List Float → Tone
 tone_in f = record { frequency = get_or f 11 nan; duty = get_or f 12 nan }
 
 abbrev pub devices_in : List ℕ → List Float → Devices
-devices_in l f = devices_of (chip_in l) (panel_in l) (clocks_in l f) (latch_in l f) (tone_in f) (flag_in (get_or l 43 0))
+devices_in l f = devices_of (chip_in l) (panel_in l) (clocks_in l f) (latch_in l f) (tone_in f)
+    (flag_in (get_or l 43 0))
 
 -- ---- beside the devices: the sound queue's ring, and the keys
 

@@ -1,7 +1,8 @@
 -- The words of parts: the cells and the floats that say them and nothing else. A bank that holds just the words of
 -- its parts is packed: a flag is 0 or 1, a number lies within its width, a byte that may be absent is at most 256.
 -- Every call leaves a packed bank packed, so that the later parts say every later word.
-use Rattle.std.specs.Prelude.{ℕ, ◌+◌, ◌≡◌, ◌≢◌, List, [], ◌∷◌, ◌++◌, length, get_or, set, take, drop, ltb, Bool, cond, Float}
+use Rattle.std.specs.Prelude.{ℕ, ◌+◌, ◌≡◌, ◌≢◌, List, [], ◌∷◌, ◌++◌, length, get_or, set, take, drop, ltb, Bool}
+use Rattle.std.specs.Prelude.{cond, Float}
 use Rattle.map.specs.Numbers.{TIMER_COUNT}
 use Rattle.whole.specs.Forms.{bit}
 use Rattle.flash.specs.declared.Mode.{Mode}

@@ -1,5 +1,7 @@
 -- Laws of many bytes: one more byte of a chunk, chunk after chunk, the end, and the room that the answers take.
-use Rattle.std.proofs.Common.{◌≡◌, ℕ, suc, ◌+◌, ◌<◌, ◌≤◌, Bool, true, false, eqb, List, [], ◌∷◌, ◌++◌, length, get_or, drop, sym, refl, ap, ◌∙◌, append_assoc, append-nil, add-one, arith, drop_of_length-le, drop-cons, eqb-true}
+use Rattle.std.proofs.Common.{◌≡◌, ℕ, suc, ◌+◌, ◌<◌, ◌≤◌, Bool, true, false, eqb, List, [], ◌∷◌, ◌++◌, length}
+use Rattle.std.proofs.Common.{get_or, drop, sym, refl, ap, ◌∙◌, append_assoc, append-nil, add-one, arith}
+use Rattle.std.proofs.Common.{drop_of_length-le, drop-cons, eqb-true}
 use borrow.Author.Tests.{eqb-false}
 use Rattle.flash.specs.Board.{chip_with_page}
 use Rattle.flash.specs.Flash.{made_in}
@@ -78,7 +80,8 @@ closes_well t e o = rw (o, e)
 
 -- a run from a fresh chip
 pub run_end : (e : Mode) (chip : Chip) (page array : List ℕ) (s : Session) {v u : World} {a : List ℕ}
-    → chip_with_page chip page ≡ made_in e → array ≡ erased_array → s ≡ new_session chip → Reaches (world s page array) v
+    → chip_with_page chip page ≡ made_in e → array ≡ erased_array → s ≡ new_session chip → Reaches
+    (world s page array) v
     → printed a u ≡ closed (finished v) → RunEnd e u.session
 unfolding whole_run
 run_end e chip page array s {v} {u} m f b h k =

@@ -1,5 +1,9 @@
 -- Laws of text that is put into a slice, of a number's digits, and of counting.
-use Rattle.std.proofs.Common.{◌≡◌, ℕ, zero, suc, ◌+◌, ◌-◌, ◌*◌, ◌/◌, ◌%◌, ◌^◌, ◌<◌, ◌≤◌, Bool, true, false, eqb, ltb, leb, List, [], ◌∷◌, ◌++◌, length, get_or, take, drop, set, sym, refl, ap, ◌∙◌, append_assoc, append-nil, pow-suc, add-one, arith, length-append, drop_of_length-le, length-take-le, drop-cons, take-suc, take-suc-set, le-ltb, lt-ltb, leb-false, leb-true}
+use Rattle.std.proofs.Common.{◌≡◌, ℕ, zero, suc, ◌+◌, ◌-◌, ◌*◌, ◌/◌, ◌%◌, ◌^◌, ◌<◌, ◌≤◌, Bool, true, false, eqb}
+use Rattle.std.proofs.Common.{ltb, leb, List, [], ◌∷◌, ◌++◌, length, get_or, take, drop, set, sym, refl, ap, ◌∙◌}
+use Rattle.std.proofs.Common.{append_assoc, append-nil, pow-suc, add-one, arith, length-append, drop_of_length-le}
+use Rattle.std.proofs.Common.{length-take-le, drop-cons, take-suc, take-suc-set, le-ltb, lt-ltb, leb-false}
+use Rattle.std.proofs.Common.{leb-true}
 use native.Mathlib.Nat.{one-le-pow, pow-le-pow_right}
 use Rattle.io.specs.Counts.{IsPrefixLen}
 use Rattle.io.specs.Digits.{hex_digit_ascii, last_digits, IsDigitCount}
@@ -100,7 +104,8 @@ count_all xs i n l h = omega (arith, rw (drop_of_length-le xs l) at h)
 pub field_end : {a b : List ℕ} {i j : ℕ} (n : ℕ) → Put a i (field n) b j → j ≤ i + 21
 field_end n p = omega (arith, p.next, few 20 n)
 
-pub field_text : (n k : ℕ) {xs : List ℕ} → n < 2 ^ 64 → IsDigitCount 10 1 n k → xs ≡ last_digits 10 k n → 32 ∷ xs ≡ field n
+pub field_text : (n k : ℕ) {xs : List ℕ} → n < 2 ^ 64 → IsDigitCount 10 1 n k → xs ≡ last_digits 10 k n → 32 ∷ xs ≡
+    field n
 field_text n k s h e = ap (λ (t : List ℕ). 32 ∷ t) (e ∙ spelled 20 k n h (twenty n k s h))
 
 pub last_text : (wel : Bool) (writes : ℕ) (array : List ℕ) {f n : ℕ} → f ≡ flag wel → n ≡ count_programmed array

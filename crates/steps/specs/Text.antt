@@ -1,5 +1,6 @@
 -- What is printed, as bytes.
-use Rattle.std.specs.Prelude.{◌≡◌, ℕ, zero, suc, ◌+◌, ◌/◌, ◌%◌, Bool, true, false, List, [], ◌∷◌, ◌++◌, length, take, ◌==◌, nat_lt}
+use Rattle.std.specs.Prelude.{◌≡◌, ℕ, zero, suc, ◌+◌, ◌/◌, ◌%◌, Bool, true, false, List, [], ◌∷◌, ◌++◌, length}
+use Rattle.std.specs.Prelude.{take, ◌==◌, nat_lt}
 use Rattle.io.specs.Digits.{hex_digit_ascii}
 use Rattle.flash.specs.Pick.{pick}
 use Rattle.steps.specs.declared.Output.{Output}
@@ -8,7 +9,8 @@ use Rattle.steps.specs.declared.Output.TheVariants.{Nothing, Answer, Bad}
 -- the decimal digits of a number that has at most k
 unfoldable pub decimal_in : ℕ → ℕ → List ℕ
 decimal_in zero n = []
-decimal_in (suc k) n = pick (nat_lt n 10) (hex_digit_ascii n ∷ []) (decimal_in k (n / 10) ++ (hex_digit_ascii (n % 10) ∷ []))
+decimal_in (suc k) n = pick (nat_lt n 10) (hex_digit_ascii n ∷ [])
+    (decimal_in k (n / 10) ++ (hex_digit_ascii (n % 10) ∷ []))
 
 -- a u64 has at most 20
 abbrev pub decimal : ℕ → List ℕ

@@ -1,4 +1,4 @@
-// The session with a partner on two descriptors.
+// The session with a partner, which a reader and a writer stand for.
 ghost use Rattle.std.specs.Prelude.{◌≡◌, ◌+◌, ◌*◌, ◌≤◌, length, take};
 ghost use Rattle.io.specs.Counts.{IsPrefixLen};
 ghost use Rattle.steps.specs.Machine.{world, printed, after_bytes, finished, closed, erased_array, new_session};
@@ -8,6 +8,7 @@ ghost use Rattle.steps.specs.Machine.{RunEnd};
 use crate::text::{last_line, spell};
 use crate::{Line, Session, feed, finish};
 use flash::{Chip, Mode};
+use std::io::{Read, Write};
 
 // The session after some bytes, and where their answers end in the lent slice.
 #[derive(Drop)]
@@ -53,9 +54,9 @@ fn turn(
 // Takes what is there, with one read, and writes every answer to it before the next read: a partner that waits for an
 // answer has it. A read that fails is the end of the input, since a bad line alone ends a session without its last
 // line. What 4,096 bytes can say fits into `out`.
-fn listen(
-    input: i32,
-    output: i32,
+fn listen<R: Read, W: Write>(
+    input: &mut R,
+    output: &mut W,
     session: Session,
     page: &mut [u8; 256],
     array: &mut [u8],
@@ -63,21 +64,20 @@ fn listen(
     ensures { Reaches (world session page.old array.old)
         (world result.session page.new array.new) }
 {
-    let mut chunk = io::buffer();
+    let mut chunk = [0u8; 4096];
     let mut out = [0u8; 12352];
-    let got = libc::read(input, &mut chunk);
-    if got <= 0 {
+    let n = input.read(&mut chunk).unwrap_or(0);
+    if n == 0 {
         return Round {
             session,
             more: false,
             lost: false,
         };
     }
-    let n = io::count(got, &chunk);
     let turned = turn(session, page, array, &chunk[..n], &mut out);
     let put = turned.put;
     let s = turned.session;
-    let written = io::write_all(output, &out[..put]);
+    let written = output.write_all(&out[..put]).is_ok();
     Round {
         session: s,
         more: written & !s.over,
@@ -86,9 +86,9 @@ fn listen(
 }
 
 // Nothing says that the input ends, so the turns are counted down from a number that no run uses up.
-fn converse(
-    input: i32,
-    output: i32,
+fn converse<R: Read, W: Write>(
+    input: &mut R,
+    output: &mut W,
     session: Session,
     page: &mut [u8; 256],
     array: &mut [u8],
@@ -139,8 +139,8 @@ fn close(session: Session, page: &mut [u8; 256], array: &mut [u8], out: &mut [u8
 }
 
 fn erase() -> [u8; 65536]
-    ensures value { result ≡ erased_array }
-    ensures value_2 { 65536 ≡ length result }
+    ensures array { result ≡ erased_array }
+    ensures size { 65536 ≡ length result }
 {
     [0xFF; 65536]
 }
@@ -160,7 +160,7 @@ fn begin(chip: Chip) -> Session
 // so this one says that the answer is where a run on some input ends; what a run prints is `whole_run` of
 // specs/Machine.antt, and `prints` of specs/Lines.antt says the same by lines. Once a write fails nothing more is
 // written.
-pub fn serve(mode: Mode, input: i32, output: i32) -> Session
+pub fn serve<R: Read, W: Write>(mode: Mode, input: &mut R, output: &mut W) -> Session
     ensures { RunEnd mode result }
 {
     let mut page = [0u8; 256];
@@ -172,7 +172,7 @@ pub fn serve(mode: Mode, input: i32, output: i32) -> Session
     let last = close(s, &mut page, &mut array, &mut out);
     let put = last.put;
     if !talked.lost {
-        io::write_all(output, &out[..put]);
+        let _ = output.write_all(&out[..put]);
     }
     last.session
 }

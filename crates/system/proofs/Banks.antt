@@ -34,7 +34,8 @@ use Rattle.state.specs.declared.Clocks.{Clocks}
 use Rattle.state.specs.declared.Devices.{Devices}
 use Rattle.state.specs.declared.Parts.{Parts}
 use Rattle.state.specs.Parts.{devices_of, parts}
-use Rattle.state.specs.Bank.{mode_in, maybe_in, chip_in, panel_in, times_in, timer_in, irq_in, latch_in, tone_in, ring_in, keys_in}
+use Rattle.state.specs.Bank.{mode_in, maybe_in, chip_in, panel_in, times_in, timer_in, irq_in, latch_in, tone_in}
+use Rattle.state.specs.Bank.{ring_in, keys_in}
 use Rattle.state.specs.Packed.{mode_number, maybe_number, chip_cells, panel_cells, clock_cells, key_cells, times_floats}
 use Rattle.state.specs.Packed.{cells_of, floats_of, Packed}
 use Rattle.time.specs.Clocks.{clock_in, fresh_clocks}
@@ -207,7 +208,8 @@ parts_fresh e h i j k l = rw (e, h, i, j, k, l)
 
 -- a bank is packed from the first reset on
 pub fresh_packed : Packed (cells_of fresh_parts) (floats_of fresh_parts)
-unfolding fresh_devices fresh_clocks fresh_rtc mode_in maybe_in mode_number maybe_number chip_in panel_in times_in timer_in irq_in
+unfolding fresh_devices fresh_clocks fresh_rtc mode_in maybe_in mode_number maybe_number chip_in panel_in times_in
+    timer_in irq_in
     latch_in tone_in ring_in keys_in chip_cells panel_cells clock_cells key_cells times_floats cells_of floats_of
 fresh_packed = record { cells = refl; floats = refl }
 

@@ -17,7 +17,8 @@ use Rattle.system.specs.Normal.{system_normal, normal}
 use Rattle.system.specs.Carried.{board_in, screen_in, Kind, writes, lays, wipes, other, kind_of}
 
 -- a turbo that is taken, or refused
-by_pace : (m : Machine) (P : Machine → Type 0) → ((x : Machine) → board_in x ≡ board_in m → screen_in x ≡ screen_in m → P x)
+by_pace : (m : Machine) (P : Machine → Type 0) → ((x : Machine) → board_in x ≡ board_in m → screen_in x ≡ screen_in
+    m → P x)
     → (p : Paced) → P (with_system m (pacing m.system p).system)
 by_pace m P f (By t) = f (with_system m (with_times m.system t)) refl refl
 by_pace m P f BadTurbo = f m refl refl

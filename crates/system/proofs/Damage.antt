@@ -111,7 +111,8 @@ module _ (m : Machine) (os : List Op) (xs : List Step) (c : Carries m os xs) whe
   carried_heard : flash_answers m os ≡ rxs (board_in m) xs
   carried_heard = flash_heard os m c.apart ∙ ap (rxs (board_in m)) c.steps
 
-unmarked : (m n : Machine) (w : Board) (xs ys : List Step) → board_in m ≡ after_steps w xs → board_in n ≡ after_steps w ys
+unmarked : (m n : Machine) (w : Board) (xs ys : List Step) → board_in m ≡ after_steps w xs → board_in n ≡
+    after_steps w ys
     → Forgets (after_steps w xs) (after_steps w ys) → Unmarked m n
 unmarked m n w xs ys p q f =
     record {

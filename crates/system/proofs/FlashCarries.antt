@@ -72,7 +72,8 @@ flash_port w full word old new part =
     (λ x e. rw e
     (ap (λ (c : Chip). board c w.page (array_in w.ram)) (word_alone w.registers.slots w.devices
     (clock_in w.sram) full x word old new part).0))
-    (λ p e s. rw e (by_stores (λ (q : Port). board_on w ≡ after_steps (board_on w) (flash_at q new)) (λ v. refl) refl refl
+    (λ p e s. rw e (by_stores (λ (q : Port). board_on w ≡ after_steps (board_on w) (flash_at q new)) (λ v. refl)
+    refl refl
     p s))
 
 flash_write : (m : Machine) (full : Bool) (a n v : ℕ) → Past (place_of a)

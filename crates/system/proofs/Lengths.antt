@@ -1,5 +1,5 @@
 -- No operation changes the length of a memory.
-use Prim.Native.Nat.{ℕ, zero, suc, ◌+◌, ◌%◌, ◌^◌}
+use Prim.Native.Nat.{ℕ, ◌+◌, ◌%◌, ◌^◌}
 use mathlib.Core.Path.{◌≡◌, refl, sym, ap, ◌∙◌}
 use mathlib.Core.Bool.{Bool, true, false, cond}
 use mathlib.Core.List.{List, [], ◌∷◌, ◌++◌}
@@ -37,7 +37,7 @@ use Rattle.time.specs.Advance as move
 use Rattle.bus.specs.World.{Out}
 use Rattle.bus.specs.Chip.{board_of, selected_over, sent_over, select_written, send_written}
 use Rattle.block.proofs.Table.{table_long}
-use Rattle.block.specs.Block.{Plain, plain, poked_at, poked_of, laid_from, laid_of, table, block_of}
+use Rattle.block.specs.Block.{Plain, plain, poked_at, poked_of, laid_from, laid_of, block_of}
 use Rattle.bus.specs.Screen.{Copied, copied, fed_word, dma_done, act_result, controlled}
 use Rattle.bus.specs.Write.{stored_word, word_address, reg_written}
 use Rattle.time.specs.Clocks.{clock_in}

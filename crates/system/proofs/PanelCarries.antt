@@ -89,7 +89,8 @@ panel_port m full word old new part =
     (λ p e s. rw e (by_stores (λ (q : Port). screen_in m ≡ later (screen_in m) (panel_at q m new)) (λ v. refl) refl refl
     p s))
 
-pub panel_write : (m : Machine) (full : Bool) (a n v : ℕ) → screen_on (bus.write_of (world_in m) full a n v).world ≡ later
+pub panel_write : (m : Machine) (full : Bool) (a n v : ℕ) → screen_on (bus.write_of (world_in m) full a n v).world ≡
+    later
     (screen_in m) (panel_by m (writes a n v))
 unfolding lands reg_written later
 panel_write m full a n v =

@@ -124,7 +124,8 @@ same_is true false h = sym h
 same_is false true h = h
 same_is false false h = refl
 
-all_followed : every (λ s. same (sound_word (slot_word s)) (on_effect followed_by (port_at s) (timer_of (slot_word s)))) 76 ≡
+all_followed : every (λ s. same (sound_word (slot_word s)) (on_effect followed_by (port_at s)
+    (timer_of (slot_word s)))) 76 ≡
     true
 unfolding port_at own_words words_from named_words named_rows
 all_followed = refl
@@ -142,10 +143,12 @@ module _ (t : ℕ → Bool) (f : Effect → ℕ → Bool)
   by_effect word =
       by_slot word
       (λ less. let w : slot_word (slot_of word) ≡ word = slot_hit word less in
-      let e = same_is _ _ (at_each (λ s. same (t (slot_word s)) (on_effect f (port_at s) (timer_of (slot_word s)))) 76 each
+      let e = same_is _ _ (at_each (λ s. same (t (slot_word s)) (on_effect f (port_at s) (timer_of (slot_word s))))
+      76 each
       (slot_of word) less) in
       subst (λ (a : ℕ). t a ≡ on_effect f (port_of a) (timer_of a)) w
-      (e ∙ ap (λ (p : Port). on_effect f p (timer_of (slot_word (slot_of word)))) (sym (port_slot (slot_of word) less))))
+      (e ∙ ap (λ (p : Port). on_effect f p (timer_of (slot_word (slot_of word))))
+      (sym (port_slot (slot_of word) less))))
       (λ none. outside word none ∙ sym (ap (λ (p : Port). on_effect f p (timer_of word)) (port_none word none) ∙ field
       (day_word word)))
     where

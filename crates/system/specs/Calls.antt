@@ -122,4 +122,5 @@ counters_of s = record {
 
 -- of memories of these lengths
 unfoldable pub wiped_of : ℕ → ℕ → ℕ → ℕ → Machine
-wiped_of ram sram gpio fb = machine fresh_system (replicate ram 0) (replicate sram 0) (replicate gpio 0) (replicate fb 0)
+wiped_of ram sram gpio fb = machine fresh_system (replicate ram 0) (replicate sram 0) (replicate gpio 0)
+    (replicate fb 0)

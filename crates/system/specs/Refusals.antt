@@ -101,7 +101,8 @@ abbrev pub then_at : List ℕ → ℕ → ℕ → ℕ → ℕ
 then_at slots word new w = cond (eqb word w) (stored_of word new) (own_at slots w)
 
 abbrev pub tone_then : List ℕ → ℕ → ℕ → ℕ → Tone
-tone_then slots clock word new = tone_of clock (then_at slots word new SOUND_CONTROL) (then_at slots word new SOUND_RELOAD)
+tone_then slots clock word new = tone_of clock (then_at slots word new SOUND_CONTROL)
+    (then_at slots word new SOUND_RELOAD)
     (then_at slots word new SOUND_COMPARE)
 
 -- a write adds an event where the tone that timer 4's words then give is another

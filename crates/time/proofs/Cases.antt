@@ -1,5 +1,5 @@
 -- The branches of the definitions, as the functions meet them.
-use Rattle.std.proofs.Common.{◌≡◌, ℕ, Bool, true, false, ◌||◌, List, get_or, refl}
+use Rattle.std.proofs.Common.{◌≡◌, ℕ, Bool, true, false, ◌||◌, List, get_or}
 use mathlib.Core.Bool.{and-false}
 use lib.Ieee.{Float, binary64, of_bits}
 use Rattle.map.specs.Numbers.{DONE, NO_NEXT_TIME}
@@ -58,7 +58,8 @@ module _ (slots : List ℕ) (starts : List Float) (c : Clocks) (k : Keys) (clock
     unfolding event_of
     event_pends e y = let g = rw (f, w) at h in rw (g, ← q, y, e)
 
-    pub event_ahead : {r : Float} → p ≡ false → r ≡ earliest slots starts c k clock → r ≡ event_of slots starts c k clock
+    pub event_ahead : {r : Float} → p ≡ false → r ≡ earliest slots starts c k clock → r ≡ event_of slots starts c k
+        clock
     unfolding event_of
     event_ahead y e = let g = rw (f, w) at h in rw (g, ← q, y) e
 

@@ -1,5 +1,6 @@
 -- Time over the bank.
-use Rattle.std.proofs.Common.{◌≡◌, ℕ, zero, suc, ◌+◌, ◌<◌, Bool, true, false, cond, not, ltb, List, [], ◌∷◌, get_or, set, sym, refl, ap, ◌∙◌, arith, ltb-true, lt-ltb, eq-eqb}
+use Rattle.std.proofs.Common.{◌≡◌, ℕ, zero, suc, ◌+◌, ◌<◌, Bool, true, false, cond, not, ltb, List, [], ◌∷◌, get_or}
+use Rattle.std.proofs.Common.{set, sym, refl, ap, ◌∙◌, arith, ltb-true, lt-ltb, eq-eqb}
 use mathlib.Core.Bool.{false≢true}
 use lib.Bits.{bit_and, bit_or}
 use lib.Ieee.{Float, nan}
@@ -179,7 +180,12 @@ module _ (slots : List ℕ) (x : Parts) where
   unfolding converted_of
   adc_stays {on = true} c h = absurd (false≢true h)
   adc_stays {on = false} c h =
-      let adc : Adc = record { converting = false; control = own_at slots ADC_CONTROL; result = own_at slots ADC_RESULT }
+      let adc : Adc = record {
+        converting = false;
+        control = own_at slots ADC_CONTROL;
+        result = own_at slots
+            ADC_RESULT;
+      }
       in
       adc_went {adc = adc} refl refl c refl
       (own_same slots ADC_RESULT refl) (own_same slots ADC_CONTROL refl) (ap (λ (b : Bool). converting_put x b) (sym c))
@@ -214,7 +220,8 @@ devices_went slots x clock t {o₁} {o₂} {o₃} {x₁} {x₂} {x₃} {x₄} {x
     let d₁ : x₄ ≡ irq_put x₃ (ticked_in o₂ x₃.devices.clocks.irq t.game).irq = ap (λ (z : Went). z.parts) d in
     rw (e, d₁, d₀, c₁, c₀, b₁, b₀, a)
 
-moved_to_lem : (slots gpio : List ℕ) (starts : List Float) (codes : List ℕ) (c : Clocks) (k : Keys) (clock : ℕ) (t : Times)
+moved_to_lem : (slots gpio : List ℕ) (starts : List Float) (codes : List ℕ) (c : Clocks) (k : Keys) (clock : ℕ)
+    (t : Times)
     (slots₁ gpio₁ : List ℕ) (clocks : Clocks) (held : Held) (applied : ℕ)
     → move.devices slots₁ clocks ≡ devices_of slots c clock t
     → held ≡ held_of starts codes k t.now

@@ -41,7 +41,8 @@ first_of mask rtc timer lcd adc =
     (cond (lcd && unmasked mask LCD_IRQ) LCD_IRQ (cond (adc && unmasked mask ADC_IRQ) ADC_IRQ 0)))
 
 unfoldable pub pending_of : List ℕ → List Timer → ℕ
-pending_of slots ts = first_of (own_at slots INTC_MASK) (rtc_line slots) (timer_line ts) (lcd_line slots) (adc_line slots)
+pending_of slots ts = first_of (own_at slots INTC_MASK) (rtc_line slots) (timer_line ts) (lcd_line slots)
+    (adc_line slots)
 
 unfoldable pub wanted_of : List ℕ → List Timer → Bool
 wanted_of slots ts = lacks (own_at slots INTC_DISABLE) 1 && not (pending_of slots ts == 0)

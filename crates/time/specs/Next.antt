@@ -1,5 +1,6 @@
 -- The next event: next_event. Every f64 operation stands in the Rust's order; a literal is given by its bits.
-use Rattle.std.specs.Prelude.{ℕ, ◌+◌, ◌%◌, ◌^◌, Bool, cond, ◌&&◌, ◌||◌, List, pos, ◌==◌, bit_and, from_bits, slice_index_or, Float}
+use Rattle.std.specs.Prelude.{ℕ, ◌+◌, ◌%◌, ◌^◌, Bool, cond, ◌&&◌, ◌||◌, List, pos, ◌==◌, bit_and, from_bits}
+use Rattle.std.specs.Prelude.{slice_index_or, Float}
 use Rattle.std.specs.Float.{binary64}
 use Rattle.std.specs.Float.Ieee.{of_int, add, sub, mul, div, le}
 use Rattle.state.specs.Each.{any_of, through}

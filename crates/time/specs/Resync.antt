@@ -10,7 +10,8 @@ use Rattle.time.specs.Clocks.{control_word, reload_word}
 
 unfoldable pub timers_resynced : List ℕ → List Timer → Float → ℕ → List Timer
 timers_resynced slots ts now clock =
-    list_of (λ n. resynced_of (slice_index_or ts n none) now clock (control_word slots n) (reload_word slots n)) 0 TIMER_COUNT
+    list_of (λ n. resynced_of (slice_index_or ts n none) now clock (control_word slots n) (reload_word slots n)) 0
+    TIMER_COUNT
 
 -- by the words and the system clock's
 unfoldable pub clocks_resynced : List ℕ → Clocks → ℕ → Clocks

@@ -44,7 +44,8 @@ pub cleared_stays : (ring : Ring) (n j : ℕ) (l : List Float) → n ≤ j → j
 unfolding cleared
 cleared_stays ring zero j l least small = refl
 cleared_stays ring (suc n) j l least small =
-    get_or-set_other (cleared ring n l) (place_of ring n) (place_of ring j) nought nan (place_apart ring n j least small)
+    get_or-set_other (cleared ring n l) (place_of ring n) (place_of ring j) nought nan
+    (place_apart ring n j least small)
     ∙ cleared_stays ring n j l (omega arith) small
 
 cleared_goes_at : (ring : Ring) (n j : ℕ) (l : List Float) → length l ≡ 256 → j < suc n

@@ -28,7 +28,8 @@ clamped x c = by (lt x low) refl (lt high x) refl
     by false h true k = (tt, tt)
     by false h false k = (le_of_not_lt low x tt c h, le_of_not_lt x high c tt k)
 
-pub tone_within : (clock control reload compare : ℕ) → clock < 2 ^ 32 → ToneWithin (tone_of clock control reload compare)
+pub tone_within : (clock control reload compare : ℕ) → clock < 2 ^ 32 → ToneWithin
+    (tone_of clock control reload compare)
 unfolding tone_of
 tone_within clock control reload compare h = by (has control 0x2000)
   where

@@ -1,5 +1,6 @@
 -- Sound events that wait, oldest first: a list; and how 256 places in a ring hold it.
-use Rattle.std.specs.Prelude.{Bool, cond, List, [], ◌∷◌, ℕ, zero, suc, ◌+◌, ◌-◌, ◌%◌, leb, ltb, eqb, Float, length, get_or, set, replicate}
+use Rattle.std.specs.Prelude.{Bool, cond, List, [], ◌∷◌, ℕ, zero, suc, ◌+◌, ◌-◌, ◌%◌, leb, ltb, eqb, Float, length}
+use Rattle.std.specs.Prelude.{get_or, set, replicate}
 use Rattle.std.specs.Float.{nan}
 use Rattle.map.specs.Numbers.{DONE, SOUND_FULL, NO_EVENT}
 use Rattle.whole.specs.Forms.{nought}

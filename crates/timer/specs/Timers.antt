@@ -32,7 +32,8 @@ ticks start now rate = mul binary64 (sub binary64 now start) rate
 
 -- cut where they are above 0.0
 unfoldable pub elapsed_of : Float → Float → Float → ℕ
-elapsed_of start now rate = cond (lt (of_bits binary64 0) (ticks start now rate)) (to_unsigned 64 (ticks start now rate)) 0
+elapsed_of start now rate = cond (lt (of_bits binary64 0) (ticks start now rate))
+    (to_unsigned 64 (ticks start now rate)) 0
 
 -- bit 13 runs the timer
 unfoldable pub counter_of : Timer → Float → ℕ → ℕ → ℕ → ℕ → ℕ

@@ -1,6 +1,10 @@
 -- The number that a binary64 bit pattern with a clear sign stands for, in units of 2 ^ -1074; that a larger pattern
 -- stands for a larger number; and what the other patterns stand for.
-use Rattle.std.proofs.Common.{◌≡◌, ℕ, zero, suc, ◌+◌, ◌-◌, ◌*◌, ◌/◌, ◌%◌, ◌^◌, ◌<◌, ◌≤◌, Bool, true, false, cond, not, T, eqb, ltb, leb, ◌⊎◌, ℤ, pos, sym, refl, ap, ◌∙◌, subst, inl, inr, true≢false, zero-le, le_trans, le_of_eq, lt_of_lt_of_le, mul-le-mul_right, mod-eq_of_lt, eq-or-lt_of_le, mul-lt-mul_of_pos_right, not-le_of_lt, arith, lit≤, le→leb, eqb→eq, ltb→lt, leb→le, nltb→le, pow_pos, pow_mono, pow-add}
+use Rattle.std.proofs.Common.{◌≡◌, ℕ, zero, suc, ◌+◌, ◌-◌, ◌*◌, ◌/◌, ◌%◌, ◌^◌, ◌<◌, ◌≤◌, Bool, true, false, cond}
+use Rattle.std.proofs.Common.{not, T, eqb, leb, ◌⊎◌, ℤ, pos, sym, refl, ap, ◌∙◌, subst, inl, inr, true≢false}
+use Rattle.std.proofs.Common.{zero-le, le_trans, le_of_eq, lt_of_lt_of_le, mul-le-mul_right, mod-eq_of_lt}
+use Rattle.std.proofs.Common.{eq-or-lt_of_le, mul-lt-mul_of_pos_right, not-le_of_lt, arith, lit≤, le→leb, eqb→eq}
+use Rattle.std.proofs.Common.{leb→le, pow_pos, pow_mono, pow-add}
 use lib.Dec.{not_T}
 use lib.Count.{count_trailing_zeros}
 use lib.Ieee.{minus, Float, nan, inf, fin, binary64, odd, of_fields, of_bits, to_bits, fits, ne, is_nan}
@@ -149,7 +153,8 @@ signed b h = of_bits_is b ∙ ap (λ (s : Bool). of_fields binary64 s (b % 2 ^ 6
 odd_any : (P : Float → Type 0) (s : Bool) → ((m : ℕ) (e : ℤ) → P (fin s m e)) → (d q k l : ℕ) → P (odd d s q k l)
 unfolding odd
 odd_any P s h d zero k l = h zero (pos zero)
-odd_any P s h d (suc q) k l = h (suc q / 2 ^ count_trailing_zeros d (suc q)) (minus (k + count_trailing_zeros d (suc q)) l)
+odd_any P s h d (suc q) k l = h (suc q / 2 ^ count_trailing_zeros d (suc q))
+    (minus (k + count_trailing_zeros d (suc q)) l)
 
 top_or : (P : Float → Type 0) (p q s : Bool) (x : Float) → P nan → P (inf s) → P x → P (cond p (cond q (inf s) nan) x)
 top_or P true true s x n i h = i

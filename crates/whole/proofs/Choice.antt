@@ -1,5 +1,6 @@
 -- A proof by cases on a test, and what a test that passed says.
-use Rattle.std.proofs.Common.{◌≡◌, ℕ, ◌<◌, ◌≤◌, Bool, true, false, cond, not, ◌&&◌, ◌||◌, eqb, ltb, ◌≢◌, ◌⊎◌, sym, refl, ap, inl, inr, true≢false, ltb-false, ltb-true, eqb-true}
+use Rattle.std.proofs.Common.{◌≡◌, ℕ, ◌<◌, ◌≤◌, Bool, true, false, cond, not, ◌&&◌, ◌||◌, eqb, ltb, ◌≢◌, ◌⊎◌, sym}
+use Rattle.std.proofs.Common.{refl, ap, inl, inr, true≢false, ltb-false, ltb-true, eqb-true}
 use borrow.Author.Tests.{eqb-false}
 
 module _ {A : Type 0} where

@@ -1,6 +1,7 @@
 -- Floats that are finite with a clear sign, m * 2 ^ e: what holds for each m and e holds of them all; and their order
 -- is that of the fractions m * up e / down e.
-use Rattle.std.proofs.Common.{ℕ, ◌*◌, ◌≤◌, Bool, true, false, ◌&&◌, ◌||◌, T, eqb, ltb, ◌⊎◌, ℤ, inl, inr, le_of_eq, le_of_lt, eqb→eq, ltb→lt}
+use Rattle.std.proofs.Common.{ℕ, ◌*◌, ◌≤◌, Bool, true, false, ◌&&◌, ◌||◌, T, eqb, ltb, ◌⊎◌, ℤ, inl, inr, le_of_eq}
+use Rattle.std.proofs.Common.{le_of_lt, eqb→eq, ltb→lt}
 use lib.Ieee.{Float, nan, inf, fin, up, down, lt, eq, le}
 use lib.Ieee.Fits.{and_l}
 use Rattle.whole.specs.Bounds.{Clear, AtMost, AtLeast}

@@ -1,9 +1,14 @@
 -- Whole parts: what each range of patterns is cut to, and what holds of what is cut.
-use Rattle.std.proofs.Common.{◌≡◌, ℕ, zero, suc, ◌+◌, ◌-◌, ◌*◌, ◌/◌, ◌%◌, ◌^◌, ◌<◌, ◌≤◌, min, Bool, true, false, cond, not, T, ltb, ℤ, pos, neg_ℤ, sym, refl, ap, ◌∙◌, subst, inl, inr, true≢false, le_trans, le_of_eq, lt_of_le_of_lt, le_of_lt, mod-eq_of_lt, mul_assoc, suc-mul, div-lt_iff_lt-mul, add_comm, mul-lt-mul_of_pos_right, le-div_iff_mul-le, div-mul-le_self, mul-div_cancel, arith, pow_pos, pow-add, ltb-false, le-ltb}
+use Rattle.std.proofs.Common.{◌≡◌, ℕ, zero, suc, ◌+◌, ◌-◌, ◌*◌, ◌/◌, ◌%◌, ◌^◌, ◌<◌, ◌≤◌, min, Bool, true, false}
+use Rattle.std.proofs.Common.{cond, not, T, ltb, ℤ, pos, neg_ℤ, sym, refl, ap, ◌∙◌, subst, inl, inr, true≢false}
+use Rattle.std.proofs.Common.{le_trans, le_of_eq, lt_of_le_of_lt, le_of_lt, mod-eq_of_lt, mul_assoc, suc-mul}
+use Rattle.std.proofs.Common.{div-lt_iff_lt-mul, add_comm, mul-lt-mul_of_pos_right, le-div_iff_mul-le}
+use Rattle.std.proofs.Common.{div-mul-le_self, mul-div_cancel, arith, pow_pos, pow-add, ltb-false, le-ltb}
 use native.Mathlib.Nat.{div-eq_of_lt, lt-div-mul-add}
 use native.Mathlib.Nat.{mul-div-mul_right, zero-div}
 use lib.Pow.{pow-lt}
-use lib.Ieee.{Float, nan, inf, fin, binary64, up, down, of_bits, to_bits, fits, ne, to_unsigned, is_nan, neg, to_signed, lt}
+use lib.Ieee.{Float, nan, inf, fin, binary64, up, down, of_bits, to_bits, fits, ne, to_unsigned, is_nan, neg}
+use lib.Ieee.{to_signed, lt}
 use lib.Ieee.Compare.{differs_from_itself}
 use lib.Ieee.Fits.{down_pos}
 use lib.Ieee.Exact.{HasValue}
@@ -127,7 +132,8 @@ scaled_up b lo hi =
     parts : (E : ℕ) → 1075 < E → E - 1 ≡ E - 1075 + 1074
     parts E lo = omega arith
 
-pub cut_by_bits : (x : Float) (n : ℕ) → fits binary64 x ≡ true → to_unsigned 64 (of_bits binary64 (to_bits binary64 x)) ≡
+pub cut_by_bits : (x : Float) (n : ℕ) → fits binary64 x ≡ true → to_unsigned 64
+    (of_bits binary64 (to_bits binary64 x)) ≡
     n → Cut x n
 cut_by_bits x n f h = cut_of x n (sym h ∙ ap (to_unsigned 64) (bits_back x f))
 

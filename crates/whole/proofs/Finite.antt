@@ -1,5 +1,7 @@
 -- Which patterns are finite floats, and which are no number's; a float's bits, and back.
-use Rattle.std.proofs.Common.{◌≡◌, ℕ, zero, suc, ◌+◌, ◌/◌, ◌%◌, ◌^◌, ◌<◌, ◌≤◌, Bool, true, false, cond, not, T, eqb, ltb, leb, sym, refl, ap, ◌∙◌, subst, true≢false, arith, ltb-false, ltb-true, le-ltb, lt-ltb, eq-eqb, ne_eqb}
+use Rattle.std.proofs.Common.{◌≡◌, ℕ, zero, suc, ◌+◌, ◌/◌, ◌%◌, ◌^◌, ◌<◌, ◌≤◌, Bool, true, false, cond, not, T, eqb}
+use Rattle.std.proofs.Common.{ltb, leb, sym, refl, ap, ◌∙◌, subst, true≢false, arith, ltb-false, ltb-true, le-ltb}
+use Rattle.std.proofs.Common.{lt-ltb, eq-eqb, ne_eqb}
 use lib.Ieee.{Float, nan, inf, fin, binary64, of_bits, fits, is_nan, nan_bits, ne, div}
 use lib.Ieee.{odd, of_fields, prec, low, hid, top}
 use lib.Ieee.Bits.{of_bits-to_bits, to_bits-lt, to_bits-of_bits, nan_bits_is, nan_bits_above}

@@ -1,5 +1,8 @@
 -- Whether a float is a good time or turbo is decided on its pattern by comparing whole numbers.
-use Rattle.std.proofs.Common.{◌≡◌, ℕ, ◌*◌, ◌^◌, ◌<◌, ◌≤◌, Bool, true, false, not, ◌&&◌, T, leb, sym, refl, ap, ◌∙◌, subst, inl, inr, true≢false, le_trans, le_of_eq, mul-le-mul_right, mul_comm, mul-lt-mul_of_pos_right, lt_of_not-le, mul_right_comm, not-le_of_lt, le_of_mul-le-mul_right, arith, lit<, pow_pos, le-leb}
+use Rattle.std.proofs.Common.{◌≡◌, ℕ, ◌*◌, ◌^◌, ◌<◌, ◌≤◌, Bool, true, false, not, ◌&&◌, T, leb, sym, refl, ap, ◌∙◌}
+use Rattle.std.proofs.Common.{subst, inl, inr, true≢false, le_trans, le_of_eq, mul-le-mul_right, mul_comm}
+use Rattle.std.proofs.Common.{mul-lt-mul_of_pos_right, lt_of_not-le, mul_right_comm, not-le_of_lt}
+use Rattle.std.proofs.Common.{le_of_mul-le-mul_right, arith, lit<, pow_pos, le-leb}
 use lib.Ieee.{Float, nan, inf, fin, binary64, up, down, of_bits, nan_bits, is_nan}
 use lib.Ieee.Bits.{nan_bits_is}
 use lib.Ieee.Fits.{down_pos}
@@ -78,7 +81,8 @@ pub game_bits : (b : ℕ) → leb b 0x41E0_0000_0000_0000 ≡ good_game (of_bits
 game_bits b = up_to_bits 2147483648 0x41E0_0000_0000_0000 b (lit< tt) refl
 
 -- 0x3F50_0000_0000_0000 is the pattern of 1 / 1024, and 0x4090_0000_0000_0000 that of 1024.0
-pub turbo_bits : (b : ℕ) → (leb 0x3F50_0000_0000_0000 b && leb b 0x4090_0000_0000_0000) ≡ good_turbo (of_bits binary64 b)
+pub turbo_bits : (b : ℕ) → (leb 0x3F50_0000_0000_0000 b && leb b 0x4090_0000_0000_0000) ≡ good_turbo
+    (of_bits binary64 b)
 turbo_bits b = elim (lt_or_ge 0x4090_0000_0000_0000 b) [
   | inl h ↦ last (leb 0x3F50_0000_0000_0000 b) (down_to 1024 (of_bits binary64 b)) (lt-leb b 0x4090_0000_0000_0000 h)
   | inr h ↦ ap (λ (t : Bool). t && leb b 0x4090_0000_0000_0000) (down_to_bits 1024 0x3F50_0000_0000_0000 b (lit< tt)

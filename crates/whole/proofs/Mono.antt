@@ -1,6 +1,9 @@
 -- Monotony: of two floats that are finite with clear signs the larger has the larger sum, difference, product,
 -- quotient and whole part.
-use Rattle.std.proofs.Common.{◌≡◌, ℕ, ◌+◌, ◌-◌, ◌*◌, ◌/◌, ◌^◌, ◌<◌, ◌≤◌, min, false, T, ℤ, sym, ap, ◌∙◌, subst, le_trans, le_of_eq, le_refl, add-le-add, mul-le-mul_right, mul_assoc, mul_comm, add-mul, mul-le-mul, mul-pos, le-div_iff_mul-le, mul_right_comm, div-mul-le_self, le_of_mul-le-mul_right, mul_left_comm, arith}
+use Rattle.std.proofs.Common.{◌≡◌, ℕ, ◌+◌, ◌-◌, ◌*◌, ◌/◌, ◌^◌, ◌<◌, ◌≤◌, min, false, T, ℤ, sym, ap, ◌∙◌, subst}
+use Rattle.std.proofs.Common.{le_trans, le_of_eq, le_refl, add-le-add, mul-le-mul_right, mul_assoc, mul_comm}
+use Rattle.std.proofs.Common.{add-mul, mul-le-mul, mul-pos, le-div_iff_mul-le, mul_right_comm, div-mul-le_self}
+use Rattle.std.proofs.Common.{le_of_mul-le-mul_right, mul_left_comm, arith}
 use native.Mathlib.Nat.{mul-mul-mul_comm}
 use native.Mathlib.Nat.{mul-sub}
 use lib.Ieee.{Float, fin, binary64, up, down, round, add, sub, mul, div, le, to_unsigned}

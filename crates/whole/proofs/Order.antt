@@ -1,6 +1,10 @@
 -- The order of floats. A value that the format holds is its own rounding, so adding what is not negative makes no
 -- value smaller.
-use Rattle.std.proofs.Common.{◌≡◌, ℕ, zero, suc, ◌+◌, ◌-◌, ◌*◌, ◌%◌, ◌^◌, ◌<◌, ◌≤◌, Bool, true, false, ◌&&◌, T, eqb, ltb, leb, ℤ, pos, negsuc, sym, refl, ap, ◌∙◌, subst, true≢false, le_trans, le_of_eq, lt_of_lt_of_le, le-add_right, lt_of_le_of_lt, mul-le-mul_right, mul_assoc, mul_comm, add_comm, mul-lt-mul_of_pos_right, mul-pos, one-mul, mul-one, not-le_of_lt, arith, lit<, lit≤, eqb→eq, ltb→lt, leb→le, pow_pos, pow_mono, pow-add, shl_lt, ltb-false}
+use Rattle.std.proofs.Common.{◌≡◌, ℕ, zero, suc, ◌+◌, ◌-◌, ◌*◌, ◌%◌, ◌^◌, ◌<◌, ◌≤◌, Bool, true, false, ◌&&◌, T, eqb}
+use Rattle.std.proofs.Common.{ltb, leb, ℤ, pos, negsuc, sym, refl, ap, ◌∙◌, subst, true≢false, le_trans, le_of_eq}
+use Rattle.std.proofs.Common.{lt_of_lt_of_le, le-add_right, lt_of_le_of_lt, mul-le-mul_right, mul_assoc, mul_comm}
+use Rattle.std.proofs.Common.{add_comm, mul-lt-mul_of_pos_right, mul-pos, one-mul, mul-one, not-le_of_lt, arith}
+use Rattle.std.proofs.Common.{lit<, lit≤, eqb→eq, ltb→lt, leb→le, pow_pos, pow_mono, pow-add, shl_lt, ltb-false}
 use lib.Ieee.Positive.{through}
 use lib.Pow.{pow-lt}
 use lib.Ieee.{Float, nan, inf, fin, binary64, of_bits, up, down, round, add, le, lt, fits}

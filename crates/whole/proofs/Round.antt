@@ -1,6 +1,12 @@
 -- Bounds that binary64's operations keep. Every bound is a power of two, which the format holds, so rounding does not
 -- pass it.
-use Rattle.std.proofs.Common.{◌≡◌, ℕ, zero, suc, ◌+◌, ◌-◌, ◌*◌, ◌/◌, ◌^◌, ◌<◌, ◌≤◌, min, Bool, true, false, cond, not, T, eqb, ltb, ℤ, pos, sym, ap, ◌∙◌, subst, true≢false, le_trans, le_of_eq, lt_of_lt_of_le, le_of_suc-le-suc, lt_of_le_of_lt, mul-le-mul_right, mul_assoc, lt-suc_self, mul_comm, div-lt_iff_lt-mul, add-mul, mul-le-mul, mul-le-mul_left, mul-lt-mul_of_pos_right, mul-pos, one-mul, mul-one, mul_right_comm, le_of_mul-le-mul_right, mul_left_comm, sub-le, arith, lit<, lit≤, leb→le, pow_pos, pow-add, le-ltb, ne_eqb}
+use Rattle.std.proofs.Common.{◌≡◌, ℕ, zero, suc, ◌+◌, ◌-◌, ◌*◌, ◌/◌, ◌^◌, ◌<◌, ◌≤◌, min, Bool, true, false, cond}
+use Rattle.std.proofs.Common.{not, T, eqb, ltb, ℤ, pos, sym, ap, ◌∙◌, subst, true≢false, le_trans, le_of_eq}
+use Rattle.std.proofs.Common.{lt_of_lt_of_le, le_of_suc-le-suc, lt_of_le_of_lt, mul-le-mul_right, mul_assoc}
+use Rattle.std.proofs.Common.{lt-suc_self, mul_comm, div-lt_iff_lt-mul, add-mul, mul-le-mul, mul-le-mul_left}
+use Rattle.std.proofs.Common.{mul-lt-mul_of_pos_right, mul-pos, one-mul, mul-one, mul_right_comm}
+use Rattle.std.proofs.Common.{le_of_mul-le-mul_right, mul_left_comm, sub-le, arith, lit<, lit≤, leb→le, pow_pos}
+use Rattle.std.proofs.Common.{pow-add, le-ltb, ne_eqb}
 use native.Mathlib.Nat.{mul-mul-mul_comm}
 use native.Mathlib.Nat.{two-pow-succ}
 use lib.Pow.{pow-lt}

@@ -1,5 +1,7 @@
 -- Laws of lists that are said place by place: what they hold, when a list is one, and a loop that fills one.
-use Rattle.std.proofs.Common.{◌≡◌, ℕ, zero, suc, ◌+◌, ◌<◌, Bool, true, false, ltb, List, [], ◌∷◌, ◌++◌, length, get_or, drop, set, sym, refl, ap, ◌∙◌, subst, append_assoc, add-one, arith, length-append, drop-cons, ext_get_or, ltb-false, ltb-true}
+use Rattle.std.proofs.Common.{◌≡◌, ℕ, zero, suc, ◌+◌, ◌<◌, Bool, true, false, ltb, List, [], ◌∷◌, ◌++◌, length}
+use Rattle.std.proofs.Common.{get_or, drop, set, sym, refl, ap, ◌∙◌, subst, append_assoc, add-one, arith}
+use Rattle.std.proofs.Common.{length-append, drop-cons, ext_get_or, ltb-false, ltb-true}
 use lib.ListN.{get_or-append}
 use lib.Seq.{set_at, get_or_at}
 use Rattle.whole.specs.Rows.{tabled}
@@ -16,7 +18,8 @@ module _ {A : Type 0} (f : ℕ → A) where
   get_or_tabled zero i d below = elim below [ ]
   get_or_tabled (suc n) i d below = by (λ less. get_or_tabled n i d less) (ltb i n) refl
     where
-      by : (i < n → get_or (tabled f n) i d ≡ f i) → (b : Bool) → ltb i n ≡ b → get_or (tabled f n ++ (f n ∷ [])) i d ≡ f i
+      by : (i < n → get_or (tabled f n) i d ≡ f i) → (b : Bool) → ltb i n ≡ b → get_or (tabled f n ++ (f n ∷ [])) i
+          d ≡ f i
       by before true e =
           let less : i < n = ltb-true i n e in
           let inside : i < length (tabled f n) = omega (arith, length_tabled n, less) in

@@ -6,7 +6,8 @@ use Rattle.block.proofs.gather.Given as goal
 abbrev pub invariant-loop-i : goal.invariant-loop-i
 invariant-loop-i l =
     (l.n ≡ length l.initial.buf) × (l.i ≤ l.n) × (length l.buf ≡ length l.initial.buf)
-    × (l.buf ≡ take l.i (table (λ k. peek_on (registers_of l.slots l.addresses l.values) l.ram l.sram l.gpio l.addr k) 0 (length l.initial.buf)) ++
+    × (l.buf ≡ take l.i (table (λ k. peek_on (registers_of l.slots l.addresses l.values) l.ram l.sram l.gpio l.addr
+    k) 0 (length l.initial.buf)) ++
     drop l.i l.initial.buf)
 
 abbrev pub decreases-loop-i : goal.decreases-loop-i

@@ -1,4 +1,5 @@
-use Rattle.memory.proofs.Cases.{place_ram, place_gpio, place_low, place_middle, place_sram, past_sram, place_high, past_high, place_stray}
+use Rattle.memory.proofs.Cases.{place_ram, place_gpio, place_low, place_middle, place_sram, past_sram, place_high}
+use Rattle.memory.proofs.Cases.{past_high, place_stray}
 use Rattle.memory.proofs.locate.Goals as goal
 
 pub returns-in-32 : goal.returns-in-32

@@ -10,7 +10,8 @@ returns-then-out-eq-SCREEN_BYTES c =
     picture_serves _ _ _ whole room (c.screen.ensures ∙ whole_shown _ _ whole room)
 
 pub returns-else-out-eq-SCREEN_BYTES : goal.returns-else-out-eq-SCREEN_BYTES
-returns-else-out-eq-SCREEN_BYTES c = sym (picture_no_room _ _ c.if-framebuffer-eq-FRAMEBUFFER_SIZE.true c.if-out-eq-SCREEN_BYTES.false)
+returns-else-out-eq-SCREEN_BYTES c = sym (picture_no_room _ _ c.if-framebuffer-eq-FRAMEBUFFER_SIZE.true
+    c.if-out-eq-SCREEN_BYTES.false)
 
 pub returns-else-framebuffer-eq-FRAMEBUFFER_SIZE : goal.returns-else-framebuffer-eq-FRAMEBUFFER_SIZE
 returns-else-framebuffer-eq-FRAMEBUFFER_SIZE c = sym (picture_refused _ _ c.if-framebuffer-eq-FRAMEBUFFER_SIZE.false)

@@ -12,7 +12,8 @@ pub float_to_bits-bits : goal.float_to_bits-bits
 float_to_bits-bits c = no_nan c.args.x c.if-x.false
 
 pub returns-then-bits-ge9223372036854775808 : goal.returns-then-bits-ge9223372036854775808
-returns-then-bits-ge9223372036854775808 c = cut_by_bits _ _ c.well_formed.0.1 (sign_set _ c.if-bits-ge9223372036854775808.true)
+returns-then-bits-ge9223372036854775808 c = cut_by_bits _ _ c.well_formed.0.1
+    (sign_set _ c.if-bits-ge9223372036854775808.true)
 
 pub returns-then-exponent-lt1023 : goal.returns-then-exponent-lt1023
 returns-then-exponent-lt1023 c = cut_by_bits _ _ c.well_formed.0.1 (fraction _ (omega arith))

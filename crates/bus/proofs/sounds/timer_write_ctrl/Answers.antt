@@ -2,7 +2,8 @@ use Rattle.std.proofs.Common.{◌∙◌, ◌/◌}
 use Rattle.registers.specs.Ports.{slot_word}
 use Rattle.state.specs.Bank.{parts_in}
 use Rattle.bus.proofs.Slots.{slot_stored}
-use Rattle.bus.proofs.BankedWords.{only_put, only_then, devices_put_lem, done_number, rest_put, timer_refused, timer_sounds, timer_plain}
+use Rattle.bus.proofs.BankedWords.{only_put, only_then, devices_put_lem, done_number, rest_put, timer_refused}
+use Rattle.bus.proofs.BankedWords.{timer_sounds, timer_plain}
 use Rattle.bus.proofs.sounds.timer_write_ctrl.Goals as goal
 
 pub returns-then-answer-ne-DONE : goal.returns-then-answer-ne-DONE

@@ -1,6 +1,7 @@
 use Rattle.time.specs.Clocks.{clock_in}
 use Rattle.state.specs.Bank.{parts_in}
-use Rattle.bus.proofs.BankedWords.{only_put, done_number, quiet, rest_put, rest_none, word_control, word_sounds, word_lcd, word_tick, word_adc, word_power, word_spi}
+use Rattle.bus.proofs.BankedWords.{only_put, done_number, quiet, rest_put, rest_none, word_control, word_sounds}
+use Rattle.bus.proofs.BankedWords.{word_lcd, word_tick, word_adc, word_power, word_spi}
 use Rattle.bus.proofs.Values.{acting_no_day}
 use Rattle.bus.proofs.words.word_write.Goals as goal
 

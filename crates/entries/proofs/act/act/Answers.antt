@@ -1,6 +1,9 @@
 use Rattle.std.proofs.Common.{eqb, ◌%◌, ◌^◌, not, ◌≡◌, refl}
-use Rattle.entries.proofs.Turns.{turn_read, turn_write, turn_take, turn_wipe, turn_live, turn_hold, turn_advance, turn_next, turn_pending, turn_turbo, turn_counters, turn_pixel, answer_laid_lem, not_laid}
-use Rattle.system.proofs.Banks.{read_done, write_done, advance_done, next_done, pending_done, turbo_done, live_done, hold_done, take_done, fresh_packed}
+use Rattle.entries.proofs.Turns.{turn_read, turn_write, turn_take, turn_wipe, turn_live, turn_hold, turn_advance}
+use Rattle.entries.proofs.Turns.{turn_next, turn_pending, turn_turbo, turn_counters, turn_pixel, answer_laid_lem}
+use Rattle.entries.proofs.Turns.{not_laid}
+use Rattle.system.proofs.Banks.{read_done, write_done, advance_done, next_done, pending_done, turbo_done, live_done}
+use Rattle.system.proofs.Banks.{hold_done, take_done, fresh_packed}
 use Rattle.system.specs.Bank.{machine_of}
 use Rattle.system.specs.Inner.{parts_of}
 use Rattle.state.specs.Bank.{parts_in}

@@ -1,4 +1,5 @@
-use Rattle.std.proofs.Common.{◌≡◌, ◌-◌, ◌<◌, length, refl, ◌∙◌, append-nil, le_refl, arith, length-set, drop_of_length-le}
+use Rattle.std.proofs.Common.{◌≡◌, ◌-◌, ◌<◌, length, refl, ◌∙◌, append-nil, le_refl, arith, length-set}
+use Rattle.std.proofs.Common.{drop_of_length-le}
 use borrow.Author.Fill.{fill_more}
 use Rattle.flash.proofs.array.fill.Goals as goal
 

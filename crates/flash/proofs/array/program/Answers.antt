@@ -1,4 +1,6 @@
-use Rattle.std.proofs.Common.{◌≡◌, ℕ, zero, suc, ◌+◌, ◌-◌, ◌<◌, List, [], ◌∷◌, ◌++◌, length, get_or, take, drop, set, refl, ap, ◌∙◌, append-nil, le_of_eq, le_refl, le_of_suc-le-suc, not-suc-le-zero, add-one, arith, length-set, drop_of_length-le, take_all, bit_and}
+use Rattle.std.proofs.Common.{◌≡◌, ℕ, zero, suc, ◌+◌, ◌-◌, ◌<◌, List, [], ◌∷◌, ◌++◌, length, get_or, take, drop}
+use Rattle.std.proofs.Common.{set, refl, ap, ◌∙◌, append-nil, le_of_eq, le_refl, le_of_suc-le-suc, not-suc-le-zero}
+use Rattle.std.proofs.Common.{add-one, arith, length-set, drop_of_length-le, take_all, bit_and}
 use Rattle.flash.specs.Finish.{ands}
 use Rattle.flash.proofs.Long.{ands_long}
 use Rattle.flash.proofs.array.program.Goals as goal

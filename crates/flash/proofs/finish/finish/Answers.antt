@@ -1,4 +1,5 @@
-use Rattle.std.proofs.Common.{◌≡◌, ℕ, ◌+◌, ◌-◌, ◌%◌, ◌<◌, ◌≤◌, List, length, take, drop, replicate, sym, refl, ◌∙◌, mod-lt, arith}
+use Rattle.std.proofs.Common.{◌≡◌, ℕ, ◌+◌, ◌-◌, ◌%◌, ◌<◌, ◌≤◌, List, length, take, drop, replicate, sym, refl, ◌∙◌}
+use Rattle.std.proofs.Common.{mod-lt, arith}
 use native.Mathlib.Nat.{mod-le}
 use Rattle.flash.specs.Board.{Sized}
 use Rattle.flash.specs.Buf.{addr_of}

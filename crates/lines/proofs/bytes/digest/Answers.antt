@@ -1,4 +1,4 @@
-use Rattle.std.proofs.Common.{◌≡◌, ◌-◌, length, arith}
+use Rattle.std.proofs.Common.{◌≡◌, length, arith}
 use Rattle.lines.proofs.Laws.{digest_none, digest_more}
 use Rattle.lines.proofs.bytes.digest.Goals as goal
 

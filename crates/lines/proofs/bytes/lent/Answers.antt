@@ -5,4 +5,7 @@ use Rattle.lines.proofs.bytes.lent.Goals as goal
 pub returns : goal.returns
 returns c =
     let l = c.least.ensures.upper_bound in
-    ((l, sym (length-take-le c.least.result c.args.bytes.now l)), c.least.ensures.value)
+    record {
+      prefix_len = (l, sym (length-take-le c.least.result c.args.bytes.now l));
+      value = c.least.ensures.value;
+    }

@@ -1,4 +1,4 @@
-use Rattle.std.proofs.Common.{◌≡◌, ◌-◌, arith}
+use Rattle.std.proofs.Common.{◌≡◌, arith}
 use Rattle.lines.proofs.Laws.{number_none, number_more}
 use Rattle.lines.proofs.parse.number_at.Goals as goal
 

@@ -10,6 +10,7 @@ returns c slots addresses values rtc page onsets frequencies duties starts codes
     let a = c.args in
     let m = machine_of slots addresses values rtc page onsets frequencies duties starts codes (parts_in a.cells.now
     a.floats.now) ram sram gpio fb in (
-      stepped_live m a.key (not (eqb a.down 0)) (live_done m.system {x = parts_in a.cells.now a.floats.now} refl a.key (not (eqb a.down 0)) (c.set_live.ensures.0)),
+      stepped_live m a.key (not (eqb a.down 0)) (live_done m.system {x = parts_in a.cells.now a.floats.now} refl
+          a.key (not (eqb a.down 0)) (c.set_live.ensures.0)),
       c.set_live.ensures.1,
     )

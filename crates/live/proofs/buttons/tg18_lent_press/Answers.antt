@@ -10,6 +10,7 @@ returns c slots addresses values rtc page onsets frequencies duties ram sram gpi
     let a = c.args in
     let m = machine_of slots addresses values rtc page onsets frequencies duties a.starts.now a.codes.now
     (parts_in a.cells.now a.floats.now) ram sram gpio fb in (
-      stepped_press m a.key a.at (press_done m.system a.key a.at {x = parts_in a.cells.now a.floats.now} refl (c.press.ensures.0)),
+      stepped_press m a.key a.at (press_done m.system a.key a.at {x = parts_in a.cells.now a.floats.now} refl
+          (c.press.ensures.0)),
       c.press.ensures.1,
     )

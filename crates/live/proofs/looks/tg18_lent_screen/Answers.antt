@@ -6,12 +6,14 @@ use Rattle.live.proofs.looks.tg18_lent_screen.Goals as goal
 pub returns-then-bad_memory : goal.returns-then-bad_memory
 returns-then-bad_memory c slots addresses values rtc page onsets frequencies duties starts codes l f =
     let a = c.args in
-    let m = machine_of slots addresses values rtc page onsets frequencies duties starts codes (parts_in l f) a.ram.now a.sram.now a.gpio.now a.fb.now in
+    let m = machine_of slots addresses values rtc page onsets frequencies duties starts codes (parts_in l f)
+    a.ram.now a.sram.now a.gpio.now a.fb.now in
     screen_refused m c.bad_memory.ensures a.rgb.now c.if-bad_memory.true
 
 pub returns : goal.returns
 returns c slots addresses values rtc page onsets frequencies duties starts codes l f =
     let a = c.args in
-    let m = machine_of slots addresses values rtc page onsets frequencies duties starts codes (parts_in l f) a.ram.now a.sram.now a.gpio.now a.fb.now in
+    let m = machine_of slots addresses values rtc page onsets frequencies duties starts codes (parts_in l f)
+    a.ram.now a.sram.now a.gpio.now a.fb.now in
     screen_laid m c.bad_memory.ensures a.rgb.now c.if-bad_memory.false c.screen_number.ensures
     c.rgb-refusal.ensures

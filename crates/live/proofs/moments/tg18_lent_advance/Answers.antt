@@ -10,13 +10,15 @@ use Rattle.live.proofs.moments.tg18_lent_advance.Goals as goal
 pub returns-then-bad_memory : goal.returns-then-bad_memory
 returns-then-bad_memory c addresses values rtc page onsets frequencies duties =
     let a = c.args in
-    let m = machine_of a.slots.now addresses values rtc page onsets frequencies duties a.starts.now a.codes.now (parts_in a.cells.now a.floats.now) a.ram.now a.sram.now a.gpio.now a.fb.now in
+    let m = machine_of a.slots.now addresses values rtc page onsets frequencies duties a.starts.now a.codes.now
+    (parts_in a.cells.now a.floats.now) a.ram.now a.sram.now a.gpio.now a.fb.now in
     (called_bad m (steps.advance a.to) c.bad_memory.ensures c.if-bad_memory.true, unchanged _ _ _)
 
 pub returns : goal.returns
 returns c addresses values rtc page onsets frequencies duties =
     let a = c.args in
-    let m = machine_of a.slots.now addresses values rtc page onsets frequencies duties a.starts.now a.codes.now (parts_in a.cells.now a.floats.now) a.ram.now a.sram.now a.gpio.now a.fb.now in (
+    let m = machine_of a.slots.now addresses values rtc page onsets frequencies duties a.starts.now a.codes.now
+    (parts_in a.cells.now a.floats.now) a.ram.now a.sram.now a.gpio.now a.fb.now in (
       called_good m (steps.advance a.to) c.bad_memory.ensures c.if-bad_memory.false (stepped_advance m a.to
           (advance_done m.system a.sram.now a.gpio.now a.to {x = parts_in a.cells.now a.floats.now}
           refl (c.advance.ensures.0))),

@@ -8,5 +8,6 @@ use Rattle.live.proofs.moments.tg18_lent_irq_wanted.Goals as goal
 pub returns : goal.returns
 returns c addresses values rtc page onsets frequencies duties starts codes f ram sram gpio fb =
     let a = c.args in
-    let m = machine_of a.slots.now addresses values rtc page onsets frequencies duties starts codes (parts_in a.cells.now f) ram sram gpio fb in
+    let m = machine_of a.slots.now addresses values rtc page onsets frequencies duties starts codes
+    (parts_in a.cells.now f) ram sram gpio fb in
     stepped_wanted m (c.one.ensures.0) (wanted_done m.system {x = parts_in a.cells.now f} refl (c.irq_wanted.ensures f))

@@ -8,5 +8,6 @@ use Rattle.live.proofs.moments.tg18_lent_pending_irq.Goals as goal
 pub returns : goal.returns
 returns c addresses values rtc page onsets frequencies duties starts codes f ram sram gpio fb =
     let a = c.args in
-    let m = machine_of a.slots.now addresses values rtc page onsets frequencies duties starts codes (parts_in a.cells.now f) ram sram gpio fb in
+    let m = machine_of a.slots.now addresses values rtc page onsets frequencies duties starts codes
+    (parts_in a.cells.now f) ram sram gpio fb in
     stepped_pending m (pending_done m.system {x = parts_in a.cells.now f} refl (c.pending_irq.ensures f))

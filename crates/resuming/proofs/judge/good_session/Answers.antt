@@ -30,7 +30,8 @@ count-k-requires c =
 -- src/judge.rt:138:9
 pub returns-then-k-gt64 : goal.returns-then-k-gt64
 returns-then-k-gt64 c =
-    over_presses _ c.if-len-lt-LEAST.false c.count-n.ensures c.if-n-gt256.false c.flags_at.ensures c.count-k.ensures c.if-k-gt64.true
+    over_presses _ c.if-len-lt-LEAST.false c.count-n.ensures c.if-n-gt256.false c.flags_at.ensures c.count-k.ensures
+    c.if-k-gt64.true
 
 -- src/judge.rt:140:22
 pub flags_at-requires-2 : goal.flags_at-requires-2
@@ -61,7 +62,8 @@ count-e-requires c =
 -- src/judge.rt:142:9
 pub returns-then-e-gt256 : goal.returns-then-e-gt256
 returns-then-e-gt256 c =
-    over_events _ c.if-len-lt-LEAST.false c.count-n.ensures c.if-n-gt256.false c.flags_at.ensures c.count-k.ensures c.if-k-gt64.false c.flags_at-2.ensures c.count-e.ensures c.if-e-gt256.true
+    over_events _ c.if-len-lt-LEAST.false c.count-n.ensures c.if-n-gt256.false c.flags_at.ensures c.count-k.ensures
+    c.if-k-gt64.false c.flags_at-2.ensures c.count-e.ensures c.if-e-gt256.true
 
 -- src/judge.rt:144:20
 pub overflow_cast-n : goal.overflow_cast-n
@@ -78,7 +80,9 @@ overflow_cast-e c = omega (arith, c.if-e-gt256.false)
 -- src/judge.rt:145:9
 pub returns-then-len-size : goal.returns-then-len-size
 returns-then-len-size c =
-    wrong_size _ c.if-len-lt-LEAST.false c.count-n.ensures c.if-n-gt256.false c.flags_at.ensures c.count-k.ensures c.if-k-gt64.false c.flags_at-2.ensures c.count-e.ensures c.if-e-gt256.false (λ h. c.if-len-size.true (h ∙ sym c.size.ensures))
+    wrong_size _ c.if-len-lt-LEAST.false c.count-n.ensures c.if-n-gt256.false c.flags_at.ensures c.count-k.ensures
+    c.if-k-gt64.false c.flags_at-2.ensures c.count-e.ensures c.if-e-gt256.false
+    (λ h. c.if-len-size.true (h ∙ sym c.size.ensures))
 
 -- src/judge.rt:147:5
 pub good_body-requires : goal.good_body-requires
@@ -88,5 +92,6 @@ good_body-requires c =
 -- src/judge.rt:125:1
 pub returns : goal.returns
 returns c =
-    right_size _ c.if-len-lt-LEAST.false c.count-n.ensures c.if-n-gt256.false c.flags_at.ensures c.count-k.ensures c.if-k-gt64.false c.flags_at-2.ensures c.count-e.ensures c.if-e-gt256.false (c.if-len-size.false
+    right_size _ c.if-len-lt-LEAST.false c.count-n.ensures c.if-n-gt256.false c.flags_at.ensures c.count-k.ensures
+    c.if-k-gt64.false c.flags_at-2.ensures c.count-e.ensures c.if-e-gt256.false (c.if-len-size.false
     ∙ c.size.ensures) c.good_body.ensures

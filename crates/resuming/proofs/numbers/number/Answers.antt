@@ -13,7 +13,8 @@ overflow_sub-left c = omega (arith, c.loop-left-test.true)
 -- src/numbers.rt:21:17
 pub overflow_mul-value : goal.overflow_mul-value
 overflow_mul-value c =
-    let f = upper_fits c.loop-left.invariant.1 c.loop-left-test.true c.loop-left.invariant.0 c.requires.1 0 (omega arith)
+    let f = upper_fits c.loop-left.invariant.1 c.loop-left-test.true c.loop-left.invariant.0 c.requires.1 0
+    (omega arith)
     in omega arith
 
 -- src/numbers.rt:21:38
@@ -28,7 +29,8 @@ bounds-s-at c =
 -- src/numbers.rt:21:17
 pub overflow_add-value : goal.overflow_add-value
 overflow_add-value c =
-    let f = upper_fits c.loop-left.invariant.1 c.loop-left-test.true c.loop-left.invariant.0 c.requires.1 _ c.wide.ensures.1 in omega arith
+    let f = upper_fits c.loop-left.invariant.1 c.loop-left-test.true c.loop-left.invariant.0 c.requires.1 _
+    c.wide.ensures.1 in omega arith
 
 -- src/numbers.rt:19:5
 pub loop-left-preserved : goal.loop-left-preserved

@@ -1,6 +1,7 @@
 use Rattle.std.proofs.Common.{arith}
 use Rattle.session.specs.Read.{cells_in}
-use Rattle.session.proofs.Long.{pending_bytes, converting_bytes, off_bytes, drawing_bytes, ticks_bytes, latched_bytes, chip_bytes, down_bytes}
+use Rattle.session.proofs.Long.{pending_bytes, converting_bytes, off_bytes, drawing_bytes, ticks_bytes}
+use Rattle.session.proofs.Long.{latched_bytes, chip_bytes, down_bytes}
 use Rattle.resuming.proofs.readers.read_all_cells.Goals as goal
 
 -- src/readers.rt:25:9

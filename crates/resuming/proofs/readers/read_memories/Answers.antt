@@ -89,8 +89,11 @@ returns c =
     record {
       ram_is = c.copy_in.ensures ∙ ap (λ (k : ℕ). part c.args.s.now (c.args.at + 4)
           k) (good_memory c.args.ram.now c.args.sram.now c.args.gpio.now c.args.fb.now c.requires.0).ram_size;
-      sram_is = c.copy_in-2.ensures ∙ ap (λ (k : ℕ). part c.args.s.now (c.args.at + 4 + RAM_SIZE + 4) k) (good_memory c.args.ram.now c.args.sram.now c.args.gpio.now c.args.fb.now c.requires.0).sram_size;
+      sram_is = c.copy_in-2.ensures ∙ ap (λ (k : ℕ). part c.args.s.now (c.args.at + 4 + RAM_SIZE + 4) k)
+          (good_memory c.args.ram.now c.args.sram.now c.args.gpio.now c.args.fb.now c.requires.0).sram_size;
       gpio_is = c.copy_in-3.ensures ∙ ap (λ (k : ℕ). part c.args.s.now (c.args.at + 4 + RAM_SIZE + 4 + SRAM_SIZE + 4)
           k) (good_memory c.args.ram.now c.args.sram.now c.args.gpio.now c.args.fb.now c.requires.0).gpio_size;
-      fb_is = c.copy_in-4.ensures ∙ ap (λ (k : ℕ). part c.args.s.now (c.args.at + 4 + RAM_SIZE + 4 + SRAM_SIZE + 4 + GPIO_SIZE + 4) k) (good_memory c.args.ram.now c.args.sram.now c.args.gpio.now c.args.fb.now c.requires.0).fb_size;
+      fb_is = c.copy_in-4.ensures ∙ ap (λ (k : ℕ). part c.args.s.now
+          (c.args.at + 4 + RAM_SIZE + 4 + SRAM_SIZE + 4 + GPIO_SIZE + 4) k)
+          (good_memory c.args.ram.now c.args.sram.now c.args.gpio.now c.args.fb.now c.requires.0).fb_size;
     }

@@ -43,6 +43,8 @@ read_memories-requires c =
 -- src/units.rt:24:1
 pub returns : goal.returns
 returns c = (
-  read_is _ c.counts_of-has.ensures c.read_slots.ensures c.read_others.ensures c.read_pages.ensures c.read_tables.ensures c.read_bank.ensures c.put_counts.ensures c.ram_at.ensures c.read_memories.ensures c.resync.ensures.0,
+  read_is _ c.counts_of-has.ensures c.read_slots.ensures c.read_others.ensures c.read_pages.ensures
+      c.read_tables.ensures c.read_bank.ensures c.put_counts.ensures c.ram_at.ensures c.read_memories.ensures
+      c.resync.ensures.0,
   bank_is _ c.counts_of-has.ensures c.requires.0 c.read_bank.ensures c.put_counts.ensures c.resync.ensures.1,
 )

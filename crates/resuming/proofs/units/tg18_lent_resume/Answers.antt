@@ -1,6 +1,5 @@
 use Rattle.std.proofs.Common.{sym, ◌∙◌, arith}
 use Rattle.resuming.proofs.Entire.{resume_bad, resume_refused, resume_done, words_still, words_read}
-use borrow.Author.Tests.{not-true, not-false}
 use Rattle.resuming.proofs.units.tg18_lent_resume.Goals as goal
 
 -- src/units.rt:97:9
@@ -31,6 +30,7 @@ read-requires c = (
 -- src/units.rt:67:1
 pub returns : goal.returns
 returns c = (
-  resume_done _ _ (sym c.bad_memory.ensures ∙ c.if-bad_memory.false) (sym c.good_session.ensures ∙ c.if-not-good_session.false) c.read.ensures.0,
+  resume_done _ _ (sym c.bad_memory.ensures ∙ c.if-bad_memory.false)
+      (sym c.good_session.ensures ∙ c.if-not-good_session.false) c.read.ensures.0,
   words_read _ _ c.read.ensures.1,
 )

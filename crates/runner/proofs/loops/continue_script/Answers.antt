@@ -86,7 +86,8 @@ returns c =
     w.ram w.sram
     w.gpio w.fb)
     w.out in (
-      continue_done m a.script.now a.out.now c.bad_script.ensures c.if-bad_script.false c.presses-p.ensures c.steps-k.ensures
+      continue_done m a.script.now a.out.now c.bad_script.ensures c.if-bad_script.false c.presses-p.ensures
+          c.steps-k.ensures
           c.if-out-p.false {t = t} c.store.ensures c.run_entries.ensures.0,
       record { packed = c.run_entries.ensures.1; still = λ h. absurd (h refl) },
     )

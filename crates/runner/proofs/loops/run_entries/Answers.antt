@@ -133,7 +133,8 @@ shape_of-out c =
 pub returns : goal.returns
 returns c =
     let a = c.args in (
-      both_run a.script.now a.p a.k _ (step_end _ _ _ _ _ _ c.loop-left-test.false c.loop-left.invariant.8) (c.run_presses.ensures.0 a.slots.now a.addresses.now a.values.now
+      both_run a.script.now a.p a.k _ (step_end _ _ _ _ _ _ c.loop-left-test.false c.loop-left.invariant.8)
+          (c.run_presses.ensures.0 a.slots.now a.addresses.now a.values.now
           a.rtc.now a.page.now a.onsets.now a.frequencies.now a.duties.now a.ram.now a.sram.now
           a.gpio.now a.fb.now (a.p + a.k) (omega arith)),
       λ k. c.loop-left.invariant.9 (c.run_presses.ensures.1 k),

@@ -18,11 +18,15 @@ invariant-loop-left l =
     × (length l.gpio ≡ length l.initial.gpio)
     × (length l.fb ≡ length l.initial.fb)
     × (length l.out ≡ length l.initial.out)
-    × (after_entries (run_state (machine_of l.slots l.addresses l.values l.rtc l.page l.onsets l.frequencies l.duties l.starts l.codes
+    × (after_entries (run_state (machine_of l.slots l.addresses l.values l.rtc l.page l.onsets l.frequencies
+    l.duties l.starts l.codes
     (parts_in l.cells
     l.floats)
-    l.ram l.sram l.gpio l.fb) l.out) l.to (entries_from l.script l.p l.left (l.p + (l.k - l.left))) ≡ after_entries (run_state (machine_of l.initial.slots
-    l.initial.addresses l.initial.values l.initial.rtc l.initial.page l.initial.onsets l.initial.frequencies l.initial.duties l.initial.starts l.initial.codes (parts_in l.initial.cells l.initial.floats) l.initial.ram l.initial.sram
+    l.ram l.sram l.gpio l.fb) l.out) l.to (entries_from l.script l.p l.left (l.p + (l.k - l.left))) ≡ after_entries
+    (run_state (machine_of l.initial.slots
+    l.initial.addresses l.initial.values l.initial.rtc l.initial.page l.initial.onsets l.initial.frequencies
+    l.initial.duties l.initial.starts l.initial.codes (parts_in l.initial.cells l.initial.floats) l.initial.ram
+    l.initial.sram
     l.initial.gpio
     l.initial.fb) l.initial.out) (4 + answer_bytes * l.p) (entries_from l.script l.p l.k l.p))
     × StaysPacked l.initial.cells l.initial.floats l.cells l.floats

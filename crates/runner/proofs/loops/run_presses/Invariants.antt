@@ -11,7 +11,8 @@ use Rattle.runner.proofs.loops.run_presses.Given as goal
 abbrev pub invariant-loop-left : goal.invariant-loop-left
 invariant-loop-left l =
     (l.left ≤
-    l.p) × (l.from + press_bytes * l.left ≡ 4 + press_bytes * l.p) × (l.to + answer_bytes * l.left ≡ 4 + answer_bytes * l.p)
+    l.p) × (l.from + press_bytes * l.left ≡ 4 + press_bytes * l.p) ×
+    (l.to + answer_bytes * l.left ≡ 4 + answer_bytes * l.p)
     × (length l.out ≡ length l.initial.out)
     × ((slots addresses values rtc page : List ℕ) (onsets frequencies duties : List Float) (ram sram gpio fb : List ℕ)
     (n : ℕ) → l.p ≤ n
@@ -19,7 +20,8 @@ invariant-loop-left l =
     (parts_in l.cells
     l.floats) ram sram gpio fb) l.out) l.to
     (entries_from l.script l.p (n - (l.p - l.left)) (l.p - l.left))
-    ≡ after_entries (run_state (machine_of slots addresses values rtc page onsets frequencies duties l.initial.starts l.initial.codes
+    ≡ after_entries (run_state (machine_of slots addresses values rtc page onsets frequencies duties
+    l.initial.starts l.initial.codes
     (parts_in l.initial.cells
     l.floats) ram sram gpio fb) l.initial.out) 4 (entries_from l.script l.p n 0))
     × StaysPacked l.initial.cells l.floats l.cells l.floats

@@ -11,7 +11,8 @@ put_float-next-requires c =
     omega (
       arith,
       c.requires,
-      length-append (bytes_of 8 (bits_of c.args.e.time)) (bytes_of 8 (bits_of c.args.e.frequency) ++ bytes_of 8 (bits_of c.args.e.duty)),
+      length-append (bytes_of 8 (bits_of c.args.e.time)) (bytes_of 8 (bits_of c.args.e.frequency) ++ bytes_of 8
+          (bits_of c.args.e.duty)),
       length_bytes 8 (bits_of c.args.e.time),
     )
 

@@ -22,7 +22,9 @@ overflow_cast-k c =
 -- src/units.rt:179:9
 pub returns-then-out-size : goal.returns-then-out-size
 returns-then-out-size c =
-    save_short _ _ _ _ _ _ _ _ _ _ _ _ _ _ _ _ c.args.out.now (sym c.bad_memory.ensures ∙ c.if-bad_memory.false) c.parts_of-parts.ensures c.places-places.ensures c.used-n.ensures.0 c.count-k.ensures.0 c.held-e.ensures.0 c.size-size.ensures c.if-out-size.true
+    save_short _ _ _ _ _ _ _ _ _ _ _ _ _ _ _ _ c.args.out.now (sym c.bad_memory.ensures ∙ c.if-bad_memory.false)
+    c.parts_of-parts.ensures c.places-places.ensures c.used-n.ensures.0 c.count-k.ensures.0 c.held-e.ensures.0
+    c.size-size.ensures c.if-out-size.true
 
 -- src/units.rt:181:5
 pub lay_parts-requires : goal.lay_parts-requires
@@ -46,5 +48,6 @@ lay_parts-requires c = (
 -- src/units.rt:141:1
 pub returns : goal.returns
 returns c =
-    save_done _ _ _ _ _ _ _ _ _ _ _ _ _ _ _ _ c.args.out.now (sym c.bad_memory.ensures ∙ c.if-bad_memory.false) c.parts_of-parts.ensures c.places-places.ensures c.used-n.ensures.0 c.count-k.ensures.0
+    save_done _ _ _ _ _ _ _ _ _ _ _ _ _ _ _ _ c.args.out.now (sym c.bad_memory.ensures ∙ c.if-bad_memory.false)
+    c.parts_of-parts.ensures c.places-places.ensures c.used-n.ensures.0 c.count-k.ensures.0
     c.held-e.ensures.0 c.size-size.ensures c.if-out-size.false c.lay_parts.ensures

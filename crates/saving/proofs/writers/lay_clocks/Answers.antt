@@ -13,7 +13,10 @@ pub lay_floats-set-requires : goal.lay_floats-set-requires
 unfolding clocks_section
 lay_floats-set-requires c = (
   first_of _ _ (float_bytes c.args.floats.now 0 3) (float_bytes c.args.floats.now 9 2 ++
-      (cell_bytes c.args.cells.now 37 3 ++ (cell_bytes c.args.cells.now 41 2 ++ c.args.rtc.now))) (room c.put-times.ensures (float_bytes c.args.floats.now 0 3 ++ (float_bytes c.args.floats.now 9 2 ++ (cell_bytes c.args.cells.now 37 3 ++ (cell_bytes c.args.cells.now 41 2
+      (cell_bytes c.args.cells.now 37 3 ++ (cell_bytes c.args.cells.now 41 2 ++ c.args.rtc.now)))
+      (room c.put-times.ensures (float_bytes c.args.floats.now 0 3 ++
+      (float_bytes c.args.floats.now 9 2 ++ (cell_bytes c.args.cells.now 37 3 ++
+      (cell_bytes c.args.cells.now 41 2
       ++ c.args.rtc.now)))) c.requires),
   omega arith,
 )
@@ -24,7 +27,10 @@ unfolding clocks_section
 lay_floats-ticks-requires c = (
   first_of _ _ (float_bytes c.args.floats.now 9 2) (cell_bytes c.args.cells.now 37 3 ++
       (cell_bytes c.args.cells.now 41 2 ++ c.args.rtc.now)) (room c.lay_floats-set.ensures
-      (float_bytes c.args.floats.now 9 2 ++ (cell_bytes c.args.cells.now 37 3 ++ (cell_bytes c.args.cells.now 41 2 ++ c.args.rtc.now))) (room c.put-times.ensures (float_bytes c.args.floats.now 0 3 ++ (float_bytes c.args.floats.now 9 2 ++ (cell_bytes c.args.cells.now 37
+      (float_bytes c.args.floats.now 9 2 ++ (cell_bytes c.args.cells.now 37 3 ++
+      (cell_bytes c.args.cells.now 41 2 ++ c.args.rtc.now)))
+      (room c.put-times.ensures (float_bytes c.args.floats.now 0 3 ++
+      (float_bytes c.args.floats.now 9 2 ++ (cell_bytes c.args.cells.now 37
       3 ++ (cell_bytes c.args.cells.now 41 2 ++ c.args.rtc.now)))) c.requires)),
   omega arith,
 )
@@ -33,9 +39,13 @@ lay_floats-ticks-requires c = (
 pub lay_cells-latch-requires : goal.lay_cells-latch-requires
 unfolding clocks_section
 lay_cells-latch-requires c = (
-  first_of _ _ (cell_bytes c.args.cells.now 37 3) (cell_bytes c.args.cells.now 41 2 ++ c.args.rtc.now) (room c.lay_floats-ticks.ensures (cell_bytes c.args.cells.now 37 3 ++ (cell_bytes
+  first_of _ _ (cell_bytes c.args.cells.now 37 3) (cell_bytes c.args.cells.now 41 2 ++ c.args.rtc.now)
+      (room c.lay_floats-ticks.ensures (cell_bytes c.args.cells.now 37 3 ++ (cell_bytes
       c.args.cells.now 41 2 ++ c.args.rtc.now)) (room c.lay_floats-set.ensures (float_bytes
-      c.args.floats.now 9 2 ++ (cell_bytes c.args.cells.now 37 3 ++ (cell_bytes c.args.cells.now 41 2 ++ c.args.rtc.now))) (room c.put-times.ensures (float_bytes c.args.floats.now 0 3 ++ (float_bytes c.args.floats.now 9 2 ++ (cell_bytes c.args.cells.now 37 3 ++
+      c.args.floats.now 9 2 ++ (cell_bytes c.args.cells.now 37 3 ++
+      (cell_bytes c.args.cells.now 41 2 ++ c.args.rtc.now)))
+      (room c.put-times.ensures (float_bytes c.args.floats.now 0 3 ++
+      (float_bytes c.args.floats.now 9 2 ++ (cell_bytes c.args.cells.now 37 3 ++
       (cell_bytes c.args.cells.now 41 2 ++ c.args.rtc.now)))) c.requires))),
   omega arith,
 )
@@ -44,8 +54,14 @@ lay_cells-latch-requires c = (
 pub lay_cells-regs-requires : goal.lay_cells-regs-requires
 unfolding clocks_section
 lay_cells-regs-requires c = (
-  first_of _ _ (cell_bytes c.args.cells.now 41 2) (c.args.rtc.now) (room c.lay_cells-latch.ensures (cell_bytes c.args.cells.now 41 2 ++ c.args.rtc.now) (room c.lay_floats-ticks.ensures (cell_bytes c.args.cells.now 37 3 ++ (cell_bytes c.args.cells.now 41 2 ++ c.args.rtc.now)) (room c.lay_floats-set.ensures (float_bytes c.args.floats.now 9 2 ++
-      (cell_bytes c.args.cells.now 37 3 ++ (cell_bytes c.args.cells.now 41 2 ++ c.args.rtc.now))) (room c.put-times.ensures (float_bytes c.args.floats.now 0 3 ++ (float_bytes c.args.floats.now 9 2 ++ (cell_bytes c.args.cells.now 37 3 ++ (cell_bytes c.args.cells.now 41
+  first_of _ _ (cell_bytes c.args.cells.now 41 2) (c.args.rtc.now)
+      (room c.lay_cells-latch.ensures (cell_bytes c.args.cells.now 41 2 ++ c.args.rtc.now)
+      (room c.lay_floats-ticks.ensures (cell_bytes c.args.cells.now 37 3 ++
+      (cell_bytes c.args.cells.now 41 2 ++ c.args.rtc.now)) (room c.lay_floats-set.ensures
+      (float_bytes c.args.floats.now 9 2 ++
+      (cell_bytes c.args.cells.now 37 3 ++ (cell_bytes c.args.cells.now 41 2 ++ c.args.rtc.now)))
+      (room c.put-times.ensures (float_bytes c.args.floats.now 0 3 ++
+      (float_bytes c.args.floats.now 9 2 ++ (cell_bytes c.args.cells.now 37 3 ++ (cell_bytes c.args.cells.now 41
       2 ++ c.args.rtc.now)))) c.requires)))),
   omega arith,
 )
@@ -54,8 +70,12 @@ lay_cells-regs-requires c = (
 pub copy_out-requires : goal.copy_out-requires
 unfolding clocks_section
 copy_out-requires c =
-    room c.lay_cells-regs.ensures (c.args.rtc.now) (room c.lay_cells-latch.ensures (cell_bytes c.args.cells.now 41 2 ++ c.args.rtc.now) (room c.lay_floats-ticks.ensures (cell_bytes c.args.cells.now 37 3 ++ (cell_bytes c.args.cells.now 41 2 ++ c.args.rtc.now)) (room
-    c.lay_floats-set.ensures (float_bytes c.args.floats.now 9 2 ++ (cell_bytes c.args.cells.now 37 3 ++ (cell_bytes c.args.cells.now 41 2 ++ c.args.rtc.now))) (room c.put-times.ensures (float_bytes c.args.floats.now 0 3 ++ (float_bytes c.args.floats.now 9 2 ++
+    room c.lay_cells-regs.ensures (c.args.rtc.now) (room c.lay_cells-latch.ensures
+    (cell_bytes c.args.cells.now 41 2 ++ c.args.rtc.now) (room c.lay_floats-ticks.ensures
+    (cell_bytes c.args.cells.now 37 3 ++ (cell_bytes c.args.cells.now 41 2 ++ c.args.rtc.now)) (room
+    c.lay_floats-set.ensures (float_bytes c.args.floats.now 9 2 ++
+    (cell_bytes c.args.cells.now 37 3 ++ (cell_bytes c.args.cells.now 41 2 ++ c.args.rtc.now)))
+    (room c.put-times.ensures (float_bytes c.args.floats.now 0 3 ++ (float_bytes c.args.floats.now 9 2 ++
     (cell_bytes c.args.cells.now 37 3 ++ (cell_bytes c.args.cells.now 41 2 ++ c.args.rtc.now)))) c.requires))))
 
 -- src/writers.rt:61:1
@@ -68,4 +88,5 @@ shape_of-out c =
 pub returns : goal.returns
 unfolding clocks_section
 returns c =
-    then c.put-times.ensures (then c.lay_floats-set.ensures (then c.lay_floats-ticks.ensures (then c.lay_cells-latch.ensures (then c.lay_cells-regs.ensures c.copy_out.ensures))))
+    then c.put-times.ensures (then c.lay_floats-set.ensures (then c.lay_floats-ticks.ensures
+    (then c.lay_cells-latch.ensures (then c.lay_cells-regs.ensures c.copy_out.ensures))))

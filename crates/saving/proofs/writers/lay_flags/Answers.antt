@@ -12,7 +12,9 @@ put-converting-requires c = head_room _ _ _ _ c.requires
 pub lay_cells-off-requires : goal.lay_cells-off-requires
 unfolding flags_section
 lay_cells-off-requires c = (
-  first_of _ _ (cell_bytes c.args.cells.now 40 1) (cell_bytes c.args.cells.now 43 1) (room c.put-converting.ensures (cell_bytes c.args.cells.now 40 1 ++ cell_bytes c.args.cells.now 43 1) c.requires),
+  first_of _ _ (cell_bytes c.args.cells.now 40 1) (cell_bytes c.args.cells.now 43 1)
+      (room c.put-converting.ensures (cell_bytes c.args.cells.now 40 1 ++ cell_bytes c.args.cells.now 43 1)
+      c.requires),
   omega arith,
 )
 

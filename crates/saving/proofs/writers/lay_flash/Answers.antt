@@ -21,7 +21,8 @@ lay_cells-gathered-requires c = (
 pub copy_out-requires : goal.copy_out-requires
 unfolding flash_section
 copy_out-requires c =
-    room c.lay_cells-gathered.ensures (c.args.page.now) (room c.put-chip.ensures (cell_bytes c.args.cells.now 1 10 ++ c.args.page.now) c.requires)
+    room c.lay_cells-gathered.ensures (c.args.page.now) (room c.put-chip.ensures
+    (cell_bytes c.args.cells.now 1 10 ++ c.args.page.now) c.requires)
 
 -- src/writers.rt:82:1
 pub shape_of-out : goal.shape_of-out

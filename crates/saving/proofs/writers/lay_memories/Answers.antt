@@ -8,21 +8,26 @@ use Rattle.saving.proofs.writers.lay_memories.Goals as goal
 pub lay_memory-second-requires : goal.lay_memory-second-requires
 unfolding memory_sections
 lay_memory-second-requires c =
-    first_of _ _ (counted (length c.args.ram.now) c.args.ram.now) (counted (length c.args.sram.now) c.args.sram.now ++ (counted (length c.args.gpio.now) c.args.gpio.now
+    first_of _ _ (counted (length c.args.ram.now) c.args.ram.now)
+    (counted (length c.args.sram.now) c.args.sram.now ++ (counted (length c.args.gpio.now) c.args.gpio.now
     ++ counted (length c.args.fb.now) c.args.fb.now)) c.requires
 
 -- src/writers.rt:144:9
 pub lay_memory-third-requires : goal.lay_memory-third-requires
 unfolding memory_sections
 lay_memory-third-requires c =
-    first_of _ _ (counted (length c.args.sram.now) c.args.sram.now) (counted (length c.args.gpio.now) c.args.gpio.now ++ counted (length c.args.fb.now) c.args.fb.now) (room c.lay_memory-second.ensures (counted (length c.args.sram.now) c.args.sram.now
+    first_of _ _ (counted (length c.args.sram.now) c.args.sram.now)
+    (counted (length c.args.gpio.now) c.args.gpio.now ++ counted (length c.args.fb.now) c.args.fb.now)
+    (room c.lay_memory-second.ensures (counted (length c.args.sram.now) c.args.sram.now
     ++ (counted (length c.args.gpio.now) c.args.gpio.now ++ counted (length c.args.fb.now) c.args.fb.now)) c.requires)
 
 -- src/writers.rt:145:9
 pub lay_memory-fourth-requires : goal.lay_memory-fourth-requires
 unfolding memory_sections
 lay_memory-fourth-requires c =
-    first_of _ _ (counted (length c.args.gpio.now) c.args.gpio.now) (counted (length c.args.fb.now) c.args.fb.now) (room c.lay_memory-third.ensures (counted (length c.args.gpio.now) c.args.gpio.now ++ counted (length c.args.fb.now) c.args.fb.now)
+    first_of _ _ (counted (length c.args.gpio.now) c.args.gpio.now) (counted (length c.args.fb.now) c.args.fb.now)
+    (room c.lay_memory-third.ensures (counted (length c.args.gpio.now) c.args.gpio.now ++ counted
+    (length c.args.fb.now) c.args.fb.now)
     (room c.lay_memory-second.ensures (counted (length c.args.sram.now) c.args.sram.now ++
     (counted (length c.args.gpio.now) c.args.gpio.now ++ counted (length c.args.fb.now) c.args.fb.now)) c.requires))
 
@@ -30,17 +35,21 @@ lay_memory-fourth-requires c =
 pub lay_memory-requires : goal.lay_memory-requires
 unfolding memory_sections
 lay_memory-requires c =
-    room c.lay_memory-fourth.ensures (counted (length c.args.fb.now) c.args.fb.now) (room c.lay_memory-third.ensures (counted (length c.args.gpio.now) c.args.gpio.now ++ counted
+    room c.lay_memory-fourth.ensures (counted (length c.args.fb.now) c.args.fb.now)
+    (room c.lay_memory-third.ensures (counted (length c.args.gpio.now) c.args.gpio.now ++ counted
     (length c.args.fb.now) c.args.fb.now) (room c.lay_memory-second.ensures (counted (length
-    c.args.sram.now) c.args.sram.now ++ (counted (length c.args.gpio.now) c.args.gpio.now ++ counted (length c.args.fb.now) c.args.fb.now)) c.requires))
+    c.args.sram.now) c.args.sram.now ++ (counted (length c.args.gpio.now) c.args.gpio.now ++ counted
+    (length c.args.fb.now) c.args.fb.now)) c.requires))
 
 -- src/writers.rt:131:1
 pub shape_of-out : goal.shape_of-out
 shape_of-out c =
-    laid_length (then c.lay_memory-second.ensures (then c.lay_memory-third.ensures (then c.lay_memory-fourth.ensures c.lay_memory.ensures)))
+    laid_length (then c.lay_memory-second.ensures (then c.lay_memory-third.ensures
+    (then c.lay_memory-fourth.ensures c.lay_memory.ensures)))
 
 -- src/writers.rt:131:1
 pub returns : goal.returns
 unfolding memory_sections
 returns c =
-    then c.lay_memory-second.ensures (then c.lay_memory-third.ensures (then c.lay_memory-fourth.ensures c.lay_memory.ensures))
+    then c.lay_memory-second.ensures (then c.lay_memory-third.ensures
+    (then c.lay_memory-fourth.ensures c.lay_memory.ensures))

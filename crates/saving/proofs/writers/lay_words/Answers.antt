@@ -12,14 +12,17 @@ put-own-requires c = head_room _ _ _ _ c.requires.0
 pub lay_slots-others-requires : goal.lay_slots-others-requires
 unfolding words_section
 lay_slots-others-requires c =
-    first_of _ _ (slot_bytes c.args.slots.now) (other_bytes c.args.addresses.now c.args.values.now c.args.n) (room c.put-own.ensures (slot_bytes c.args.slots.now ++ other_bytes
+    first_of _ _ (slot_bytes c.args.slots.now) (other_bytes c.args.addresses.now c.args.values.now c.args.n)
+    (room c.put-own.ensures (slot_bytes c.args.slots.now ++ other_bytes
     c.args.addresses.now c.args.values.now c.args.n) c.requires.0)
 
 -- src/writers.rt:41:5
 pub lay_others-requires : goal.lay_others-requires
 unfolding words_section
 lay_others-requires c = (
-  room c.lay_slots-others.ensures (other_bytes c.args.addresses.now c.args.values.now c.args.n) (room c.put-own.ensures (slot_bytes c.args.slots.now ++ other_bytes c.args.addresses.now c.args.values.now c.args.n) c.requires.0),
+  room c.lay_slots-others.ensures (other_bytes c.args.addresses.now c.args.values.now c.args.n)
+      (room c.put-own.ensures (slot_bytes c.args.slots.now ++ other_bytes c.args.addresses.now c.args.values.now
+      c.args.n) c.requires.0),
   c.requires.1,
 )
 

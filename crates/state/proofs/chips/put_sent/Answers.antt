@@ -4,4 +4,5 @@ use Rattle.state.proofs.chips.put_sent.Goals as goal
 
 pub returns : goal.returns
 returns c =
-    λ f. sent_put_lem c.args.cells.now c.cells_long.ensures f c.args.rx c.args.tx _ c.flag.ensures (search rules) (search rules) (search rules) (search rules) (search rules)
+    λ f. sent_put_lem c.args.cells.now c.cells_long.ensures f c.args.rx c.args.tx _ c.flag.ensures (search rules)
+    (search rules) (search rules) (search rules) (search rules)

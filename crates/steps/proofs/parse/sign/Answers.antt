@@ -12,4 +12,8 @@ returns-in-45 c = rw c.in-45.is
 
 pub returns-in_default : goal.returns-in_default
 unfolding sign_of
-returns-in_default c = simp (ne_eqb _ _ c.in_default.rest.0.1, ne_eqb _ _ c.in_default.rest.1)
+returns-in_default c = simp (
+  ne_eqb _ _ c.in_default.in_default-own.rest.0.1,
+  ne_eqb _ _
+      c.in_default.in_default-own.rest.1,
+)

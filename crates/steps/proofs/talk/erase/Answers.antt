@@ -4,4 +4,7 @@ use Rattle.steps.proofs.talk.erase.Goals as goal
 
 pub returns : goal.returns
 unfolding erased_array
-returns c = (refl, refl)
+returns c = record {
+  array = refl;
+  size = refl;
+}

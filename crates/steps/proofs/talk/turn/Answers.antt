@@ -1,4 +1,4 @@
-use Rattle.std.proofs.Common.{◌-◌, ◌<◌, ◌≤◌, length, get_or, take, sym, refl, ◌∙◌, arith, length-take-le}
+use Rattle.std.proofs.Common.{◌<◌, ◌≤◌, length, get_or, take, sym, refl, ◌∙◌, arith, length-take-le}
 use Rattle.steps.specs.Machine.{world}
 use Rattle.steps.proofs.Runs.{spare_within, room_on, go_on, no_more}
 use Rattle.steps.proofs.talk.turn.Goals as goal
@@ -47,8 +47,8 @@ loop-i-preserved c =
     ) in (
       i.0,
       omega arith,
-      at_feed.auto.1.1.0 ∙ i.2,
-      at_spell.auto.0 ∙ i.3,
+      at_feed.auto.array ∙ i.2,
+      at_spell.auto.out ∙ i.3,
       omega (
         arith,
         i.4,
@@ -72,4 +72,7 @@ returns c =
     let at_args = c.args in
     let i = at_loop.invariant in
     let n : at_loop.put ≤ length at_loop.out = omega (arith, i.3, i.4) in
-    ((n, sym (length-take-le _ _ n)), no_more _ at_args.chunk.now at_loop.i (omega arith) i.5)
+    record {
+      prefix_len = (n, sym (length-take-le _ _ n));
+      array_after = no_more _ at_args.chunk.now at_loop.i (omega arith) i.5;
+    }

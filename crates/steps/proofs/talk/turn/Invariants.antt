@@ -10,7 +10,8 @@ invariant-loop-i l =
     × (length l.array ≡ length l.initial.array)
     × (length l.out ≡ length l.initial.out)
     × (l.put + 3 * (length l.chunk - l.i) + spare l.s.over ≤ length l.initial.out)
-    × (joined (take l.put l.out) (after_bytes (world l.s l.page l.array) (drop l.i l.chunk)) ≡ after_bytes (world l.initial.s l.initial.page l.initial.array)
+    × (joined (take l.put l.out) (after_bytes (world l.s l.page l.array) (drop l.i l.chunk)) ≡ after_bytes
+    (world l.initial.s l.initial.page l.initial.array)
     l.chunk)
 
 abbrev pub decreases-loop-i : goal.decreases-loop-i

@@ -1,4 +1,4 @@
-use Rattle.std.proofs.Common.{◌-◌, ◌≤◌, length, refl, ◌∙◌, arith, length-take-le, take_all}
+use Rattle.std.proofs.Common.{◌≤◌, length, refl, ◌∙◌, arith, length-take-le, take_all}
 use Rattle.steps.proofs.Texts.{put_none, put_more, as_text}
 use Rattle.steps.proofs.text.append.Goals as goal
 
@@ -30,7 +30,7 @@ loop-i-preserved c =
     let i = at_loop.invariant in (
       i.0,
       omega arith,
-      at_put.auto.0 ∙ i.2,
+      at_put.auto.out ∙ i.2,
       put_more at_args.text.now at_loop.i (omega arith) i.3
           at_put.ensures,
     )

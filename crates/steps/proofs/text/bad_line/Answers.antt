@@ -12,8 +12,8 @@ put-requires c =
       arith,
       at_append.ensures.next,
       field_end at_args.number at_field.ensures,
-      at_append.auto.0,
-      at_field.auto.0,
+      at_append.auto.out,
+      at_field.auto.out,
     )
 
 pub returns : goal.returns

@@ -1,4 +1,4 @@
-use Rattle.std.proofs.Common.{◌-◌, eqb, get_or, refl, arith}
+use Rattle.std.proofs.Common.{eqb, get_or, refl, arith}
 use Rattle.steps.proofs.Texts.{light, count_on, count_all}
 use Rattle.steps.proofs.text.count.Goals as goal
 

@@ -10,10 +10,10 @@ append-requires c =
     omega (
       arith,
       at_put.ensures.next,
-      at_decimal.ensures.0.1,
+      at_decimal.ensures.in_bounds.1,
       twenty at_args.n at_decimal.result
-          (search rules) at_decimal.ensures.1.0,
-      at_put.auto.0,
+          (search rules) at_decimal.ensures.len,
+      at_put.auto.out,
     )
 
 pub returns : goal.returns
@@ -22,6 +22,6 @@ returns c =
     let at_decimal = c.decimal-k in
     let at_put = c.put-next in
     let at_append = c.append in
-    as_text (field_text at_args.n at_decimal.result (search rules) at_decimal.ensures.1.0
-    at_decimal.ensures.1.1)
+    as_text (field_text at_args.n at_decimal.result (search rules) at_decimal.ensures.len
+    at_decimal.ensures.digits)
     (chain at_put.ensures at_append.ensures)

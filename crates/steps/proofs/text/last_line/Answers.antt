@@ -10,8 +10,8 @@ field-writes-requires c =
       arith,
       at_append.ensures.next,
       field_end _ at_field.ensures,
-      at_append.auto.0,
-      at_field.auto.0,
+      at_append.auto.out,
+      at_field.auto.out,
     )
 
 pub field-whole-requires : goal.field-whole-requires
@@ -24,16 +24,15 @@ field-whole-requires c =
       at_append.ensures.next,
       field_end _ at_field.ensures,
       field_end _ at_field2.ensures,
-      at_append.auto.0,
-      at_field.auto.0,
-      at_field2.auto.0,
+      at_append.auto.out,
+      at_field.auto.out,
+      at_field2.auto.out,
     )
 
 pub put-requires : goal.put-requires
 put-requires c =
     let at_append = c.append-word in
-    let at_field = c.field-wel
-    in
+    let at_field = c.field-wel in
     let at_field2 = c.field-writes in
     let at_field3 = c.field-whole in
     omega (
@@ -43,10 +42,10 @@ put-requires c =
       field_end _ at_field2.ensures,
       field_end
           _ at_field3.ensures,
-      at_append.auto.0,
-      at_field.auto.0,
-      at_field2.auto.0,
-      at_field3.auto.0,
+      at_append.auto.out,
+      at_field.auto.out,
+      at_field2.auto.out,
+      at_field3.auto.out,
     )
 
 pub returns : goal.returns

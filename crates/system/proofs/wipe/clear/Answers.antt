@@ -1,4 +1,5 @@
-use Rattle.std.proofs.Common.{◌≡◌, refl, ◌∙◌, append-nil, ◌-◌, ◌<◌, arith, le_refl, length, length-set, drop_of_length-le}
+use Rattle.std.proofs.Common.{◌≡◌, refl, ◌∙◌, append-nil, ◌-◌, ◌<◌, arith, le_refl, length, length-set}
+use Rattle.std.proofs.Common.{drop_of_length-le}
 use borrow.Author.Fill.{fill_more}
 use Rattle.system.proofs.wipe.clear.Goals as goal
 

@@ -5,8 +5,11 @@ use Rattle.time.proofs.advancing.adc_advance.Goals as goal
 
 pub returns-then-not-converting : goal.returns-then-not-converting
 returns-then-not-converting c f =
-    let a = c.args in
-    (adc_stays a.slots.now (parts_in a.cells.now f) c.converting_of-converting.ensures (ap not c.if-not-converting.true), λ k. k)
+    let a = c.args in (
+      adc_stays a.slots.now (parts_in a.cells.now f) c.converting_of-converting.ensures
+          (ap not c.if-not-converting.true),
+      λ k. k,
+    )
 
 pub returns : goal.returns
 returns c f =

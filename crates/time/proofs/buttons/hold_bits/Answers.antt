@@ -5,4 +5,5 @@ use Rattle.time.proofs.buttons.hold_bits.Goals as goal
 
 pub returns : goal.returns
 returns c =
-    hold_of_lem (parts_in c.args.cells.now c.args.floats.now) c.args.key (of_bits binary64 c.args.bits) c.check_hold_bits.ensures (c.hold.ensures c.args.cells.now)
+    hold_of_lem (parts_in c.args.cells.now c.args.floats.now) c.args.key (of_bits binary64 c.args.bits)
+    c.check_hold_bits.ensures (c.hold.ensures c.args.cells.now)

@@ -4,4 +4,5 @@ use Rattle.time.proofs.buttons.hold_until.Goals as goal
 
 pub returns : goal.returns
 returns c =
-    hold_of_lem (parts_in c.args.cells.now c.args.floats.now) c.args.key c.args.until c.check_hold.ensures (c.hold.ensures c.args.cells.now)
+    hold_of_lem (parts_in c.args.cells.now c.args.floats.now) c.args.key c.args.until c.check_hold.ensures
+    (c.hold.ensures c.args.cells.now)

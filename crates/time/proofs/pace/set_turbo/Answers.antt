@@ -9,4 +9,5 @@ pace-requires c =
 pub returns : goal.returns
 returns c =
     λ l.
-    paced_of_lem (parts_in l c.args.floats.now) c.args.floats.now c.args.to c.times_of-times.ensures c.set_turbo-paced.ensures (c.pace.ensures l)
+    paced_of_lem (parts_in l c.args.floats.now) c.args.floats.now c.args.to c.times_of-times.ensures
+    c.set_turbo-paced.ensures (c.pace.ensures l)

@@ -1,8 +1,7 @@
-use Rattle.std.proofs.Common.{◌≡◌, ◌<◌, ◌≤◌, ◌+◌, ℕ, List, length, refl, ap, ◌∙◌, arith, set, add-one}
+use Rattle.std.proofs.Common.{◌≡◌, ◌<◌, ◌≤◌, ◌+◌, ℕ, List, length, ap, ◌∙◌, arith, set, add-one}
 use Rattle.timer.specs.declared.Event.{Event}
 use Rattle.timer.specs.declared.Queue.{Queue}
 use Rattle.timer.specs.Events.{queue_of, event_of, fit_of}
-use Rattle.timer.specs.Inner.{lay_outcome}
 use Rattle.timer.proofs.Laid.{over, over_none, over_laid, fits}
 use Rattle.timer.proofs.events.lay_into.Goals as goal
 
@@ -17,9 +16,11 @@ unfolding over
 more q ys zs i is told = rw (add-one i, is, told)
 
 -- as many as fit are all
-all : (q : Queue) (ys zs : List Event) (i n : ℕ) → i ≤ n → n ≤ i → n ≡ fit_of q.ring.count (length ys) → zs ≡ over q ys i
+all : (q : Queue) (ys zs : List Event) (i n : ℕ) → i ≤ n → n ≤ i → n ≡ fit_of q.ring.count (length ys) → zs ≡ over q
+    ys i
     → zs ≡ over q ys (fit_of q.ring.count (length ys))
-all q ys zs i n most least is laid = let same : i ≡ fit_of q.ring.count (length ys) = omega arith in laid ∙ ap (over q ys) same
+all q ys zs i n most least is laid = let same : i ≡ fit_of q.ring.count (length ys) = omega arith in laid ∙ ap
+    (over q ys) same
 
 pub loop-i-init : goal.loop-i-init
 loop-i-init c = record {
@@ -30,7 +31,8 @@ loop-i-init c = record {
 
 pub offset_bounds-records-i : goal.offset_bounds-records-i
 offset_bounds-records-i c =
-    let less : c.loop-i.i < length c.loop-i.records = below _ _ _ _ _ c.loop-i-test.true c.loop-i.invariant.counted c.loop-i.auto.records in
+    let less : c.loop-i.i < length c.loop-i.records = below _ _ _ _ _ c.loop-i-test.true c.loop-i.invariant.counted
+    c.loop-i.auto.records in
     omega arith
 
 pub bounds-records-i : goal.bounds-records-i
