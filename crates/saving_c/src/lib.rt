@@ -30,8 +30,9 @@ pub extern "C" fn tg18_lent_save(
     out: &mut [u8],
     written: &mut [u64; 1],
 ) -> u32
-    ensures { saved result (get_or written.new 0 0) out.new ≡ save_of (machine_of slots.now addresses.now
-        values.now rtc.now page.now onsets.now frequencies.now duties.now starts.now codes.now (parts_in
+    ensures { saved result (get_or written.new 0 0) out.new ≡ save_of
+        (machine_of slots.now addresses.now values.now rtc.now page.now onsets.now frequencies.now
+        duties.now starts.now codes.now (parts_in
         cells.now floats.now) ram.now sram.now gpio.now fb.now) out.old }
 {
     saving::units::tg18_lent_save(
