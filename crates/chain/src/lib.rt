@@ -1,6 +1,7 @@
-// A script from where a unit stands, so that a session can be a chain of scripts. The entry for C.
+// A script from where a unit stands, so that a session can be a chain of scripts. Crate chain_c has the entry
+// for C.
 //
-// It has an archive of its own: with a second caller in the same archive the runner would not be compiled into the
+// That has an archive of its own: with a second caller in the same archive the runner would not be compiled into the
 // entry, and each step would cost two to three times as much.
 #![tactic(auto)]
 

@@ -9,8 +9,8 @@ ghost use Rattle.live.specs.Inner.{Kept};
 use state::Cells;
 use timer::{Batch, Event};
 
-// `tg18_lent_take_events` is proved by hand, as records are structs behind a reference; what needs none of them is
-// done apart. Where none was taken nothing is put, so that not even a ring that no run leaves changes.
+// What needs no records is done apart. Where none was taken nothing is put, so that not even a ring that no run leaves
+// changes.
 fn keep(cells: &mut Cells, batch: Batch) -> usize
     ensures { Kept cells.old cells.new batch result }
 {

@@ -1,5 +1,4 @@
--- The numbers that 01 and the Rust name, as the definitions use them: those of src/lib.rt, a name for a name, with a
--- hyphen for an underscore.
+-- The numbers that 01 and the Rust name, as the definitions use them: those of src/lib.rt, a name for a name.
 use Rattle.std.specs.Prelude.{ℕ, ◌+◌, ◌-◌}
 
 -- ---- memories, and the screen that the framebuffer holds

@@ -5,9 +5,9 @@
 // and with them the numbers of the C header, of the desk and of the oracle. It reads a line each, which ends in a
 // number, in another name, or in names and numbers with + between them.
 
-// ---- memories, and the screen that the framebuffer holds
-
 #![tactic(auto)]
+
+// ---- memories, and the screen that the framebuffer holds
 
 pub const FLASH_BASE: u32 = 0x2000_0000;
 

@@ -1,5 +1,5 @@
-// A unit's session written as bytes (W-201): a function for C, over what live calls are lent. Crate session says what
-// the bytes are.
+// A unit's session written as bytes (W-201), over what live calls are lent. Crate session says what the bytes are, and
+// crate saving_c has the entry for C.
 #![tactic(auto)]
 
 mod copies;

@@ -1,4 +1,4 @@
-// Scripts for hosts: the entry for C over the four memories of a unit. 01, Scripts.
+// Scripts for hosts, over the four memories of a unit; crate script_c has the entry for C. 01, Scripts.
 //
 // A Rattle caller whose memories have other lengths calls runner::loops::run_script: the same but for refusal 7.
 #![tactic(auto)]

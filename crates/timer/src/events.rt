@@ -179,7 +179,7 @@ fn lay_into<'a, 'b>(
     count
 }
 
-// `take_into` is proved by hand, as records are structs behind a reference; what needs none of them is done apart.
+// What needs no records is done apart from `take_into`.
 fn drop_batch(
     onsets: &mut [f64; 256],
     frequencies: &mut [f64; 256],
