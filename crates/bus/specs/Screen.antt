@@ -35,7 +35,7 @@ act_result r ram sram gpio t val =
     (cond (eqb (bit_and val 0xF0) 0xA0) (copied r.slots (fed_word t (has val 0x2000) (own_at r.slots LCD_DATA)))
     (cond (eqb (bit_and val 0xF0) 0xD0) (dma_done r ram sram gpio t) (copied r.slots t)))
 
--- `val & !1`, once it has act_result
+-- `val & !1`, once it has acted
 abbrev pub quieted : Copied → ℕ → Copied
 quieted c val = copied (own_with c.slots LCD_CONTROL (bit_and val 0xFFFFFFFE)) c.screen
 
