@@ -5,7 +5,7 @@ ghost use Rattle.state.specs.Bank.{parts_in};
 ghost use Rattle.state.specs.Packed.{Answered};
 ghost use Rattle.system.specs.Bank.{machine_of};
 ghost use Rattle.system.specs.Steps as steps;
-ghost use Rattle.system.specs.Steps.{words, plainly, floats as inFloats, step};
+ghost use Rattle.system.specs.Steps.{words, plainly, floats as in_floats, step};
 ghost use Rattle.live.specs.Live.{only, only_time, called, tod_of, ticks_of, alarm_seen, alarm_of};
 
 use crate::{BAD_MEMORY, one};
@@ -56,7 +56,7 @@ pub extern "C" fn tg18_lent_next_event(
     at: &mut [f64; 1],
 ) -> u32
     ensures { (addresses values rtc page : List ℕ) (onsets frequencies duties : List Float) (codes : List ℕ) →
-        inFloats (machine_of slots.now addresses values rtc page onsets frequencies duties
+        in_floats (machine_of slots.now addresses values rtc page onsets frequencies duties
         starts.now codes (parts_in cells.now floats.now) ram.now
         sram.now gpio.now fb.now) result (only_time at.new) nought nought
         ≡ called (machine_of slots.now addresses values rtc page onsets frequencies duties

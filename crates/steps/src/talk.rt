@@ -52,8 +52,8 @@ fn turn(
 }
 
 // Takes what is there, with one read, and writes every answer to it before the next read: a partner that waits for an
-// answer has it. A read that fails is the end of the input, since a bad line alone ends a session without its last
-// line. What 4,096 bytes can say fits into `out`.
+// answer has it, where the writer keeps nothing back, as standard output does. A read that fails is the end of the
+// input, since a bad line alone ends a session without its last line. What 4,096 bytes can say fits into `out`.
 fn listen<R: Read, W: Write>(
     input: &mut R,
     output: &mut W,
