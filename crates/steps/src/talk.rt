@@ -156,8 +156,8 @@ fn begin(chip: Chip) -> Session
     }
 }
 
-// A whole session, with a chip made in that mode over 65,536 bytes of FF. No contract can say what is read or written,
-// so this one says that the answer is where a run on some input ends; what a run prints is `whole_run` of
+// A whole session, with a chip made in that mode over 65,536 bytes of FF. The contract says no more of what is read
+// and written than that the answer is where a run on some input ends; what a run prints is `whole_run` of
 // specs/Machine.antt, and `prints` of specs/Lines.antt says the same by lines. Once a write fails nothing more is
 // written.
 pub fn serve<R: Read, W: Write>(mode: Mode, input: &mut R, output: &mut W) -> Session
