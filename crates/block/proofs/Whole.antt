@@ -1,14 +1,17 @@
 -- A block that lies whole in one memory is a part of it.
-use Rattle.std.proofs.Common.{◌≡◌, ℕ, zero, suc, ◌+◌, ◌-◌, ◌%◌, ◌^◌, ◌<◌, ◌≤◌, Bool, true, false, cond, ◌&&◌, leb}
+use Rattle.std.proofs.Common.{◌≡◌, ℕ, zero, suc, ◌+◌, ◌-◌, ◌%◌, ◌^◌, ◌<◌, ◌≤◌, Bool, true, false, ◌&&◌, leb}
 use Rattle.std.proofs.Common.{List, ◌∷◌, length, get_or, take, drop, sym, refl, ap, ◌∙◌, add-zero, mod-eq_of_lt}
 use Rattle.std.proofs.Common.{arith, drop-cons, le-leb, leb-true}
+use Rattle.std.proofs.Common.{Option, Some, None, MatchOption, subst, Bor}
+use Rattle.std.specs.Option.{option_or}
 use borrow.Author.Tests.{lt-leb}
 use Rattle.map.specs.Numbers.{FLASH_BASE, RAM_SIZE, SRAM_BASE, SRAM_SIZE, GPIO_BASE, GPIO_SIZE}
 use Rattle.whole.proofs.Choice.{both}
 use Rattle.registers.specs.declared.Registers.{Registers}
 use Rattle.memory.specs.declared.Place.TheVariants.{Ram, Sram, Gpio}
 use Rattle.memory.specs.Places.{within, place_of}
-use Rattle.block.specs.Block.{peek_of, peek_on, table, block_of, lies_in, run_of}
+use Rattle.block.proofs.Table.{table_long}
+use Rattle.block.specs.Block.{peek_of, peek_on, table, block_of, lies_in}
 
 -- ---- a table of a list's elements
 
@@ -60,6 +63,16 @@ lies first size len a n e =
     let q = both (leb (a - first + n) size) (leb (a - first + n) len) p.1 in
     record { low = leb-true _ _ p.0; high = leb-true _ _ q.0; long = leb-true _ _ q.1 }
 
+module _ (first size len a n : ℕ) where
+  pub lies_before : (first ≤ a → ⊥) → lies_in first size len a n ≡ false
+  unfolding lies_in
+  lies_before h = let less : a < first = omega arith in rw (lt-leb _ _ less)
+
+  pub lies_from : (at : ℕ) {p q b : Bool} → (first ≤ a) × (at ≡ a - first) → p ≡ leb (at + n) size
+      → q ≡ leb (at + n) len → (p && q) ≡ b → lies_in first size len a n ≡ b
+  unfolding lies_in
+  lies_from at h i j k = rw (le-leb _ _ h.0, ← h.1, ← i, ← j) k
+
 -- ---- the three memories
 
 peek_ram : (r : Registers) (ram sram gpio : List ℕ) (a : ℕ) → FLASH_BASE ≤ a → a ≤ FLASH_BASE + RAM_SIZE - 1
@@ -97,66 +110,53 @@ module _ (r : Registers) (ram sram gpio l : List ℕ) (first size : ℕ) (top : 
       (omega (arith, w.long))
       ∙ ap (λ (y : ℕ). take n (drop y l)) (add-zero (a - first))
 
--- ---- what the run says
-
-abbrev in_ram : List ℕ → ℕ → ℕ → Bool
-in_ram ram a n = lies_in FLASH_BASE RAM_SIZE (length ram) a n
-
-abbrev in_sram : List ℕ → ℕ → ℕ → Bool
-in_sram sram a n = lies_in SRAM_BASE SRAM_SIZE (length sram) a n
-
-abbrev in_gpio : List ℕ → ℕ → ℕ → Bool
-in_gpio gpio a n = lies_in GPIO_BASE GPIO_SIZE (length gpio) a n
-
-one : (x y z : Bool) → ◌≡◌ {A = ℕ} (cond x 1 (cond y 2 (cond z 3 0))) 1 → x ≡ true
-one true y z e = refl
-one false true z e = absurd (omega arith)
-one false false true e = absurd (omega arith)
-one false false false e = absurd (omega arith)
-
-two : (x y z : Bool) → ◌≡◌ {A = ℕ} (cond x 1 (cond y 2 (cond z 3 0))) 2 → y ≡ true
-two true y z e = absurd (omega arith)
-two false true z e = refl
-two false false true e = absurd (omega arith)
-two false false false e = absurd (omega arith)
-
-three : (x y z : Bool) → ◌≡◌ {A = ℕ} (cond x 1 (cond y 2 (cond z 3 0))) 3 → z ≡ true
-three true y z e = absurd (omega arith)
-three false true z e = absurd (omega arith)
-three false false true e = refl
-three false false false e = absurd (omega arith)
-
-module _ (ram sram gpio : List ℕ) (a n : ℕ) {k : ℕ} (e : k ≡ run_of (length ram) (length sram) (length gpio) a n) where
-  pub run_ram : k ≡ 1 → Lies FLASH_BASE RAM_SIZE (length ram) a n
-  unfolding run_of
-  run_ram h = lies _ _ _ a n (one (in_ram ram a n) (in_sram sram a n) (in_gpio gpio a n) (sym e ∙ h))
-
-  pub run_sram : k ≡ 2 → Lies SRAM_BASE SRAM_SIZE (length sram) a n
-  unfolding run_of
-  run_sram h = lies _ _ _ a n (two (in_ram ram a n) (in_sram sram a n) (in_gpio gpio a n) (sym e ∙ h))
-
-  pub run_gpio : k ≡ 3 → Lies GPIO_BASE GPIO_SIZE (length gpio) a n
-  unfolding run_of
-  run_gpio h = lies _ _ _ a n (three (in_ram ram a n) (in_sram sram a n) (in_gpio gpio a n) (sym e ∙ h))
-
-module _ (r : Registers) (ram sram gpio : List ℕ) (a n : ℕ) {o : ℕ} {l : List ℕ} where
-  pub laid_ram : Lies FLASH_BASE RAM_SIZE (length ram) a n → o ≡ a - FLASH_BASE → l ≡ take n (drop o ram)
+module _ (r : Registers) (ram sram gpio : List ℕ) (a n : ℕ) {l : List ℕ} where
+  laid_ram : (lies_in FLASH_BASE RAM_SIZE (length ram) a n ≡ true) × (l ≡ take n (drop (a - FLASH_BASE) ram))
       → l ≡ block_of r ram sram gpio a n
-  laid_ram w i h =
-      h ∙ ap (λ (y : ℕ). take n (drop y ram)) i
+  laid_ram h =
+      h.1
       ∙ sym (block_part r ram sram gpio ram FLASH_BASE RAM_SIZE (omega arith)
-      (λ x b c. peek_ram r ram sram gpio x b (omega arith)) a n w)
+      (λ x b c. peek_ram r ram sram gpio x b (omega arith)) a n (lies _ _ _ a n h.0))
 
-  pub laid_sram : Lies SRAM_BASE SRAM_SIZE (length sram) a n → o ≡ a - SRAM_BASE → l ≡ take n (drop o sram)
+  laid_sram : (lies_in SRAM_BASE SRAM_SIZE (length sram) a n ≡ true) × (l ≡ take n (drop (a - SRAM_BASE) sram))
       → l ≡ block_of r ram sram gpio a n
-  laid_sram w i h =
-      h ∙ ap (λ (y : ℕ). take n (drop y sram)) i
+  laid_sram h =
+      h.1
       ∙ sym (block_part r ram sram gpio sram SRAM_BASE SRAM_SIZE (omega arith)
-      (λ x b c. peek_sram r ram sram gpio x b (omega arith)) a n w)
+      (λ x b c. peek_sram r ram sram gpio x b (omega arith)) a n (lies _ _ _ a n h.0))
 
-  pub laid_gpio : Lies GPIO_BASE GPIO_SIZE (length gpio) a n → o ≡ a - GPIO_BASE → l ≡ take n (drop o gpio)
+  laid_gpio : (lies_in GPIO_BASE GPIO_SIZE (length gpio) a n ≡ true) × (l ≡ take n (drop (a - GPIO_BASE) gpio))
       → l ≡ block_of r ram sram gpio a n
-  laid_gpio w i h =
-      h ∙ ap (λ (y : ℕ). take n (drop y gpio)) i
+  laid_gpio h =
+      h.1
       ∙ sym (block_part r ram sram gpio gpio GPIO_BASE GPIO_SIZE (omega arith)
-      (λ x b c. peek_gpio r ram sram gpio x b (omega arith)) a n w)
+      (λ x b c. peek_gpio r ram sram gpio x b (omega arith)) a n (lies _ _ _ a n h.0))
+
+-- the first of three that is there
+first_found : {B : Type 0} (p q t : Type 0) (F G H W : B → Type 0) (a b c : Option B) (x : B)
+    → MatchOption a p F → MatchOption b q G → MatchOption c t H
+    → ((s : B) → F s → W s) → ((s : B) → G s → W s) → ((s : B) → H s → W s)
+    → option_or (option_or a b) c ≡ Some x → W x
+first_found p q t F G H W (Some s) b c x f g h k l m e = let same : s ≡ x = cc in subst W same (k s f)
+first_found p q t F G H W None (Some s) c x f g h k l m e = let same : s ≡ x = cc in subst W same (l s g)
+first_found p q t F G H W None None (Some s) x f g h k l m e = let same : s ≡ x = cc in subst W same (m s h)
+first_found p q t F G H W None None None x f g h k l m e = cc
+
+module _ (r : Registers) (ram sram gpio : List ℕ) (a n : ℕ) where
+  pub block_long : length (block_of r ram sram gpio a n) ≡ n
+  unfolding block_of
+  block_long = table_long _ 0 n
+
+  abbrev pub Part : List ℕ → ℕ → ℕ → Option (Bor (List ℕ)) → Type 0
+  Part m first size o =
+      MatchOption o (lies_in first size (length m) a n ≡ false)
+      (λ s. (lies_in first size (length m) a n ≡ true) × (s.now ≡ take n (drop (a - first) m)))
+
+  pub found : (x y z u w : Option (Bor (List ℕ))) (b : Bor (List ℕ)) → Part ram FLASH_BASE RAM_SIZE x
+      → Part sram SRAM_BASE SRAM_SIZE y → Part gpio GPIO_BASE GPIO_SIZE z
+      → u ≡ option_or x y → w ≡ option_or u z → w ≡ Some b → b.now ≡ block_of r ram sram gpio a n
+  found x y z u w b f g h i j k =
+      let first : option_or (option_or x y) z ≡ Some b = rw (← i, ← j) k in
+      first_found _ _ _ _ _ _ (λ s. s.now ≡ block_of r ram sram gpio a n) x y z b f g h
+      (λ s v. laid_ram r ram sram gpio a n v) (λ s v. laid_sram r ram sram gpio a n v)
+      (λ s v. laid_gpio r ram sram gpio a n v) first

@@ -1,14 +1,18 @@
 -- Bytes of the bus without side effects: peek8, peek32, read_block; and poke.
-use Rattle.std.specs.Prelude.{ℕ, zero, suc, ◌+◌, ◌-◌, ◌*◌, ◌%◌, ◌^◌, Bool, false, cond, ◌&&◌, List, [], ◌∷◌, length}
+use Rattle.std.specs.Prelude.{ℕ, zero, suc, ◌+◌, ◌-◌, ◌*◌, ◌%◌, ◌^◌, Bool, false, ◌&&◌, List, [], ◌∷◌, length}
 use Rattle.std.specs.Prelude.{nat_le, slice_index}
-use Rattle.map.specs.Numbers.{FLASH_BASE, RAM_SIZE, SRAM_BASE, SRAM_SIZE, GPIO_BASE, GPIO_SIZE}
 use Rattle.registers.specs.declared.Registers.{Registers}
-use Rattle.registers.specs.Words.{word_at}
+use Rattle.registers.specs.Words.{registers_of, word_at}
+use Rattle.block.specs.declared.Seen.{Seen}
 use Rattle.memory.specs.declared.Place.{Place}
 use Rattle.memory.specs.declared.Place.TheVariants.{Ram, Sram, Gpio, Register, Stray}
 use Rattle.memory.specs.Places.{place_of}
 use Rattle.memory.specs.Bytes.{stored_at}
 use Rattle.memory.specs.Access.{cut_of}
+
+-- the registers that are seen
+abbrev pub held_in : Seen → Registers
+held_in s = registers_of s.slots.now s.addresses.now s.values.now
 
 -- the memory byte, the stored register byte or 0
 abbrev pub peek_at : Place → Registers → List ℕ → List ℕ → List ℕ → ℕ → ℕ
@@ -44,12 +48,6 @@ block_of r ram sram gpio a n = table (λ i. peek_on r ram sram gpio a i) 0 n
 -- whether they lie in a memory of so many addresses from the first on, and of this length
 unfoldable pub lies_in : ℕ → ℕ → ℕ → ℕ → ℕ → Bool
 lies_in first size len a n = nat_le first a && (nat_le (a - first + n) size && nat_le (a - first + n) len)
-
--- in which, by the lengths of RAM, SRAM and GPIO: 1, 2 or 3, or 0 in none
-unfoldable pub run_of : ℕ → ℕ → ℕ → ℕ → ℕ → ℕ
-run_of ram sram gpio a n =
-    cond (lies_in FLASH_BASE RAM_SIZE ram a n) 1 (cond (lies_in SRAM_BASE SRAM_SIZE sram a n) 2
-    (cond (lies_in GPIO_BASE GPIO_SIZE gpio a n) 3 0))
 
 -- whether they lie in one memory of these lengths; stray space is in pages of 64 KiB
 abbrev pub whole_at : Place → ℕ → ℕ → ℕ → ℕ → ℕ → Bool

@@ -5,12 +5,15 @@ use mathlib.Core.Path.{◌≡◌, refl, sym, ap, ◌∙◌}
 use mathlib.Core.Bool.{Bool, true, false}
 use mathlib.Core.List.{List}
 use mathlib.Core.Logic.{◌≢◌}
-use native.Mathlib.Omega.{arith}
 use lib.Ieee.{Float}
 use borrow.Author.Tests.{eq-eqb, ne_eqb}
 use lib.Bits.{bit_and, bit_xor}
 use lib.ListN.{get_or, set}
-use Rattle.map.specs.Numbers.{DONE, ADC_CONTROL, ADC_RESULT, SOUND_FULL}
+use Rattle.std.specs.Prelude.{Err, None, Ok, Some}
+use Rattle.map.specs.declared.refusals.Refusal.{Refusal}
+use Rattle.map.specs.Refusals.{code_of}
+use Rattle.whole.proofs.Answered.{code_not_done}
+use Rattle.map.specs.Numbers.{DONE, ADC_CONTROL, ADC_RESULT}
 use Rattle.registers.specs.Words.{own_at, own_with}
 use Rattle.registers.specs.declared.Effect.{Effect}
 use Rattle.registers.specs.declared.Effect.TheVariants.{TimerControl, Sound, LcdStatus, Tick, AdcControl, Power}
@@ -27,15 +30,14 @@ use Rattle.clock.specs.Day.{set_of}
 use Rattle.timer.specs.declared.Timer.{Timer}
 use Rattle.timer.specs.declared.Tone.{Tone}
 use Rattle.timer.specs.declared.Written.{Written}
-use Rattle.timer.specs.declared.Sounded.{Sounded}
-use Rattle.timer.specs.declared.Sounded.TheVariants.{Same, Change, SoundFull}
+use Rattle.timer.specs.Sound.{Sounded}
 use Rattle.timer.specs.Timers.{written_of}
 use Rattle.state.specs.declared.Devices.{Devices}
 use Rattle.state.specs.declared.Parts.{Parts}
 use Rattle.state.specs.Bank.{parts_in}
 use Rattle.state.specs.Packed.{StaysPacked}
 use Rattle.state.specs.Parts.{none, devices_put, timer_put, tone_put, irq_put, converting_put}
-use Rattle.bus.specs.declared.WriteAnswer.{WriteAnswer}
+use Rattle.bus.specs.Answers.{WriteAnswer}
 use Rattle.bus.specs.World.{OwnOut, own_out, answer}
 use Rattle.bus.specs.Sounds.{timer_set, sound_of, sounding, sound_written, timer_written}
 use Rattle.bus.specs.Words.{powered_by, spi_sent, adc_after, adc_written, day_set, word_written}
@@ -78,18 +80,18 @@ module _ (slots : List ℕ) (x : Parts) (clock : ℕ) (full : Bool) (word v : �
   here : s ≡ sound_of slots x.devices.tone clock full word v
   here = e ∙ ap (λ (z : Tone). sound_of slots z clock full word v) t
 
-  pub sound_full_lem : {r : WriteAnswer} → s ≡ SoundFull → r ≡ without_event SOUND_FULL
+  pub sound_full_lem : (n : Refusal) {r : WriteAnswer} → s ≡ Err n → r ≡ without_event (code_of n)
       → own_out slots (wrote_of r x.devices) ≡ sound_written slots x.devices x.devices clock full word v
   unfolding sound_written
-  sound_full_lem h k = rw (k, ← here, h)
+  sound_full_lem n h k = rw (k, ← here, h)
 
-  pub sound_same : {slots₁ : List ℕ} {r : WriteAnswer} → s ≡ Same → slots₁ ≡ own_with slots word v
+  pub sound_same : {slots₁ : List ℕ} {r : WriteAnswer} → s ≡ (Ok None) → slots₁ ≡ own_with slots word v
       → r ≡ without_event DONE
       → own_out slots₁ (wrote_of r x.devices) ≡ sound_written slots x.devices x.devices clock full word v
   unfolding sound_written
   sound_same h i k = rw (k, ← here, h, i)
 
-  pub sound_change : {slots₁ : List ℕ} {y : Parts} {to : Tone} → s ≡ Change to → slots₁ ≡ own_with slots word v
+  pub sound_change : {slots₁ : List ℕ} {y : Parts} {to : Tone} → s ≡ Ok (Some to) → slots₁ ≡ own_with slots word v
       → y ≡ tone_put x to
       → own_out slots₁ (record { refusal = DONE; event = true; devices = y.devices }) ≡ sound_written slots x.devices
       x.devices clock full word v
@@ -108,15 +110,15 @@ module _ (slots : List ℕ) (d : Devices) (n : ℕ) (t : Timer) (word v : ℕ) w
 
   refused_first : (x : Sounded) → (sounding x slots d d word v).wrote.refusal ≢ DONE
       → sounding x slots d d word v ≡ sounding x slots d (timer_set d n t) word v
-  refused_first SoundFull h = refl
-  refused_first Same h = absurd (h refl)
-  refused_first (Change tone) h = absurd (h refl)
+  refused_first (Err r) h = refl
+  refused_first (Ok None) h = absurd (h refl)
+  refused_first (Ok (Some tone)) h = absurd (h refl)
 
   done_first : (x : Sounded) → (sounding x slots d d word v).wrote.refusal ≡ DONE
       → timed (sounding x slots d d word v) ≡ sounding x slots d (timer_set d n t) word v
-  done_first SoundFull h = absurd (omega arith)
-  done_first Same h = refl
-  done_first (Change tone) h = refl
+  done_first (Err r) h = absurd (code_not_done r h)
+  done_first (Ok None) h = refl
+  done_first (Ok (Some tone)) h = refl
 
 -- ---- the timers' control words
 

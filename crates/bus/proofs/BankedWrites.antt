@@ -14,10 +14,9 @@ use Rattle.registers.specs.declared.Effect.{Effect}
 use Rattle.registers.specs.declared.Effect.TheVariants.{DayField}
 use Rattle.registers.specs.declared.Port.{Port}
 use Rattle.registers.specs.declared.Port.TheVariants.{Select, Send, LcdControl, RtcCommand, Acts, Other}
-use Rattle.registers.specs.declared.Refusal.{Refusal}
 use Rattle.registers.specs.declared.Spot.{Spot}
 use Rattle.registers.specs.declared.Spot.TheVariants.{Own, Never, Present, Absent}
-use Rattle.registers.specs.Words.{number_of, own_at, own_with, unstored, place, Others, others, put_present}
+use Rattle.registers.specs.Words.{own_at, own_with, unstored, place, Others, others, put_present}
 use Rattle.registers.specs.Words.{OtherOutcome}
 use Rattle.registers.specs.Words.{other_outcome}
 use Rattle.registers.specs.Ports.{slot_of, slot_word, day_word, port_of, field_of}
@@ -47,7 +46,7 @@ use Rattle.state.specs.Bank.{parts_in}
 use Rattle.state.specs.Packed.{StaysPacked, Answered}
 use Rattle.state.specs.Parts.{devices_put, sent_with, flash_put, sent_put, panel_put, latch_put, ring_put}
 use Rattle.time.specs.Clocks.{clock_in}
-use Rattle.bus.specs.declared.WriteAnswer.{WriteAnswer}
+use Rattle.bus.specs.Answers.{WriteAnswer}
 use Rattle.bus.specs.World.{World, world, Out, out, out_done, OwnOut, answer}
 use Rattle.bus.specs.Chip.{Flashed, flashed, chipped, select_written, send_written}
 use Rattle.bus.specs.Rtc.{RtcDone, rtc_done, command_written}
@@ -109,9 +108,9 @@ module _ (r : Registers) (x : Parts) (word : ℕ) (none : slot_of word ≡ 76) w
           other_put (rw (m, k, ← o, ← w) (ap (λ (z : Others). stored (registers_of r.slots z.addresses
           z.values) (answer DONE x.devices)) j))
 
-      pub other_put_absent : {t : WriteAnswer} {new : ℕ} {p q : List ℕ} (i : ℕ) (b : Refusal) → y ≡ Absent i
+      pub other_put_absent : {t : WriteAnswer} {new : ℕ} {p q : List ℕ} (i b : ℕ) → y ≡ Absent i
           → new ≡ merged_of 0 a n v
-          → other_outcome b (others p q) ≡ put_absent (others_of r) i word new → t ≡ without_event (number_of b)
+          → other_outcome b (others p q) ≡ put_absent (others_of r) i word new → t ≡ without_event b
           → stored (registers_of r.slots p q) (wrote_of t x.devices) ≡ other_written r x.devices word (merged_of
           (word_at r word) a n v)
       other_put_absent i b m w j k =

@@ -8,7 +8,10 @@ use lib.ListN.{get_or}
 use lib.Bits.{bit_and, bit_xor}
 use lib.Dec.{eqb}
 use borrow.Author.Tests.{eqb-true, eqb-false}
-use Rattle.map.specs.Numbers.{DONE, SOUND_FULL}
+use Rattle.std.specs.Prelude.{Err, None, Ok, Some}
+use Rattle.map.specs.declared.refusals.Refusal.{Refusal}
+use Rattle.map.specs.Refusals.{code_of}
+use Rattle.map.specs.Numbers.{DONE}
 use Rattle.whole.proofs.Choice.{by_cond}
 use Rattle.memory.specs.declared.Place.{Place}
 use Rattle.memory.specs.declared.Place.TheVariants.{Ram, Sram, Gpio, Register, Stray}
@@ -19,8 +22,7 @@ use Rattle.panel.specs.Entries.{screen}
 use Rattle.clock.specs.Rtc.{rtc_of}
 use Rattle.timer.specs.declared.Tone.{Tone}
 use Rattle.timer.specs.declared.Written.{Written}
-use Rattle.timer.specs.declared.Sounded.{Sounded}
-use Rattle.timer.specs.declared.Sounded.TheVariants.{Same, Change, SoundFull}
+use Rattle.timer.specs.Sound.{Sounded}
 use Rattle.timer.specs.Timers.{written_of}
 use Rattle.registers.specs.declared.Effect.{Effect}
 use Rattle.registers.specs.declared.Effect.TheVariants.{TimerControl, DayField, Sound, LcdStatus, Tick, AdcControl}
@@ -141,19 +143,19 @@ module _ (P : OwnOut → Type 0) (slots : List ℕ) (d : Devices) (clock : ℕ) 
   by_word_lem Power word old new part timer day sound lcd tick adc power spi = power
   by_word_lem SpiSend word old new part timer day sound lcd tick adc power spi = spi
 
-  pub by_sound : (next : Devices) (word v : ℕ) → (sound_of slots d.tone clock full word v ≡ SoundFull
-      → P (own_out slots (answer SOUND_FULL d)))
-      → (sound_of slots d.tone clock full word v ≡ Same → P (own_done (own_with slots word v) next))
-      → ((tone : Tone) → sound_of slots d.tone clock full word v ≡ Change tone
+  pub by_sound : (next : Devices) (word v : ℕ) → ((r : Refusal) → sound_of slots d.tone clock full word v ≡ Err r
+      → P (own_out slots (answer (code_of r) d)))
+      → (sound_of slots d.tone clock full word v ≡ (Ok None) → P (own_done (own_with slots word v) next))
+      → ((tone : Tone) → sound_of slots d.tone clock full word v ≡ Ok (Some tone)
       → P (own_out (own_with slots word v) (record { refusal = DONE; event = true; devices = with_tone next tone })))
       → P (sound_written slots d next clock full word v)
   unfolding sound_written
   by_sound next word v refused same change = go (sound_of slots d.tone clock full word v) refl
     where
       go : (x : Sounded) → sound_of slots d.tone clock full word v ≡ x → P (sounding x slots d next word v)
-      go SoundFull e = refused e
-      go Same e = same e
-      go (Change tone) e = change tone e
+      go (Err r) e = refused r e
+      go (Ok None) e = same e
+      go (Ok (Some tone)) e = change tone e
 
   -- x: what the write makes of the timer and of its control word
   pub by_timer : (n word old new : ℕ) (x : Written) → written_of (get_or d.clocks.timers n none)

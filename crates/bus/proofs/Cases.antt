@@ -38,7 +38,7 @@ use Rattle.block.specs.Block.{block_of}
 use Rattle.bus.specs.Screen.{fed_word, Copied, copied, dma_done, act_result, quieted, controlled}
 use Rattle.bus.specs.Words.{spi_sent}
 use Rattle.bus.specs.Write.{word_address}
-use Rattle.bus.specs.declared.Got.{Got}
+use Rattle.bus.specs.Answers.{Got}
 use Rattle.bus.specs.Read.{word_read, Given, given, cut_given, reg_read, got, reads, read_at}
 use Rattle.bus.specs.Inner.{other_value, sized_got}
 use Rattle.bus.specs.Read.{read_of}

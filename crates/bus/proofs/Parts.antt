@@ -12,7 +12,7 @@ use borrow.Author.Tests.{lt-ltb, le-ltb}
 use Rattle.map.specs.Numbers.{FLASH_SIZE}
 use Rattle.whole.proofs.Choice.{lt_or_ge}
 use Rattle.flash.specs.declared.Chip.{Chip}
-use Rattle.flash.specs.declared.Reply.{Reply}
+use Rattle.flash.specs.Board.{Reply}
 use Rattle.flash.specs.Pick.{pick}
 use Rattle.flash.specs.Board.{Outcome, board, outcome, good_size, refused_outcome, accepted_outcome}
 use Rattle.flash.specs.Flash.{replied, sent_board, selected, transferred}

@@ -8,8 +8,8 @@ use borrow.Author.Tests.{ne_eqb}
 use Rattle.map.specs.Numbers.{DONE, BAD_SIZE}
 use Rattle.memory.specs.Access.{good_size}
 use Rattle.memory.specs.Bytes.{loaded, stored_at}
-use Rattle.bus.specs.declared.WriteAnswer.{WriteAnswer}
-use Rattle.bus.specs.declared.Got.{Got}
+use Rattle.bus.specs.Answers.{WriteAnswer}
+use Rattle.bus.specs.Answers.{Got}
 use Rattle.bus.specs.Inner.{without_event, sized_got, sized_put, sized_number}
 
 pub good_one : good_size 1 ≡ true

@@ -13,8 +13,8 @@ use Rattle.state.specs.Parts.{parts}
 use Rattle.state.specs.Bank.{parts_in}
 use Rattle.state.specs.Packed.{Packed, Answered}
 use Rattle.state.proofs.Packs.{one_later}
-use Rattle.bus.specs.declared.Got.{Got}
-use Rattle.bus.specs.declared.WriteAnswer.{WriteAnswer}
+use Rattle.bus.specs.Answers.{Got}
+use Rattle.bus.specs.Answers.{WriteAnswer}
 use Rattle.bus.specs.World.{World, world, out}
 use Rattle.bus.specs.Bank.{out_of}
 use Rattle.bus.specs.Write.{Noted, together}

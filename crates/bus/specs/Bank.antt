@@ -2,7 +2,7 @@
 use Rattle.std.specs.Prelude.{ℕ, List}
 use Rattle.registers.specs.Words.{registers_of}
 use Rattle.state.specs.declared.Parts.{Parts}
-use Rattle.bus.specs.declared.WriteAnswer.{WriteAnswer}
+use Rattle.bus.specs.Answers.{WriteAnswer}
 use Rattle.bus.specs.World.{World, world, Out, out}
 
 -- the registers' three lists, the RTC's registers, the page's running AND, the four memories, the bank's parts

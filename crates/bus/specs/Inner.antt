@@ -7,7 +7,7 @@ use Rattle.state.specs.declared.Parts.{Parts}
 use Rattle.state.specs.Bank.{panel_in, parts_in}
 use Rattle.state.specs.Packed.{StaysPacked}
 use Rattle.state.specs.Parts.{panel_put}
-use Rattle.bus.specs.declared.WriteAnswer.{WriteAnswer}
+use Rattle.bus.specs.Answers.{WriteAnswer}
 use Rattle.bus.specs.World.{Wrote, answer}
 use Rattle.map.specs.Numbers.{DONE, BAD_SIZE}
 use Rattle.registers.specs.declared.Registers.{Registers}
@@ -15,7 +15,7 @@ use Rattle.registers.specs.Ports.{day_word, field_of}
 use Rattle.memory.specs.Bytes.{stored_at}
 use Rattle.memory.specs.Access.{good_size}
 use Rattle.state.specs.declared.Clocks.{Clocks}
-use Rattle.bus.specs.declared.Got.{Got}
+use Rattle.bus.specs.Answers.{Got}
 use Rattle.bus.specs.Write.{Stored, stored, stored_word}
 use Rattle.bus.specs.Read.{day_read}
 use Rattle.bus.specs.Words.{day_set}

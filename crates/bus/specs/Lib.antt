@@ -9,3 +9,4 @@ pub mod Write
 pub mod Read
 pub mod Bank
 pub mod Inner
+pub mod Answers

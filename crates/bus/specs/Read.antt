@@ -27,7 +27,7 @@ use Rattle.state.specs.declared.Devices.{Devices}
 use Rattle.state.specs.Parts.{none}
 use Rattle.time.specs.Irq.{pending_of}
 use Rattle.time.specs.Clocks.{clock_in}
-use Rattle.bus.specs.declared.Got.{Got}
+use Rattle.bus.specs.Answers.{Got}
 use Rattle.bus.specs.Write.{word_address}
 
 -- 2 if bit 15 of the clock switch is set, else 1

@@ -5,7 +5,7 @@ use Rattle.map.specs.Numbers.{LCD_CONTROL, LCD_DATA, LCD_STATUS, LCD_DMA}
 use Rattle.whole.specs.Words.{has}
 use Rattle.registers.specs.declared.Registers.{Registers}
 use Rattle.registers.specs.Words.{own_at, own_with, registers_of}
-use Rattle.panel.specs.Entries.{Screen, screen}
+use Rattle.panel.specs.Entries.{Screen}
 use Rattle.panel.specs.Runs.{byte, copy, screen_after_command, screen_after_input}
 use Rattle.block.specs.Block.{block_of}
 

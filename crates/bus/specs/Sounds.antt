@@ -1,14 +1,14 @@
 -- The timers' control words and the buzzer: timer_write_ctrl, sound_update.
-use Rattle.std.specs.Prelude.{ℕ, Bool, true, false, cond, List, get_or, eqb}
-use Rattle.map.specs.Numbers.{SOUND_TIMER, SOUND_CONTROL, SOUND_RELOAD, SOUND_COMPARE, DONE, SOUND_FULL}
+use Rattle.std.specs.Prelude.{ℕ, Bool, true, false, cond, List, get_or, eqb, Err, None, Ok, Some}
+use Rattle.map.specs.Refusals.{code_of}
+use Rattle.map.specs.Numbers.{SOUND_TIMER, SOUND_CONTROL, SOUND_RELOAD, SOUND_COMPARE, DONE}
 use Rattle.registers.specs.Words.{own_at, own_with}
 use Rattle.timer.specs.declared.Event.{Event}
 use Rattle.timer.specs.declared.Queue.{Queue}
 use Rattle.timer.specs.declared.Timer.{Timer}
 use Rattle.timer.specs.declared.Tone.{Tone}
 use Rattle.timer.specs.declared.Written.{Written}
-use Rattle.timer.specs.declared.Sounded.{Sounded}
-use Rattle.timer.specs.declared.Sounded.TheVariants.{Same, Change, SoundFull}
+use Rattle.timer.specs.Sound.{Sounded}
 use Rattle.timer.specs.Timers.{written_of}
 use Rattle.timer.specs.Sound.{tone_of, sounded_of}
 use Rattle.timer.specs.Events.{put_of}
@@ -30,9 +30,9 @@ sound_of slots tone clock full word v =
 
 -- the word is stored and the devices are the next ones, with the new tone; or nothing changes
 abbrev pub sounding : Sounded → List ℕ → Devices → Devices → ℕ → ℕ → OwnOut
-sounding SoundFull slots d next word v = own_out slots (answer SOUND_FULL d)
-sounding Same slots d next word v = own_done (own_with slots word v) next
-sounding (Change tone) slots d next word v = own_out (own_with slots word v)
+sounding (Err r) slots d next word v = own_out slots (answer (code_of r) d)
+sounding (Ok None) slots d next word v = own_done (own_with slots word v) next
+sounding (Ok (Some tone)) slots d next word v = own_out (own_with slots word v)
     (record { refusal = DONE; event = true; devices = with_tone next tone })
 
 unfoldable pub sound_written : List ℕ → Devices → Devices → ℕ → Bool → ℕ → ℕ → OwnOut

@@ -20,8 +20,7 @@ fn flash_select(page: &mut [u8; 256], ram: &mut [u8], chip: Chip, on: bool) -> C
         ram.old on }
 {
     let n = part(ram.len());
-    let r = flash::select(chip, page, &mut ram[..n], on);
-    r.chip
+    flash::select(chip, page, &mut ram[..n], on).unwrap_or(chip)
 }
 
 fn flash_xfer(page: &mut [u8; 256], ram: &[u8], chip: Chip, byte: u8) -> Chip
@@ -29,8 +28,8 @@ fn flash_xfer(page: &mut [u8; 256], ram: &[u8], chip: Chip, byte: u8) -> Chip
         ram.now byte }
 {
     let n = part(ram.len());
-    let r = flash::transfer(chip, page, &ram[..n], byte);
-    r.chip
+    let (_, next) = flash::transfer(chip, page, &ram[..n], byte).unwrap_or((0, chip));
+    next
 }
 
 pub(crate) fn select_write(

@@ -13,16 +13,9 @@ mod sounds;
 mod words;
 pub mod write;
 
-// What a write answers: 01's number, and whether the tone changed, which is an event at the time that the bank has.
-// It is a struct so that there is room for what later requests report.
+// What a write that is accepted answers: whether the tone changed, which is an event at the time that the bank has. It
+// is a struct so that there is room for what later requests report.
 #[derive(Drop)]
-pub struct WriteAnswer {
-    pub refusal: u8,
+pub struct Accepted {
     pub event: bool,
-}
-
-#[derive(Drop)]
-pub struct Got {
-    pub refusal: u8,
-    pub value: u32,
 }

@@ -1,6 +1,6 @@
 // Reads on the bus: slow_read and mmio_read.
 ghost use Rattle.std.specs.Prelude.{◌≡◌, ◌<◌, get_or};
-ghost use Rattle.map.specs.Numbers.{TIMER_COUNT, BAD_SIZE};
+ghost use Rattle.map.specs.Numbers.{TIMER_COUNT};
 ghost use Rattle.memory.specs.Bytes.{loaded};
 ghost use Rattle.registers.specs.Words.{registers_of};
 ghost use Rattle.registers.specs.Ports.{slot_of, slot_word, port_at};
@@ -8,11 +8,12 @@ ghost use Rattle.time.specs.Clocks.{clock_in};
 ghost use Rattle.state.specs.Bank.{parts_in};
 ghost use Rattle.bus.specs.Read.{status_of, base_of, day_read, timer_read, counter_read, acting_value, view_of};
 ghost use Rattle.bus.specs.Read.{word_read};
+ghost use Rattle.bus.specs.Answers.{got_of};
 ghost use Rattle.bus.specs.Read.{got, given, reg_read, read_of};
 ghost use Rattle.bus.specs.Inner.{other_value, sized_got};
 
-use crate::Got;
 use crate::words::field_of;
+use map::Refusal;
 use memory::Place;
 use registers::{Effect, Port, View};
 use state::{Cells, Floats};
@@ -163,7 +164,7 @@ fn own_value(slots: &mut [u32; 76], cells: &Cells, floats: &Floats, sram: &[u8],
         ≡ word_read slots.old (parts_in cells.now floats.now).devices
         (clock_in sram.now) (slot_word s) (get_or slots.old s 0) }
 {
-    let old = registers::slot_get(slots, s);
+    let old = registers::get(slots, s);
     let port = registers::port_at(s);
     match port {
         Port::Acts(effect) => {
@@ -238,41 +239,23 @@ fn mmio_read(
     memory::cut(value, addr, size)
 }
 
-fn bad_size() -> Got
-    ensures { result ≡ record { refusal = BAD_SIZE; value = 0 } }
-{
-    Got {
-        refusal: map::BAD_SIZE,
-        value: 0,
-    }
-}
-
 // What an access reads of a memory. Size and refusal are decided together, so that a word takes two tests.
-fn get(m: &[u8], at: usize, size: u32) -> Got
-    ensures { result ≡ sized_got size (loaded m.now at size) }
+fn get(m: &[u8], at: usize, size: u32) -> Result<u32, Refusal>
+    ensures { got_of result ≡ sized_got size (loaded m.now at size) }
 {
     if size > 2 {
         if size == 4 {
-            return Got {
-                refusal: map::DONE,
-                value: memory::load(m, at, 4),
-            };
+            return Ok(memory::load(m, at, 4));
         }
-        return bad_size();
+        return Err(Refusal::BadSize);
     }
     if size == 2 {
-        return Got {
-            refusal: map::DONE,
-            value: memory::load(m, at, 2),
-        };
+        return Ok(memory::load(m, at, 2));
     }
     if size == 1 {
-        return Got {
-            refusal: map::DONE,
-            value: memory::load(m, at, 1),
-        };
+        return Ok(memory::load(m, at, 1));
     }
-    bad_size()
+    Err(Refusal::BadSize)
 }
 
 pub fn read(
@@ -286,41 +269,29 @@ pub fn read(
     gpio: &[u8],
     addr: u32,
     size: u32,
-) -> Got
-    ensures { got slots.new result
+) -> Result<u32, Refusal>
+    ensures { got slots.new (got_of result)
         ≡ read_of (registers_of slots.old addresses.now values.now)
         ram.now sram.now gpio.now (parts_in cells.now
         floats.now).devices addr size }
 {
     let place = memory::locate(addr);
     match place {
-        Place::Ram(at) => {
-            return get(ram, at, size);
-        }
-        Place::Sram(at) => {
-            return get(sram, at, size);
-        }
-        Place::Gpio(at) => {
-            return get(gpio, at, size);
-        }
+        Place::Ram(at) => get(ram, at, size),
+        Place::Sram(at) => get(sram, at, size),
+        Place::Gpio(at) => get(gpio, at, size),
         Place::Register => {
             if !memory::good_size(size) {
-                return bad_size();
+                return Err(Refusal::BadSize);
             }
             let value = mmio_read(slots, addresses, values, cells, floats, sram, addr, size);
-            return Got {
-                refusal: map::DONE,
-                value,
-            };
+            Ok(value)
         }
         Place::Stray => {
             if !memory::good_size(size) {
-                return bad_size();
+                return Err(Refusal::BadSize);
             }
-            return Got {
-                refusal: map::DONE,
-                value: 0,
-            };
+            Ok(0)
         }
     }
 }

@@ -7,6 +7,7 @@ ghost use Rattle.state.specs.Bank.{panel_in};
 ghost use Rattle.bus.specs.Inner.{OnlyPanel};
 ghost use Rattle.bus.specs.Screen.{fed_word, copied, dma_done, act_result, controlled};
 
+use block::Seen;
 use state::Cells;
 
 // A data byte. One of a pixel, the most frequent, moves the pen alone, and so no more is put.
@@ -63,7 +64,15 @@ fn lcd_dma(
     if addr == 0 {
         return;
     }
-    block::read_block(slots, addresses, values, ram, sram, gpio, addr, fb);
+    let seen = Seen {
+        slots: &*slots,
+        addresses,
+        values,
+        ram,
+        sram,
+        gpio,
+    };
+    seen.read_block(addr, fb);
     let status = registers::own_reg(slots, map::LCD_STATUS);
     registers::own_insert(slots, map::LCD_STATUS, status | 0x40);
     let p = state::panels::panel_of(cells);

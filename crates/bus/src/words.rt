@@ -5,13 +5,15 @@ ghost use Rattle.time.specs.Clocks.{clock_in};
 ghost use Rattle.state.specs.Bank.{parts_in};
 ghost use Rattle.state.specs.Packed.{StaysPacked};
 ghost use Rattle.state.specs.Parts.{devices_put};
+ghost use Rattle.bus.specs.Answers.{answer_of};
 ghost use Rattle.bus.specs.Inner.{Only, Rest, wrote_of, without_event};
 ghost use Rattle.bus.specs.Words.{spi_sent, adc_written, day_set, powered_by, word_written};
 ghost use Rattle.bus.specs.World.{own_out, answer};
 
-use crate::WriteAnswer;
+use crate::Accepted;
 use crate::sounds::{sound_write, timer_write_ctrl};
 use clock::Adc;
+use map::Refusal;
 use registers::{Effect, Port};
 use state::{Cells, Floats};
 
@@ -23,22 +25,10 @@ pub(crate) fn field_of(word: u32) -> u32
     (word - map::RTC_IRQ_BASE) / 4
 }
 
-pub(crate) fn accepted() -> WriteAnswer
-    ensures { result ≡ without_event 0 }
+pub(crate) fn accepted() -> Result<Accepted, Refusal>
+    ensures { answer_of result ≡ without_event 0 }
 {
-    WriteAnswer {
-        refusal: map::DONE,
-        event: false,
-    }
-}
-
-pub(crate) fn refused(refusal: u8) -> WriteAnswer
-    ensures { result ≡ without_event refusal }
-{
-    WriteAnswer {
-        refusal,
-        event: false,
-    }
+    Ok(Accepted { event: false })
 }
 
 fn spi_sent(slots: &mut [u32; 76], new: u32)
@@ -90,8 +80,8 @@ fn power(cells: &mut Cells, floats: &Floats, new: u32)
 }
 
 // A word is stored in its slot.
-pub(crate) fn store_word(slots: &mut [u32; 76], s: usize, new: u32) -> WriteAnswer
-    ensures { (slots.new ≡ set slots.old s new) × (result ≡ without_event 0) }
+pub(crate) fn store_word(slots: &mut [u32; 76], s: usize, new: u32) -> Result<Accepted, Refusal>
+    ensures { (slots.new ≡ set slots.old s new) × (answer_of result ≡ without_event 0) }
 {
     registers::slot_set(slots, s, new);
     accepted()
@@ -110,12 +100,12 @@ pub(crate) fn word_write(
     old: u32,
     new: u32,
     part: u32,
-) -> WriteAnswer
+) -> Result<Accepted, Refusal>
     requires { (s < 76) × (port_at s ≡ Port.Acts effect) }
-    ensures { (own_out slots.new (wrote_of result (parts_in cells.new floats.new).devices)
+    ensures { (own_out slots.new (wrote_of (answer_of result) (parts_in cells.new floats.new).devices)
         ≡ word_written effect slots.old (parts_in cells.old
         floats.old).devices (clock_in sram.now) full (slot_word s) old new part)
-        × Rest result cells.old floats.old cells.new floats.new }
+        × Rest (answer_of result) cells.old floats.old cells.new floats.new }
 {
     match effect {
         Effect::TimerControl => {

@@ -1,12 +1,14 @@
 // Writes on the bus: slow_write and mmio_write, and the event that a write makes.
 ghost use Rattle.std.specs.Prelude.{◌≡◌, false, ◌<◌};
+ghost use Rattle.map.specs.Refusals.{number_of};
 ghost use Rattle.memory.specs.Access.{merged_of};
-ghost use Rattle.registers.specs.Words.{number_of, registers_of, word_at};
+ghost use Rattle.registers.specs.Words.{registers_of, word_at};
 ghost use Rattle.registers.specs.Ports.{slot_of, slot_word};
 ghost use Rattle.timer.specs.Events.{queue_of};
 ghost use Rattle.state.specs.Bank.{parts_in};
 ghost use Rattle.state.specs.Packed.{StaysPacked, Answered};
 ghost use Rattle.state.specs.Parts.{ring_put};
+ghost use Rattle.bus.specs.Answers.{answer_of};
 ghost use Rattle.bus.specs.Bank.{world_of, out_of};
 ghost use Rattle.bus.specs.Inner.{Rest, wrote_of, without_event};
 ghost use Rattle.bus.specs.Sounds.{noted};
@@ -14,10 +16,11 @@ ghost use Rattle.bus.specs.Write.{stored, port_written, reg_written};
 ghost use Rattle.bus.specs.Inner.{other_written, sized_put, sized_number};
 ghost use Rattle.bus.specs.Write.{write_of, together, noted_write};
 
-use crate::WriteAnswer;
-use crate::words::{accepted, field_of, refused, store_word, tod_write, word_write};
+use crate::Accepted;
+use crate::words::{accepted, field_of, store_word, tod_write, word_write};
+use map::Refusal;
 use memory::Place;
-use registers::{Port, Refusal, Spot};
+use registers::{Port, Spot};
 use state::{Cells, Floats};
 use timer::Event;
 
@@ -40,18 +43,18 @@ fn own_write(
     old: u32,
     new: u32,
     part: u32,
-) -> WriteAnswer
+) -> Result<Accepted, Refusal>
     requires { s < 76 }
     ensures { (out_of (world_of slots.new addresses.new values.new
         rtc.new page.new
         ram.new sram.now gpio.now fb.new (parts_in cells.new
-        floats.new)) result
+        floats.new)) (answer_of result)
         ≡ port_written (world_of slots.old addresses.old values.old rtc.old
         page.old
         ram.old sram.now gpio.now fb.old (parts_in cells.old
         floats.old))
         full (slot_word s) old new part)
-        × Rest result cells.old floats.old cells.new floats.new }
+        × Rest (answer_of result) cells.old floats.old cells.new floats.new }
 {
     let port = registers::port_at(s);
     match port {
@@ -95,16 +98,6 @@ fn own_write(
     }
 }
 
-// What the registers answer to a put of another word.
-fn answer(refusal: Refusal) -> WriteAnswer
-    ensures { result ≡ without_event (number_of refusal) }
-{
-    match refusal {
-        Refusal::Done => accepted(),
-        Refusal::RegistersFull => refused(map::REGISTERS_FULL),
-    }
-}
-
 // A word that has no storage of its own is written: a field of the time of day, or one of the others.
 fn other_write(
     slots: &[u32; 76],
@@ -116,15 +109,15 @@ fn other_write(
     addr: u32,
     size: u32,
     value: u32,
-) -> WriteAnswer
+) -> Result<Accepted, Refusal>
     requires { slot_of word ≡ 76 }
     ensures { (stored (registers_of slots.now addresses.new values.new)
-        (wrote_of result (parts_in cells.new floats.new).devices)
+        (wrote_of (answer_of result) (parts_in cells.new floats.new).devices)
         ≡ other_written (registers_of slots.now addresses.old values.old)
         (parts_in cells.old floats.old).devices word
         (merged_of (word_at (registers_of slots.now addresses.old values.old) word)
         addr size value))
-        × Rest result cells.old floats.old cells.new floats.new }
+        × Rest (answer_of result) cells.old floats.old cells.new floats.new }
 {
     if registers::day_word(word) {
         tod_write(
@@ -144,14 +137,14 @@ fn other_write(
             return accepted();
         }
         Spot::Present(i) => {
-            let old = registers::place_get(values, i);
+            let old = registers::get(values, i);
             registers::put_present(addresses, values, i, memory::merged(old, addr, size, value));
             return accepted();
         }
         Spot::Absent(i) => {
             let new = memory::merged(0, addr, size, value);
-            let refusal = registers::put_absent(addresses, values, i, word, new);
-            return answer(refusal);
+            registers::put_absent(addresses, values, i, word, new)?;
+            return accepted();
         }
     }
 }
@@ -172,22 +165,22 @@ fn mmio_write(
     addr: u32,
     size: u32,
     value: u32,
-) -> WriteAnswer
+) -> Result<Accepted, Refusal>
     ensures { (out_of (world_of slots.new addresses.new values.new
         rtc.new page.new
         ram.new sram.now gpio.now fb.new (parts_in cells.new
-        floats.new)) result
+        floats.new)) (answer_of result)
         ≡ reg_written (world_of slots.old addresses.old values.old rtc.old
         page.old
         ram.old sram.now gpio.now fb.old (parts_in cells.old
         floats.old))
         full addr size value)
-        × Rest result cells.old floats.old cells.new floats.new }
+        × Rest (answer_of result) cells.old floats.old cells.new floats.new }
 {
     let word = addr - addr % 4;
     let s = registers::slot(word);
     if s < 76 {
-        let old = registers::slot_get(slots, s);
+        let old = registers::get(slots, s);
         let new = memory::merged(old, addr, size, value);
         let part = memory::written(addr, size, value);
         return own_write(
@@ -201,15 +194,15 @@ fn mmio_write(
 }
 
 // What an access writes to a memory. Size and refusal are decided together, so that a word takes two tests.
-fn put(m: &mut [u8], at: usize, size: u32, value: u32) -> WriteAnswer
-    ensures { (m.new ≡ sized_put m.old at size value) × (result ≡ without_event (sized_number size)) }
+fn put(m: &mut [u8], at: usize, size: u32, value: u32) -> Result<Accepted, Refusal>
+    ensures { (m.new ≡ sized_put m.old at size value) × (answer_of result ≡ without_event (sized_number size)) }
 {
     if size > 2 {
         if size == 4 {
             memory::store(m, at, 4, value);
             return accepted();
         }
-        return refused(map::BAD_SIZE);
+        return Err(Refusal::BadSize);
     }
     if size == 2 {
         memory::store(m, at, 2, value);
@@ -219,7 +212,7 @@ fn put(m: &mut [u8], at: usize, size: u32, value: u32) -> WriteAnswer
         memory::store(m, at, 1, value);
         return accepted();
     }
-    refused(map::BAD_SIZE)
+    Err(Refusal::BadSize)
 }
 
 // A write to any address. `full` says that 256 sound events wait.
@@ -239,17 +232,17 @@ fn slow_write(
     addr: u32,
     size: u32,
     value: u32,
-) -> WriteAnswer
+) -> Result<Accepted, Refusal>
     ensures { (out_of (world_of slots.new addresses.new values.new
         rtc.new page.new
         ram.new sram.new gpio.new fb.new (parts_in cells.new
-        floats.new)) result
+        floats.new)) (answer_of result)
         ≡ write_of (world_of slots.old addresses.old values.old rtc.old
         page.old
         ram.old sram.old gpio.old fb.old (parts_in cells.old
         floats.old))
         full addr size value)
-        × Rest result cells.old floats.old cells.new floats.new }
+        × Rest (answer_of result) cells.old floats.old cells.new floats.new }
 {
     let place = memory::locate(addr);
     match place {
@@ -264,7 +257,7 @@ fn slow_write(
         }
         Place::Register => {
             if !memory::good_size(size) {
-                return refused(map::BAD_SIZE);
+                return Err(Refusal::BadSize);
             }
             return mmio_write(
                 slots, addresses, values, rtc, page, cells, floats, ram, sram, gpio, fb, full,
@@ -273,9 +266,9 @@ fn slow_write(
         }
         Place::Stray => {
             if !memory::good_size(size) {
-                return refused(map::BAD_SIZE);
+                return Err(Refusal::BadSize);
             }
-            return refused(map::STRAY_WRITE);
+            return Err(Refusal::StrayWrite);
         }
     }
 }
@@ -304,18 +297,13 @@ fn note(
         let ring = state::rests::ring_of(cells);
         let times = state::moments::times_of(floats);
         let tone = state::rests::tone_of(floats);
-        let added = timer::events::put_in(
-            onsets,
-            frequencies,
-            duties,
-            ring,
-            Event {
-                time: times.now,
-                frequency: tone.frequency,
-                duty: tone.duty,
-            },
-        );
-        state::rests::put_ring(cells, added.ring);
+        let event = Event {
+            time: times.now,
+            frequency: tone.frequency,
+            duty: tone.duty,
+        };
+        let later = timer::events::put_in(onsets, frequencies, duties, ring, event);
+        state::rests::put_ring(cells, later.unwrap_or(ring));
     }
 }
 
@@ -339,12 +327,12 @@ pub fn write(
     addr: u32,
     size: u32,
     value: u32,
-) -> WriteAnswer
+) -> Result<Accepted, Refusal>
     ensures { (together
         (out_of (world_of slots.new addresses.new values.new rtc.new
         page.new
         ram.new sram.new gpio.new fb.new (parts_in cells.new
-        floats.new)) result)
+        floats.new)) (answer_of result))
         (queue_of onsets.new frequencies.new duties.new
         (parts_in cells.new floats.new).ring)
         ≡ noted_write
@@ -357,14 +345,14 @@ pub fn write(
         addr size value)
         × ((parts_in cells.new floats.new).keys
         ≡ (parts_in cells.old floats.old).keys)
-        × Answered result.refusal cells.old floats.old cells.new floats.new }
+        × Answered (number_of result) cells.old floats.old cells.new floats.new }
 {
     let ring = state::rests::ring_of(cells);
     let full = timer::events::full(ring);
     let answer = slow_write(
         slots, addresses, values, rtc, page, cells, floats, ram, sram, gpio, fb, full, addr, size,
         value,
-    );
+    )?;
     note(onsets, frequencies, duties, cells, floats, answer.event);
-    answer
+    Ok(answer)
 }

@@ -11,14 +11,11 @@ ghost use Rattle.state.specs.Packed.{Answered};
 ghost use Rattle.system.specs.Bank.{machine_of};
 ghost use Rattle.runner.specs.Script.{continued, script_from};
 
-use script::bad_memory;
+use script::{BAD_MEMORY, bad_memory};
 use state::{Cells, Floats};
 
-const BAD_MEMORY: u32 = map::BAD_MEMORY as u32;
-
 // Arrays and memories as the entries of crate live take them; script and output as script::tg18_run_script does.
-#[unsafe(no_mangle)]
-pub extern "C" fn tg18_lent_continue_script(
+pub fn tg18_lent_continue_script(
     slots: &mut [u32; 76],
     addresses: &mut [u32; 256],
     values: &mut [u32; 256],
@@ -52,7 +49,7 @@ pub extern "C" fn tg18_lent_continue_script(
     if bad_memory(ram, sram, gpio, fb) {
         return BAD_MEMORY;
     }
-    runner::loops::continue_script(
+    let answer = runner::loops::continue_script(
         slots,
         addresses,
         values,
@@ -71,5 +68,6 @@ pub extern "C" fn tg18_lent_continue_script(
         fb,
         script,
         out,
-    )
+    );
+    map::status(answer)
 }

@@ -1,21 +1,18 @@
 -- The branches of the definitions, as the functions meet them.
 use Rattle.std.proofs.Common.{◌≡◌, ℕ, suc, ◌-◌, ◌*◌, ◌/◌, ◌%◌, ◌^◌, ◌<◌, ◌≤◌, true, false, ◌≢◌, List, get_or, set}
-use Rattle.std.proofs.Common.{ℤ, pos, negsuc, sym, ap, ◌∙◌, arith, eq-eqb, ne_eqb, le-leb}
+use Rattle.std.proofs.Common.{ℤ, pos, negsuc, ap, arith, eq-eqb, ne_eqb, le-leb}
 use lib.Bits.{bit_and}
 use lib.Signed.{mag}
 use lib.Ieee.{Float, binary64, of_bits, lt, to_signed}
 use lib.Ieee.Casts.{to_signed_in}
 use borrow.Author.Tests.{lt-leb}
 use Rattle.whole.specs.Cut.{twos}
-use Rattle.whole.specs.Limits.{good_time, good_turbo, time_of, turbo_of}
-use Rattle.whole.specs.declared.Checked.{Checked}
-use Rattle.whole.specs.declared.Checked.TheVariants.{Good, Bad}
-use Rattle.whole.proofs.Numbers.{checked_good, checked_then, checked_bad}
+use Rattle.whole.specs.Limits.{good_time, good_turbo}
 use Rattle.whole.proofs.Words.{has_some, has_not}
-use Rattle.clock.specs.declared.Moved.{Moved}
-use Rattle.clock.specs.declared.Paced.TheVariants.{By, BadTurbo}
+use Rattle.std.specs.Prelude.{Ok, Err}
 use Rattle.clock.specs.declared.Times.{Times}
-use Rattle.clock.specs.declared.Moved.TheVariants.{To, BadTime}
+use Rattle.std.specs.Prelude.{Ok, Err}
+use Rattle.map.specs.declared.refusals.Refusal.TheVariants.{BadTime}
 use Rattle.clock.specs.declared.Latch.{Latch}
 use Rattle.clock.specs.Times.{game_after, moved_of, paced_of}
 use Rattle.clock.specs.Rtc.{ticks_of, output_of, rtc_of, latched_of, commanded_of}
@@ -23,22 +20,26 @@ use Rattle.clock.specs.Day.{rem_euclid}
 
 -- ---- time
 module _ (s : Times) (to : Float) where
-  pub moves_not : good_time to ≡ false → BadTime ≡ moved_of s to
+  pub moves_not : good_time to ≡ false → (Err BadTime) ≡ moved_of s to
   unfolding moved_of
   moves_not g = rw g
 
-  pub moves_back : good_time to ≡ true → lt to s.now ≡ true → BadTime ≡ moved_of s to
+  pub paces : good_turbo to ≡ true → Ok (record { now = s.now; game = s.game; turbo = to }) ≡ paced_of s to
+  unfolding paced_of
+  paces h = rw h
+
+  pub moves_back : good_time to ≡ true → lt to s.now ≡ true → (Err BadTime) ≡ moved_of s to
   unfolding moved_of
   moves_back g l = rw (g, l)
 
   pub moves_over : good_time to ≡ true → lt to s.now ≡ false → lt (of_bits binary64 0x41E0_0000_0000_0000)
-      (game_after s to) ≡ true → BadTime ≡ moved_of s to
+      (game_after s to) ≡ true → (Err BadTime) ≡ moved_of s to
   unfolding moved_of
   moves_over g l h = rw (g, l, h)
 
   pub advance_moves : good_time to ≡ true → lt to s.now ≡ false → lt (of_bits binary64 0x41E0_0000_0000_0000)
       (game_after s to) ≡ false
-      → To (record { now = to; game = game_after s to; turbo = s.turbo }) ≡ moved_of s to
+      → Ok (record { now = to; game = game_after s to; turbo = s.turbo }) ≡ moved_of s to
   unfolding moved_of
   advance_moves g l h = rw (g, l, h)
 
@@ -108,24 +109,3 @@ module _ (latch : Latch) (regs : List ℕ) (game : Float) (address word cmd : �
       address word cmd
   unfolding commanded_of
   commands_nothing c d = rw (has_not cmd 1 c, has_not cmd 2 d)
-
--- ---- from bits: what is read is the float of the pattern, and what is not is refused as it would be
-module _ (s : Times) (bits : ℕ) (t : Checked) where
-  pub moves_from : (x : Float) (r : Moved) → t ≡ time_of bits → t ≡ Good x → r ≡ moved_of s x
-      → r ≡ moved_of s (of_bits binary64 bits)
-  moves_from x r h e k = k ∙ ap (moved_of s) (checked_good (good_time (of_bits binary64 bits)) bits x (sym e ∙ h))
-
-  pub moves_from_none : t ≡ time_of bits → t ≡ Bad → BadTime ≡ moved_of s (of_bits binary64 bits)
-  moves_from_none h e = moves_not s (of_bits binary64 bits) (checked_bad (good_time (of_bits binary64 bits)) bits
-      (sym e ∙ h))
-
-  pub paces_from : (x : Float) → t ≡ turbo_of bits → t ≡ Good x
-      → By (record { now = s.now; game = s.game; turbo = x }) ≡ paced_of s (of_bits binary64 bits)
-  unfolding paced_of
-  paces_from x h e =
-      checked_then (good_turbo (of_bits binary64 bits)) bits
-      (λ (z : Float). By (record { now = s.now; game = s.game; turbo = z })) BadTurbo x (sym e ∙ h)
-
-  pub paces_from_none : t ≡ turbo_of bits → t ≡ Bad → BadTurbo ≡ paced_of s (of_bits binary64 bits)
-  unfolding paced_of
-  paces_from_none h e = rw (checked_bad (good_turbo (of_bits binary64 bits)) bits (sym e ∙ h))

@@ -1,5 +1,5 @@
 -- Within the limits the time of day is exact and never negative; and the clock stays within them, and does not go back.
-use Rattle.std.proofs.Common.{◌≡◌, ℕ, ◌+◌, ◌*◌, ◌/◌, ◌%◌, ◌^◌, ◌<◌, ◌≤◌, cond, T, eqb, ltb, set, pos, sym, subst}
+use Rattle.std.proofs.Common.{◌≡◌, ℕ, ◌+◌, ◌*◌, ◌/◌, ◌%◌, ◌^◌, ◌<◌, ◌≤◌, cond, T, eqb, ltb, pos, sym, subst}
 use Rattle.std.proofs.Common.{arith, lit<}
 use lib.Ieee.{Float, binary64, of_int, fits, add, sub, le, to_unsigned}
 use Rattle.whole.specs.Bounds.{Clear, AtMost, WholePart}

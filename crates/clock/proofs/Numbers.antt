@@ -5,9 +5,10 @@ use Rattle.whole.specs.Limits.{good_time, good_turbo}
 use Rattle.whole.specs.Words.{lacks}
 use Rattle.whole.proofs.Unique.{unique}
 use Rattle.clock.specs.declared.Times.{Times}
-use Rattle.clock.specs.declared.Moved.TheVariants.{To, BadTime}
-use Rattle.clock.specs.declared.Paced.TheVariants.{By, BadTurbo}
-use Rattle.clock.specs.declared.Alarm.TheVariants.{Off, At}
+use Rattle.std.specs.Prelude.{Ok, Err}
+use Rattle.map.specs.declared.refusals.Refusal.TheVariants.{BadTime}
+use Rattle.map.specs.declared.refusals.Refusal.TheVariants.{BadTurbo}
+use Rattle.std.specs.Prelude.{Some, None}
 use Rattle.clock.specs.declared.Latch.{Latch}
 use Rattle.clock.specs.declared.Rtc.{Rtc}
 use Rattle.clock.specs.Times.{game_after, moved_of, paced_of, moved_refusal, paced_refusal}
@@ -21,12 +22,12 @@ unfolding moved_of
 moved_number s to = by (good_time to) (lt to s.now) (lt (of_bits binary64 0x41E0_0000_0000_0000) (game_after s to))
   where
     by : (a b c : Bool)
-        → moved_refusal (cond a (cond b BadTime (cond c BadTime (To (record {
+        → moved_refusal (cond a (cond b (Err BadTime) (cond c (Err BadTime) (Ok (record {
           now =
               to;
           game = game_after s to;
           turbo = s.turbo;
-        })))) BadTime) ≡ cond (a && not b && not c) 0 1
+        })))) (Err BadTime)) ≡ cond (a && not b && not c) 0 1
     by false b c = refl
     by true true c = refl
     by true false true = refl
@@ -36,7 +37,8 @@ pub paced_number : (s : Times) (to : Float) → paced_refusal (paced_of s to) �
 unfolding paced_of
 paced_number s to = by (good_turbo to)
   where
-    by : (b : Bool) → paced_refusal (cond b (By (record { now = s.now; game = s.game; turbo = to })) BadTurbo) ≡ cond
+    by : (b : Bool) → paced_refusal (cond b (Ok (record { now = s.now; game = s.game; turbo = to })) (Err BadTurbo))
+        ≡ cond
         b 0 2
     by true = refl
     by false = refl
@@ -46,7 +48,7 @@ pub alarm_values_lem : (regs : List ℕ) → alarm_values (alarm_of regs) ≡ co
 unfolding alarm_of
 alarm_values_lem regs = by (lacks (get_or regs 0x40 0) 6)
   where
-    by : (b : Bool) → alarm_values (cond b Off (At (six_bytes regs 0x20))) ≡ cond b (0, 0) (1, six_bytes regs 0x20)
+    by : (b : Bool) → alarm_values (cond b None (Some (six_bytes regs 0x20))) ≡ cond b (0, 0) (1, six_bytes regs 0x20)
     by true = refl
     by false = refl
 

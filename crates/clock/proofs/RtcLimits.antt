@@ -5,7 +5,7 @@ use Rattle.std.proofs.Common.{le_of_eq, lt_of_lt_of_le, lt_of_le_of_lt, mod-lt, 
 use Rattle.std.proofs.Common.{length-set}
 use lib.Bits.{bit_and, and_le_r}
 use lib.ListN.{length-replicate}
-use lib.Ieee.{Float, fin, binary64, of_bits, add, sub, mul, le, to_unsigned}
+use lib.Ieee.{Float, fin, binary64, of_bits, sub, mul, le, to_unsigned}
 use Rattle.whole.specs.Bounds.{AtMost, WholePart}
 use Rattle.whole.specs.Cut.{twos}
 use Rattle.whole.specs.Words.{has}

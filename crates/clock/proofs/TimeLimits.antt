@@ -9,8 +9,9 @@ use Rattle.whole.proofs.Round.{mul_at_most, add_at_most, sub_at_most, good_at_mo
 use Rattle.whole.proofs.Order.{good_clear, grows, le_trans_clear, le_refl_clear, le_of_not_lt, at_most_of_not_lt}
 use Rattle.whole.proofs.Order.{zero_least}
 use Rattle.clock.specs.declared.Times.{Times}
-use Rattle.clock.specs.declared.Moved.TheVariants.{To, BadTime}
-use Rattle.clock.specs.declared.Paced.TheVariants.{By, BadTurbo}
+use Rattle.std.specs.Prelude.{Ok, Err}
+use Rattle.map.specs.declared.refusals.Refusal.TheVariants.{BadTime}
+use Rattle.map.specs.declared.refusals.Refusal.TheVariants.{BadTurbo}
 use Rattle.clock.specs.Times.{fresh_times, game_after, moved_of, paced_of}
 use Rattle.clock.specs.Within.{Within, Later, Past}
 
@@ -52,18 +53,19 @@ module _ (s : Times) (to : Float) (v : Within s) (g : T (good_time to)) (l : lt 
   )
 
 -- AN ADVANCE KEEPS THE LIMITS, and neither time goes back
-pub moves_within : (s t : Times) (to : Float) → Within s → moved_of s to ≡ To t → Within t × Later s t
+pub moves_within : (s t : Times) (to : Float) → Within s → moved_of s to ≡ Ok t → Within t × Later s t
 unfolding moved_of
 moves_within s t to v e = by (good_time to) refl (lt to s.now) refl (lt (of_bits binary64 0x41E0_0000_0000_0000)
     (game_after s to)) refl e
   where
-    never : (t : Times) → BadTime ≡ To t → ⊥
+    never : (t : Times) → (Err BadTime) ≡ Ok t → ⊥
     never t e = let z : ◌≡◌ {A = ℕ} 0 1 = cc in omega arith
 
     by : (a : Bool) → good_time to ≡ a → (b : Bool) → lt to s.now ≡ b → (c : Bool)
         → lt (of_bits binary64 0x41E0_0000_0000_0000) (game_after s to) ≡ c
-        → cond a (cond b BadTime (cond c BadTime (To (record { now = to; game = game_after s to; turbo = s.turbo }))))
-        BadTime ≡ To t → Within t × Later s t
+        → cond a (cond b (Err BadTime) (cond c (Err BadTime) (Ok
+        (record { now = to; game = game_after s to; turbo = s.turbo }))))
+        (Err BadTime) ≡ Ok t → Within t × Later s t
     by true p false q false r e =
         let same : record { now = to; game = game_after s to; turbo = s.turbo } ≡ t = cc in
         subst (λ (u : Times). Within u × Later s u) same (goes_on s to v (subst T (sym p) tt) q r)
@@ -72,16 +74,17 @@ moves_within s t to v e = by (good_time to) refl (lt to s.now) refl (lt (of_bits
     by true p false q true r e = absurd (never t e)
 
 -- another turbo keeps them too
-pub paces_within : (s t : Times) (to : Float) → Within s → paced_of s to ≡ By t
+pub paces_within : (s t : Times) (to : Float) → Within s → paced_of s to ≡ Ok t
     → Within t × (t.now ≡ s.now) × (t.game ≡ s.game)
 unfolding paced_of
 paces_within s t to v e = by (good_turbo to) refl e
   where
-    never : (t : Times) → BadTurbo ≡ By t → ⊥
+    never : (t : Times) → (Err BadTurbo) ≡ Ok t → ⊥
     never t e = let z : ◌≡◌ {A = ℕ} 0 1 = cc in omega arith
 
-    by : (a : Bool) → good_turbo to ≡ a → cond a (By (record { now = s.now; game = s.game; turbo = to })) BadTurbo ≡
-        By t
+    by : (a : Bool) → good_turbo to ≡ a
+        → cond a (Ok (record { now = s.now; game = s.game; turbo = to })) (Err BadTurbo) ≡
+        Ok t
         → Within t × (t.now ≡ s.now) × (t.game ≡ s.game)
     by true p e =
         let same : record { now = s.now; game = s.game; turbo = to } ≡ t = cc in

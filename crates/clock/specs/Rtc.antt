@@ -7,8 +7,7 @@ use Rattle.whole.specs.Cut.{twos}
 use Rattle.whole.specs.Words.{has, lacks}
 use Rattle.clock.specs.declared.Latch.{Latch}
 use Rattle.clock.specs.declared.Rtc.{Rtc}
-use Rattle.clock.specs.declared.Alarm.{Alarm}
-use Rattle.clock.specs.declared.Alarm.TheVariants.{Off, At}
+use Rattle.std.specs.Prelude.{Option, Some, None}
 
 -- (game - since) * 32768.0, cut, on top of the base
 unfoldable pub ticks_of : Latch → Float → ℕ
@@ -26,13 +25,13 @@ six_bytes regs from =
     (slice_index regs (from + 3))
     (slice_index regs (from + 4)) (slice_index regs (from + 5))
 
-unfoldable pub alarm_of : List ℕ → Alarm
-alarm_of regs = cond (lacks (slice_index regs 0x40) 6) Off (At (six_bytes regs 0x20))
+unfoldable pub alarm_of : List ℕ → Option ℕ
+alarm_of regs = cond (lacks (slice_index regs 0x40) 6) None (Some (six_bytes regs 0x20))
 
 -- an alarm's values: 0 and 0 where it is off, else 1 and its ticks
-abbrev pub alarm_values : Alarm → ℕ × ℕ
-alarm_values Off = (0, 0)
-alarm_values (At t) = (1, t)
+abbrev pub alarm_values : Option ℕ → ℕ × ℕ
+alarm_values None = (0, 0)
+alarm_values (Some t) = (1, t)
 
 abbrev pub rtc_of : List ℕ → Latch → Rtc
 rtc_of regs latch = record { regs = regs; latch = latch }

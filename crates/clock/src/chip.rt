@@ -1,9 +1,9 @@
 // The RTC chip behind its register bus. Its 256 registers are lent.
-ghost use Rattle.std.specs.Prelude.{◌≡◌, ◌+◌, ◌<◌, slice_index};
-ghost use Rattle.clock.specs.Rtc.{fresh_rtc, ticks_of, joined_of, six_bytes, alarm_of, rtc_of, latched_of, output_of};
+ghost use Rattle.std.specs.Prelude.{◌≡◌, ◌+◌, ◌<◌};
+ghost use Rattle.clock.specs.Rtc.{fresh_rtc, ticks_of, six_bytes, alarm_of, rtc_of, latched_of, output_of};
 ghost use Rattle.clock.specs.Rtc.{commanded_of};
 
-use crate::{Alarm, Latch, Rtc};
+use crate::{Latch, Rtc};
 
 // The chip as it is after a wipe.
 pub fn fresh() -> Rtc
@@ -23,51 +23,36 @@ pub fn fresh() -> Rtc
 pub fn ticks(latch: Latch, game: f64) -> u64
     ensures { result ≡ ticks_of latch game }
 {
-    std::num::wrapping_add_u64(
-        latch.base,
-        whole::whole_signed((game - latch.since) * 32768.0),
-    )
-}
-
-fn get(regs: &[u8; 256], at: usize) -> u8
-    requires { at < 256 }
-    ensures { result ≡ slice_index regs.now at }
-{
-    regs[at]
+    latch
+        .base
+        .wrapping_add(whole::whole_signed((game - latch.since) * 32768.0))
 }
 
 // Six bytes, the lowest first.
-fn joined(a: u8, b: u8, c: u8, d: u8, e: u8, f: u8) -> u64
-    ensures { result ≡ joined_of a b c d e f }
-{
-    a as u64
-        + b as u64 * 0x100
-        + c as u64 * 0x1_0000
-        + d as u64 * 0x100_0000
-        + e as u64 * 0x1_0000_0000
-        + f as u64 * 0x100_0000_0000
-}
-
 fn six_bytes(regs: &[u8; 256], from: usize) -> u64
     requires { from + 5 < 256 }
     ensures { result ≡ six_bytes regs.now from }
 {
-    let a = get(regs, from);
-    let b = get(regs, from + 1);
-    let c = get(regs, from + 2);
-    let d = get(regs, from + 3);
-    let e = get(regs, from + 4);
-    let f = get(regs, from + 5);
-    joined(a, b, c, d, e, f)
+    u64::from_le_bytes([
+        regs[from],
+        regs[from + 1],
+        regs[from + 2],
+        regs[from + 3],
+        regs[from + 4],
+        regs[from + 5],
+        0,
+        0,
+    ])
 }
 
-pub fn alarm_ticks(regs: &[u8; 256]) -> Alarm
+// The ticks at which the alarm goes off, where it is on.
+pub fn alarm_ticks(regs: &[u8; 256]) -> Option<u64>
     ensures { result ≡ alarm_of regs.now }
 {
-    if get(regs, 0x40) & 6 == 0 {
-        return Alarm::Off;
+    if regs[0x40] & 6 == 0 {
+        return None;
     }
-    Alarm::At(six_bytes(regs, 0x20))
+    Some(six_bytes(regs, 0x20))
 }
 
 // The staged ticks become the base.
@@ -77,7 +62,7 @@ fn latched(regs: &[u8; 256], latch: Latch, game: f64) -> Latch
     Latch {
         base: six_bytes(regs, 0x10),
         since: game,
-        out: latch.out,
+        ..latch
     }
 }
 
@@ -85,16 +70,11 @@ fn output(regs: &[u8; 256], latch: Latch, game: f64, at: usize) -> u32
     requires { at < 256 }
     ensures { result ≡ output_of latch regs.now game at }
 {
-    if at == 0 {
-        return (get(regs, 0) & 0xEF) as u32;
+    match at {
+        0 => u32::from(regs[0] & 0xEF),
+        0x30..=0x35 => (ticks(latch, game) >> (8 * (at - 0x30)) & 0xFF) as u32,
+        _ => u32::from(regs[at]),
     }
-    if at < 0x30 {
-        return get(regs, at) as u32;
-    }
-    if at > 0x35 {
-        return get(regs, at) as u32;
-    }
-    (ticks(latch, game) >> (8 * (at - 0x30)) & 0xFF) as u32
 }
 
 // A command with the bus's address and data words: bit 0 writes, else bit 1 reads.
@@ -118,11 +98,7 @@ pub fn rtc_command(
     }
     if cmd & 2 != 0 {
         let out = output(regs, latch, game, at);
-        return Latch {
-            base: latch.base,
-            since: latch.since,
-            out,
-        };
+        return Latch { out, ..latch };
     }
     latch
 }

@@ -3,7 +3,7 @@ ghost use Rattle.std.specs.Prelude.{◌≡◌};
 ghost use Rattle.clock.specs.Day.{fresh_irq, tod_of, field_of, set_of};
 
 use crate::RtcIrq;
-use whole::forms::choose_wide;
+use whole::forms::choose;
 
 // The clock as it is after a wipe.
 pub fn fresh() -> RtcIrq
@@ -28,6 +28,7 @@ pub fn tod(irq: RtcIrq, game: f64) -> u64
 }
 
 // Field 0 is seconds, 1 minutes, any other hours.
+#[tactic(auto, unfolding(crate::specs::Day::field_of))]
 pub fn tod_read(irq: RtcIrq, game: f64, field: u32) -> u64
     ensures { result ≡ field_of (tod_of irq game) field }
 {
@@ -47,9 +48,9 @@ pub fn tod_write(irq: RtcIrq, game: f64, field: u32, value: u32) -> RtcIrq
 {
     let t = tod(irq, game);
     let v = value as u64;
-    let seconds = choose_wide(field == 0, v, t % 60) % 60;
-    let minutes = choose_wide(field == 1, v, t / 60 % 60) % 60;
-    let hours = choose_wide(field > 1, v, t / 3600) % 24;
+    let seconds = choose(field == 0, v, t % 60) % 60;
+    let minutes = choose(field == 1, v, t / 60 % 60) % 60;
+    let hours = choose(field > 1, v, t / 3600) % 24;
     RtcIrq {
         fired: irq.fired,
         base: (hours * 3600 + minutes * 60 + seconds) as u32,

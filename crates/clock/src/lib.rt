@@ -17,20 +17,6 @@ pub struct Times {
     pub turbo: f64,
 }
 
-// Later times, or refusal 1.
-#[derive(Drop)]
-pub enum Moved {
-    To(Times),
-    BadTime,
-}
-
-// The same times at another turbo, or refusal 2.
-#[derive(Drop)]
-pub enum Paced {
-    By(Times),
-    BadTurbo,
-}
-
 // What the RTC chip holds beside its registers: the ticks that were latched, the game time at which they were, and
 // what it put out. The ticks are the 64 bits of the Rust's i64.
 #[derive(Clone, Copy)]
@@ -44,12 +30,6 @@ pub struct Latch {
 pub struct Rtc {
     pub regs: [u8; 256],
     pub latch: Latch,
-}
-
-#[derive(Drop)]
-pub enum Alarm {
-    Off,
-    At(u64),
 }
 
 // The SoC's clock: seconds signalled, the time of day that was set, and the game time at which it was.

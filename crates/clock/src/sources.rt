@@ -37,8 +37,7 @@ pub fn rtc_irq_advance(irq: RtcIrq, game: f64, status: u32) -> Ticked
     Ticked {
         irq: RtcIrq {
             fired: s.seen,
-            base: irq.base,
-            set: irq.set,
+            ..irq
         },
         status: s.status,
     }

@@ -16,11 +16,11 @@ use Rattle.registers.proofs.Cases.{Missed, count_from, past_missed}
 use Rattle.panel.specs.declared.Colours.{Colours}
 use Rattle.panel.specs.Colour.{pixel_at}
 use Rattle.timer.specs.declared.Event.{Event}
-use Rattle.time.specs.declared.NextTime.{NextTime}
+use Rattle.time.specs.Next.{NextTime}
 use Rattle.system.specs.declared.System.{System}
-use Rattle.system.specs.declared.Changed.{Changed}
-use Rattle.system.specs.declared.Read.{Read}
-use Rattle.system.specs.declared.Taken.{Taken}
+use Rattle.system.specs.Calls.{Changed}
+use Rattle.system.specs.Calls.{Read}
+use Rattle.system.specs.Calls.{Taken}
 use Rattle.system.specs.System.{Machine, machine, Left, left}
 use Rattle.system.specs.Calls.{changed, Moved, moved, read_of, write_of, advance_of, next_of, turbo_of, pending_of}
 use Rattle.system.specs.Calls.{take_of}

@@ -1,28 +1,54 @@
 // One step of a script: what it does, by its kind.
 ghost use Rattle.std.specs.Prelude.{◌≡◌, List, Float};
+ghost use Rattle.map.specs.Refusals.{number_of, value_or};
+ghost use Rattle.whole.specs.Forms.{bits_of, nought};
+ghost use Rattle.timer.specs.Events.{nothing};
 ghost use Rattle.state.specs.Bank.{devices_in, parts_in};
 ghost use Rattle.state.specs.Packed.{StaysPacked};
 ghost use Rattle.system.specs.Bank.{machine_of};
+ghost use Rattle.entries.specs.Answers.{reply};
 ghost use Rattle.entries.specs.Inner.{sound_reply, counters_reply, colour_reply};
 ghost use Rattle.entries.specs.Turn.{run_state, after_step};
 
-use crate::replies::{lay, numbers, refused};
+use crate::replies::{lay, numbers, plain};
 use crate::{Answer, Entry};
+use map::Refusal;
 use panel::Colours;
 use state::{Cells, Floats};
-use time::Waited;
-use whole::forms::{bits_of, flag};
+use timer::Event;
+use whole::forms::bits_of;
+use whole::limits::Bits;
 
-fn sound(waited: Waited) -> Answer
-    ensures { result ≡ sound_reply waited.refusal waited.event }
+fn word(got: Result<u32, Refusal>) -> Answer
+    ensures { result ≡ reply (number_of got) (value_or got 0) 0 0 }
 {
-    let event = waited.event;
-    numbers(
-        waited.refusal,
-        bits_of(event.time),
-        bits_of(event.frequency),
-        bits_of(event.duty),
-    )
+    match got {
+        Ok(word) => numbers(map::DONE, word as u64, 0, 0),
+        Err(_) => plain(got),
+    }
+}
+
+fn moment(next: Result<f64, Refusal>) -> Answer
+    ensures { result ≡ reply (number_of next) (bits_of (value_or next nought)) 0 0 }
+{
+    match next {
+        Ok(time) => numbers(map::DONE, bits_of(time), 0, 0),
+        Err(_) => plain(next),
+    }
+}
+
+fn sound(waited: Result<Event, Refusal>) -> Answer
+    ensures { result ≡ sound_reply (number_of waited) (value_or waited nothing) }
+{
+    match waited {
+        Ok(event) => numbers(
+            map::DONE,
+            bits_of(event.time),
+            bits_of(event.frequency),
+            bits_of(event.duty),
+        ),
+        Err(refusal) => plain::<()>(Err(refusal)),
+    }
 }
 
 fn counters(cells: &Cells) -> Answer
@@ -31,7 +57,7 @@ fn counters(cells: &Cells) -> Answer
     let frames = state::panels::frames_of(cells);
     let writes = state::chips::writes_of(cells);
     let off = state::rests::off_of(cells);
-    numbers(map::DONE, frames, writes, flag(off))
+    numbers(map::DONE, frames, writes, u64::from(off))
 }
 
 fn colour(c: Colours) -> Answer
@@ -87,7 +113,7 @@ pub fn act(
             let got = bus::read::read(
                 slots, addresses, values, cells, floats, ram, sram, gpio, e.address, e.size,
             );
-            lay(out, to, numbers(got.refusal, got.value as u64, 0, 0));
+            lay(out, to, word(got));
         }
         2 => {
             let written = bus::write::write(
@@ -109,33 +135,40 @@ pub fn act(
                 e.size,
                 (e.value % 0x1_0000_0000) as u32,
             );
-            lay(out, to, refused(written.refusal));
+            lay(out, to, plain(written));
         }
         3 => {
-            let n = time::advancing::advance_bits(
-                slots, cells, floats, sram, gpio, starts, codes, e.value,
+            let advanced = time::advancing::advance(
+                slots,
+                cells,
+                floats,
+                sram,
+                gpio,
+                starts,
+                codes,
+                Bits(e.value),
             );
-            lay(out, to, refused(n));
+            lay(out, to, plain(advanced));
         }
         4 => {
             let next = time::next::next_event(slots, cells, floats, sram, starts);
-            lay(out, to, numbers(next.refusal, bits_of(next.time), 0, 0));
+            lay(out, to, moment(next));
         }
         5 => {
             let n = time::irq::pending_irq(slots, cells);
             lay(out, to, numbers(map::DONE, n as u64, 0, 0));
         }
         6 => {
-            let n = time::pace::turbo_bits(floats, e.value);
-            lay(out, to, refused(n));
+            let paced = time::pace::set_turbo(floats, Bits(e.value));
+            lay(out, to, plain(paced));
         }
         7 => {
-            let n = time::buttons::set_live(cells, floats, e.address, e.value != 0);
-            lay(out, to, refused(n));
+            let changed = time::buttons::set_live(cells, floats, e.address, e.value != 0);
+            lay(out, to, plain(changed));
         }
         8 => {
-            let n = time::buttons::hold_bits(cells, floats, e.address, e.value);
-            lay(out, to, refused(n));
+            let held = time::buttons::hold_until(cells, floats, e.address, Bits(e.value));
+            lay(out, to, plain(held));
         }
         9 => {
             let waited = time::tones::take_event(onsets, frequencies, duties, cells);
@@ -167,10 +200,10 @@ pub fn act(
                 gpio,
                 fb,
             );
-            lay(out, to, refused(map::DONE));
+            lay(out, to, plain::<()>(Ok(())));
         }
         _ => {
-            lay(out, to, refused(map::BAD_SCRIPT));
+            lay(out, to, plain::<()>(Err(Refusal::BadScript)));
         }
     }
 }

@@ -1,8 +1,10 @@
 // Answers, and their bytes in the output.
 ghost use Rattle.std.specs.Prelude.{◌≡◌, ◌<◌};
+ghost use Rattle.map.specs.Refusals.{number_of};
 ghost use Rattle.entries.specs.Answers.{reply, stored_wide, answer_laid, laid_within};
 
 use crate::Answer;
+use map::Refusal;
 
 // The bytes of an answer: a refusal and three numbers.
 pub const ANSWER_BYTES: usize = map::ANSWER_BYTES;
@@ -13,10 +15,14 @@ pub(crate) fn numbers(refusal: u8, a: u64, b: u64, c: u64) -> Answer
     Answer { refusal, a, b, c }
 }
 
-pub fn refused(refusal: u8) -> Answer
-    ensures { result ≡ reply refusal 0 0 0 }
+// Of a call whose answer is no more than that it is done, or why not.
+pub fn plain<T: Drop>(answer: Result<T, Refusal>) -> Answer
+    ensures { result ≡ reply (number_of answer) 0 0 0 }
 {
-    numbers(refusal, 0, 0, 0)
+    match answer {
+        Ok(_) => numbers(map::DONE, 0, 0, 0),
+        Err(refusal) => numbers(u8::from(refusal), 0, 0, 0),
+    }
 }
 
 // Eight bytes, the lowest first.

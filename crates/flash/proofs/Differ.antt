@@ -1,5 +1,5 @@
 -- The lists of departures are not too long: what is listed does differ from the data sheet.
-use Rattle.std.proofs.Common.{◌≡◌, ℕ, zero, suc, ◌+◌, ◌-◌, ◌%◌, ◌<◌, ◌≤◌, Bool, true, false, eqb, ltb, leb, List}
+use Rattle.std.proofs.Common.{◌≡◌, ℕ, zero, suc, ◌-◌, ◌%◌, ◌<◌, ◌≤◌, Bool, true, false, eqb, ltb, leb, List}
 use Rattle.std.proofs.Common.{[], ◌∷◌, ◌++◌, length, get_or, take, drop, replicate, sym, refl, ap, ◌∙◌, subst, ap₂}
 use Rattle.std.proofs.Common.{not-suc-le-zero, mod-eq_of_lt, arith, ltb-true, le-ltb, lt-ltb, ne_eqb, eqb-true}
 use Rattle.std.proofs.Common.{le-leb}

@@ -2,6 +2,7 @@
 pub mod Bools
 pub mod Laws
 pub mod Cases
+pub mod Stays
 pub mod Unique
 pub mod Whole
 pub mod Place

@@ -1,6 +1,6 @@
 -- Strict mode differs from document 000 by the rules named for it alone, and each strict departure keeps document 000's
 -- behaviour.
-use Rattle.std.proofs.Common.{◌≡◌, ℕ, zero, suc, ◌-◌, ◌%◌, ◌<◌, ◌≤◌, Bool, true, false, eqb, List, [], ◌∷◌, length}
+use Rattle.std.proofs.Common.{◌≡◌, ℕ, zero, suc, ◌%◌, ◌<◌, ◌≤◌, Bool, true, false, eqb, List, [], ◌∷◌, length}
 use Rattle.std.proofs.Common.{sym, refl, ap, ◌∙◌, not-suc-le-zero, mod-lt, arith, ltb-false, le-ltb, lt-ltb}
 use borrow.Author.Tests.{eqb-false}
 use Rattle.whole.proofs.Choice.{by_less}

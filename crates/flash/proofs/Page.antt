@@ -1,5 +1,5 @@
 -- A program byte by byte into the array is the page's running AND, ANDed in at the end.
-use Rattle.std.proofs.Common.{◌≡◌, ℕ, zero, suc, ◌+◌, ◌-◌, ◌*◌, ◌/◌, ◌%◌, ◌<◌, ◌≤◌, min, List, [], ◌∷◌, ◌++◌}
+use Rattle.std.proofs.Common.{◌≡◌, ℕ, zero, suc, ◌+◌, ◌*◌, ◌/◌, ◌%◌, ◌<◌, ◌≤◌, min, List, [], ◌∷◌, ◌++◌}
 use Rattle.std.proofs.Common.{length, get_or, take, drop, set, replicate, sym, refl, ap, ◌∙◌, ap₂, mod-lt}
 use Rattle.std.proofs.Common.{mod-eq_of_lt, arith, length-set, take-append-drop, length-take, get_or-drop}
 use Rattle.std.proofs.Common.{get_or-take, drop-drop, drop-set-lt}

@@ -1,16 +1,14 @@
 -- What a call of the flash can change, as one record; and which arrays are refused.
-use Rattle.std.specs.Prelude.{◌≡◌, ℕ, ◌%◌, ◌^◌, ◌≤◌, Bool, true, false, List, ◌==◌}
+use Rattle.std.specs.Prelude.{◌≡◌, ℕ, ◌%◌, ◌^◌, ◌≤◌, Bool, true, false, List, ◌==◌, Result}
 use Rattle.map.specs.Numbers.{FLASH_SIZE, DONE, BAD_MEMORY}
+use Rattle.map.specs.declared.refusals.Refusal.{Refusal}
+use Rattle.map.specs.Refusals.{number_of, value_or}
 use Rattle.flash.specs.Pick.{either}
 use Rattle.flash.specs.declared.Mode.{Mode}
 use Rattle.flash.specs.declared.Mode.TheVariants.{Rust, Strict}
-use Rattle.flash.specs.declared.Refusal.{Refusal}
-use Rattle.flash.specs.declared.Refusal.TheVariants.{Done, BadMemory}
 use Rattle.flash.specs.declared.Trans.{Trans}
 use Rattle.flash.specs.declared.Chip.{Chip}
-use Rattle.flash.specs.declared.Reply.{Reply}
 use Rattle.flash.specs.declared.SpiFlash.{SpiFlash}
-use Rattle.flash.specs.declared.Served.{Served}
 
 -- the chip, the page's running AND that stands beside it, and the lent array
 pub record Board : Type 0 where
@@ -24,24 +22,44 @@ pub record Outcome : Type 0 where
   pub answer : ℕ
   pub board : Board
 
--- Refusal numbers: 0 done, 7 BadMemory
-abbrev pub number_of : Refusal → ℕ
-number_of Done = DONE
-number_of BadMemory = BAD_MEMORY
+-- what a step answers: 01's number, the answered byte, and the later chip
+pub record Reply : Type 0 where
+  pub refusal : ℕ
+  pub answer : ℕ
+  pub chip : Chip
+
+-- of a select, which answers no byte, and of a transfer; where it refuses, the chip is the one that was given
+abbrev pub selecting : Chip → Result Chip Refusal → Reply
+selecting c r = record { refusal = number_of r; answer = 0; chip = value_or r c }
+
+abbrev pub transferring : Chip → Result (ℕ × Chip) Refusal → Reply
+transferring c r =
+    record { refusal = number_of r; answer = (value_or r (0, c)).0; chip = (value_or r (0, c)).1 }
 
 abbrev pub board : Chip → List ℕ → List ℕ → Board
 board c p m = record { chip = c; page = p; array = m }
 
 abbrev pub outcome : Reply → List ℕ → List ℕ → Outcome
-outcome r p m = record { refusal = number_of r.refusal; answer = r.answer; board = board r.chip p m }
+outcome r p m = record { refusal = r.refusal; answer = r.answer; board = board r.chip p m }
 
 -- the same of the answer by value
 abbrev pub chip_with_page : Chip → List ℕ → SpiFlash
 chip_with_page c p = record { chip = c; page = p }
 
+pub record Served : Type 0 where
+  pub refusal : ℕ
+  pub answer : ℕ
+  pub flash : SpiFlash
+
+abbrev pub selecting_value : SpiFlash → Result SpiFlash Refusal → Served
+selecting_value f r = record { refusal = number_of r; answer = 0; flash = value_or r f }
+
+abbrev pub transferring_value : SpiFlash → Result (ℕ × SpiFlash) Refusal → Served
+transferring_value f r =
+    record { refusal = number_of r; answer = (value_or r (0, f)).0; flash = (value_or r (0, f)).1 }
+
 abbrev pub served : Served → List ℕ → Outcome
-served r m =
-    record { refusal = number_of r.refusal; answer = r.answer; board = board r.flash.chip r.flash.page m }
+served r m = record { refusal = r.refusal; answer = r.answer; board = board r.flash.chip r.flash.page m }
 
 -- ---- the chip with a part of it changed
 abbrev pub with_mode : Chip → Mode → Chip

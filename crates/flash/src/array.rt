@@ -5,17 +5,15 @@ ghost use Rattle.flash.specs.Finish.{ands, patch};
 pub(crate) fn fill(part: &mut [u8])
     ensures { part.new ≡ replicate (length part.old) 0xFF }
 {
-    for k in 0..part.len() {
-        part[k] = 0xFF;
-    }
+    part.fill(0xFF);
 }
 
 fn program(part: &mut [u8], mask: &[u8; 256])
     requires { length part.old ≡ 256 }
     ensures { part.new ≡ ands part.old mask.now }
 {
-    for k in 0..256 {
-        part[k] = part[k] & mask[k];
+    for (k, b) in part.iter_mut().enumerate() {
+        *b &= mask[k];
     }
 }
 

@@ -1,16 +1,11 @@
 // `flash.buf`: a transaction's first bytes, its position and the page's running AND.
 ghost use Rattle.std.specs.Prelude.{◌≡◌, ◌+◌, ◌<◌, ◌≤◌, nat_le};
 ghost use Rattle.map.specs.Numbers.{FLASH_SIZE};
-ghost use Rattle.flash.specs.Pick.{pick, either};
+ghost use Rattle.flash.specs.Pick.{either};
 ghost use Rattle.flash.specs.Buf.{fresh, blank, next_pos, gathered, pushed, addr_of};
 
 use crate::Trans;
-
-pub(crate) fn wide(x: u8) -> usize
-    ensures { result ≡ x }
-{
-    x as usize
-}
+use whole::forms::choose;
 
 pub(crate) fn start() -> Trans
     ensures { result ≡ fresh }
@@ -53,15 +48,8 @@ pub(crate) fn gather(t: Trans, page: &mut [u8; 256], byte: u8)
     if pos < 4 {
         return;
     }
-    let k = (wide(t.a3) + (pos - 4) % 256) % 256;
+    let k = (usize::from(t.a3) + (pos - 4) % 256) % 256;
     page[k] = page[k] & byte;
-}
-
-// The byte where it belongs here, else the one that is there.
-fn byte_if(here: bool, byte: u8, old: u8) -> u8
-    ensures { result ≡ pick here byte old }
-{
-    if here { byte } else { old }
 }
 
 // Four choices without a branch: a match on the position would branch at every byte that is sent.
@@ -71,10 +59,10 @@ pub(crate) fn push(t: Trans, n: usize, byte: u8) -> Trans
 {
     let pos = t.pos;
     Trans {
-        cmd: byte_if(pos == 0, byte, t.cmd),
-        a1: byte_if(pos == 1, byte, t.a1),
-        a2: byte_if(pos == 2, byte, t.a2),
-        a3: byte_if(pos == 3, byte, t.a3),
+        cmd: choose(pos == 0, byte, t.cmd),
+        a1: choose(pos == 1, byte, t.a1),
+        a2: choose(pos == 2, byte, t.a2),
+        a3: choose(pos == 3, byte, t.a3),
         pos: next(pos, n),
         long: mark(t.long, pos),
     }
@@ -85,5 +73,5 @@ pub(crate) fn address(t: Trans, n: usize) -> usize
     requires { 0 < n }
     ensures { result ≡ addr_of t n }
 {
-    (wide(t.a1) * 65536 + wide(t.a2) * 256 + wide(t.a3)) % n
+    u32::from_be_bytes([0, t.a1, t.a2, t.a3]) as usize % n
 }

@@ -68,21 +68,14 @@ fn decide(chip: Chip) -> Act
     Act::Nothing
 }
 
-fn with_wel(chip: Chip, on: bool) -> Chip
-    ensures { result ≡ with_enable chip on chip.writes }
-{
-    let mut next = chip;
-    next.wel = on;
-    next
-}
-
 fn wrote(chip: Chip) -> Chip
     ensures { result ≡ with_enable chip false ((chip.writes + 1) % 2 ^ 64) }
 {
-    let mut next = chip;
-    next.wel = false;
-    next.writes = std::num::wrapping_add_u64(chip.writes, 1);
-    next
+    Chip {
+        wel: false,
+        writes: chip.writes.wrapping_add(1),
+        ..chip
+    }
 }
 
 pub(crate) fn finish(chip: Chip, page: &[u8; 256], array: &mut [u8]) -> Chip
@@ -95,8 +88,8 @@ pub(crate) fn finish(chip: Chip, page: &[u8; 256], array: &mut [u8]) -> Chip
     let act = decide(chip);
     match act {
         Act::Nothing => chip,
-        Act::Enable => with_wel(chip, true),
-        Act::Disable => with_wel(chip, false),
+        Act::Enable => Chip { wel: true, ..chip },
+        Act::Disable => Chip { wel: false, ..chip },
         Act::Program => {
             let start = at - at % 256;
             program_page(array, start, page);
@@ -110,7 +103,7 @@ pub(crate) fn finish(chip: Chip, page: &[u8; 256], array: &mut [u8]) -> Chip
         }
         Act::EraseAll => {
             fill(array);
-            with_wel(chip, false)
+            Chip { wel: false, ..chip }
         }
     }
 }

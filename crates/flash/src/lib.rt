@@ -10,21 +10,17 @@ mod finish;
 mod xfer;
 
 ghost use Rattle.std.specs.Prelude.{◌≡◌};
-ghost use Rattle.flash.specs.Board.{board, outcome, served, chip_with_page, with_cs, good_size};
-ghost use Rattle.flash.specs.Inner.{refusing, giving};
+ghost use Rattle.flash.specs.Board.{board, outcome, selecting, transferring, chip_with_page, good_size};
+ghost use Rattle.flash.specs.Board.{served, selecting_value, transferring_value};
 ghost use Rattle.flash.specs.Flash.{transaction_begun, selected, transferred, made_in};
+
+use map::Refusal;
 
 // Whose rules hold: document 000's alone, or also those that are named for strict mode.
 #[derive(Clone, Copy)]
 pub enum Mode {
     Rust,
     Strict,
-}
-
-#[derive(Drop)]
-pub enum Refusal {
-    Done,
-    BadMemory,
 }
 
 // A transaction: its first four bytes, its position, and whether it has more than 260 bytes. The position is exact
@@ -48,13 +44,6 @@ pub struct Chip {
     pub writes: u64,
     pub rx: u8,
     pub tx: Trans,
-}
-
-#[derive(Drop)]
-pub struct Reply {
-    pub refusal: Refusal,
-    pub answer: u8,
-    pub chip: Chip,
 }
 
 // What the first byte asks to be answered.
@@ -93,94 +82,67 @@ pub(crate) enum Block {
 fn good(n: usize) -> bool
     ensures { result ≡ good_size n }
 {
-    (n == 0x1_0000)
-        | ((n == 0x2_0000)
-            | ((n == 0x4_0000)
-                | ((n == 0x8_0000)
-                    | ((n == 0x10_0000)
-                        | ((n == 0x20_0000) | ((n == 0x40_0000) | (n == 0x80_0000)))))))
-}
-
-fn refuse(chip: Chip) -> Reply
-    ensures { result ≡ refusing chip }
-{
-    Reply {
-        refusal: Refusal::BadMemory,
-        answer: 0,
-        chip,
-    }
-}
-
-fn give(answer: u8, chip: Chip) -> Reply
-    ensures { result ≡ giving answer chip }
-{
-    Reply {
-        refusal: Refusal::Done,
-        answer,
-        chip,
-    }
-}
-
-fn with_cs(chip: Chip, on: bool) -> Chip
-    ensures { result ≡ with_cs chip on }
-{
-    let mut next = chip;
-    next.cs = on;
-    next
+    matches!(
+        n,
+        0x1_0000 | 0x2_0000 | 0x4_0000 | 0x8_0000 | 0x10_0000 | 0x20_0000 | 0x40_0000 | 0x80_0000
+    )
 }
 
 // The chip selected, with a transaction of no bytes.
 fn begin(chip: Chip) -> Chip
     ensures { result ≡ transaction_begun chip }
 {
-    let t = buf::start();
-    let mut next = chip;
-    next.cs = true;
-    next.tx = t;
-    next
+    Chip {
+        cs: true,
+        tx: buf::start(),
+        ..chip
+    }
 }
 
 // flash_select. A second select is no boundary, and a deselect of the chip that is not selected does nothing.
-pub fn select(chip: Chip, page: &mut [u8; 256], array: &mut [u8], on: bool) -> Reply
-    ensures { outcome result page.new array.new ≡ selected
+pub fn select(chip: Chip, page: &mut [u8; 256], array: &mut [u8], on: bool) -> Result<Chip, Refusal>
+    ensures { outcome (selecting chip result) page.new array.new ≡ selected
         (board chip page.old array.old) on }
 {
     let ok = good(array.len());
     let cs = chip.cs;
     if !ok {
-        return refuse(chip);
+        return Err(Refusal::BadMemory);
     }
     if on {
         if cs {
-            return give(0, chip);
+            return Ok(chip);
         }
         buf::clear(page);
-        return give(0, begin(chip));
+        return Ok(begin(chip));
     }
     if !cs {
-        return give(0, chip);
+        return Ok(chip);
     }
     let ended = finish::finish(chip, page, array);
-    give(0, with_cs(ended, false))
+    Ok(Chip { cs: false, ..ended })
 }
 
-// flash_xfer. It looks at no select: a transfer while unselected counts and answers.
-pub fn transfer(chip: Chip, page: &mut [u8; 256], array: &[u8], byte: u8) -> Reply
-    ensures { outcome result page.new array.now ≡ transferred
+// flash_xfer: the answered byte, and the later chip. It looks at no select: a transfer while unselected counts and
+// answers.
+pub fn transfer(
+    chip: Chip,
+    page: &mut [u8; 256],
+    array: &[u8],
+    byte: u8,
+) -> Result<(u8, Chip), Refusal>
+    ensures { outcome (transferring chip result) page.new array.now ≡ transferred
         (board chip page.old array.now) byte }
 {
     let n = array.len();
     let ok = good(n);
     if !ok {
-        return refuse(chip);
+        return Err(Refusal::BadMemory);
     }
     let rx = xfer::answer(chip, array);
     let t = buf::push(chip.tx, n, byte);
     buf::gather(chip.tx, page, byte);
-    let mut next = chip;
-    next.rx = rx;
-    next.tx = t;
-    give(rx, next)
+    Ok((rx, Chip { rx, tx: t, ..chip }))
 }
 
 // A chip as it is made, in a named mode, and its page.
@@ -202,17 +164,10 @@ pub fn made(mode: Mode, page: &mut [u8; 256]) -> Chip
 // ---- the same by value
 
 // The chip with the page's running AND.
-#[derive(Drop)]
+#[derive(Clone, Copy)]
 pub struct SpiFlash {
     pub chip: Chip,
     pub page: [u8; 256],
-}
-
-#[derive(Drop)]
-pub struct Served {
-    pub refusal: Refusal,
-    pub answer: u8,
-    pub flash: SpiFlash,
 }
 
 impl SpiFlash {
@@ -231,35 +186,21 @@ impl SpiFlash {
         SpiFlash { chip, page }
     }
 
-    pub fn select(self, array: &mut [u8], on: bool) -> Served
-        ensures { served result array.new ≡ selected
+    pub fn select(self, array: &mut [u8], on: bool) -> Result<SpiFlash, Refusal>
+        ensures { served (selecting_value self result) array.new ≡ selected
             (board self.chip self.page array.old) on }
     {
         let mut page = self.page;
-        let chip = self.chip;
-        let r = select(chip, &mut page, array, on);
-        let refusal = r.refusal;
-        let next = r.chip;
-        Served {
-            refusal,
-            answer: r.answer,
-            flash: SpiFlash { chip: next, page },
-        }
+        let chip = select(self.chip, &mut page, array, on)?;
+        Ok(SpiFlash { chip, page })
     }
 
-    pub fn transfer(self, array: &[u8], byte: u8) -> Served
-        ensures { served result array.now ≡ transferred
+    pub fn transfer(self, array: &[u8], byte: u8) -> Result<(u8, SpiFlash), Refusal>
+        ensures { served (transferring_value self result) array.now ≡ transferred
             (board self.chip self.page array.now) byte }
     {
         let mut page = self.page;
-        let chip = self.chip;
-        let r = transfer(chip, &mut page, array, byte);
-        let refusal = r.refusal;
-        let next = r.chip;
-        Served {
-            refusal,
-            answer: r.answer,
-            flash: SpiFlash { chip: next, page },
-        }
+        let (answer, chip) = transfer(self.chip, &mut page, array, byte)?;
+        Ok((answer, SpiFlash { chip, page }))
     }
 }

@@ -10,10 +10,7 @@ use crate::{Chip, Kind, Mode, Trans};
 pub(crate) fn strict(mode: Mode) -> bool
     ensures { result ≡ is_strict mode }
 {
-    match mode {
-        Mode::Rust => false,
-        Mode::Strict => true,
-    }
+    matches!(mode, Mode::Strict)
 }
 
 fn identity(i: usize) -> u8
@@ -34,16 +31,7 @@ fn maker(mode: Mode, a3: u8, i: usize) -> u8
 {
     let odd = strict(mode) & (a3 % 2 == 1);
     let second = (i - 4) % 2 == 1;
-    if odd {
-        if second {
-            return 0xEF;
-        }
-        return 0x16;
-    }
-    if second {
-        return 0x16;
-    }
-    0xEF
+    if odd == second { 0xEF } else { 0x16 }
 }
 
 // The byte that is so far on from the address, going round.
@@ -57,6 +45,7 @@ fn read(t: Trans, far: usize, array: &[u8]) -> u8
     array[at]
 }
 
+#[tactic(auto, unfolding(crate::specs::Xfer::kind_of))]
 fn decode(cmd: u8) -> Kind
     ensures { result ≡ kind_of cmd }
 {
@@ -84,44 +73,14 @@ fn respond(kind: Kind, chip: Chip, array: &[u8]) -> u8
     let i = t.pos;
     match kind {
         Kind::Identity => identity(i),
-        Kind::Maker => {
-            if i < 4 {
-                return 0xFF;
-            }
-            maker(mode, t.a3, i)
-        }
-        Kind::Device => {
-            if i < 4 {
-                return 0xFF;
-            }
-            0x16
-        }
-        Kind::Status => {
-            if chip.wel {
-                return 0x02;
-            }
-            0
-        }
+        Kind::Maker if 4 <= i => maker(mode, t.a3, i),
+        Kind::Device if 4 <= i => 0x16,
+        Kind::Status => { if chip.wel { 0x02 } else { 0 } }
         Kind::Zero => 0,
-        Kind::Read => {
-            if i < 4 {
-                return 0xFF;
-            }
-            read(t, i - 4, array)
-        }
-        Kind::FastRead => {
-            if i < 5 {
-                return 0xFF;
-            }
-            read(t, i - 5, array)
-        }
-        Kind::Unique => {
-            if i < 5 {
-                return 0xFF;
-            }
-            0x5A
-        }
-        Kind::Other => 0xFF,
+        Kind::Read if 4 <= i => read(t, i - 4, array),
+        Kind::FastRead if 5 <= i => read(t, i - 5, array),
+        Kind::Unique if 5 <= i => 0x5A,
+        _ => 0xFF,
     }
 }
 

@@ -8,9 +8,9 @@ use lib.Dec.{eqb, ltb}
 use lib.Ieee.{Float, nan}
 use lib.ListN.{get_or}
 use borrow.Author.Tests.{ltb-true}
+use Rattle.std.specs.Prelude.{None, Some}
 use Rattle.whole.specs.Forms.{bit}
 use Rattle.flash.specs.declared.Mode.TheVariants.{Rust, Strict}
-use Rattle.panel.specs.declared.MaybeByte.TheVariants.{Nothing, Byte}
 use Rattle.state.specs.Bank.{flag_in, mode_in, maybe_in, chip_in, panel_in, times_in, timer_in, irq_in, latch_in}
 use Rattle.state.specs.Bank.{tone_in, ring_in}
 use Rattle.state.specs.Bank.{keys_in, parts_in}
@@ -37,9 +37,9 @@ unfolding maybe_in maybe_number
 maybe_again v = by (ltb v 256) refl
   where
     by : (b : Bool) → ltb v 256 ≡ b
-        → cond (ltb (maybe_number (cond b (Byte v) Nothing)) 256) (Byte (maybe_number (cond b (Byte v) Nothing)))
-        Nothing
-        ≡ cond b (Byte v) Nothing
+        → cond (ltb (maybe_number (cond b (Some v) None)) 256) (Some (maybe_number (cond b (Some v) None)))
+        None
+        ≡ cond b (Some v) None
     by true e = rw e
     by false e = refl
 
@@ -120,7 +120,7 @@ maybe_small : (v : ℕ) → Small (maybe_number (maybe_in v))
 unfolding maybe_in maybe_number
 maybe_small v = by (ltb v 256) refl
   where
-    by : (b : Bool) → ltb v 256 ≡ b → Small (maybe_number (cond b (Byte v) Nothing))
+    by : (b : Bool) → ltb v 256 ≡ b → Small (maybe_number (cond b (Some v) None))
     by true e = let less = ltb-true v 256 e in omega arith
     by false e = omega arith
 

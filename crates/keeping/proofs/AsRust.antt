@@ -8,11 +8,11 @@ use lib.Dec.{ltb}
 use lib.ListN.{length, get_or, take}
 use lib.Seq.{length-take-le}
 use borrow.Author.Tests.{ltb-true}
+use Rattle.std.specs.Prelude.{None, Some}
 use Rattle.map.specs.Numbers.{FLASH_SIZE, RAM_SIZE}
 use Rattle.flash.specs.Board.{good_size}
 use Rattle.flash.specs.Run.{Good}
 use Rattle.reach.proofs.Exactly as exactly
-use Rattle.panel.specs.declared.MaybeByte.TheVariants.{Nothing, Byte}
 use Rattle.panel.specs.Onward.{IsByte, PanelTyped}
 use Rattle.panel.proofs.Onward as drawn
 use Rattle.keys.proofs.Onward as pressed
@@ -45,7 +45,7 @@ maybe_byte : (v : ℕ) → IsByte (maybe_in v)
 unfolding maybe_in
 maybe_byte v = by (ltb v 256) refl
   where
-    by : (b : Bool) → ltb v 256 ≡ b → IsByte (cond b (Byte v) Nothing)
+    by : (b : Bool) → ltb v 256 ≡ b → IsByte (cond b (Some v) None)
     by true e = ltb-true v 256 e
     by false e = tt
 

@@ -9,9 +9,9 @@ use lib.Dec.{ltb, leb}
 use lib.ListN.{length, get_or, replicate}
 use lib.Seq.{length-take-le}
 use borrow.Author.Tests.{ltb-true, leb-true, le-leb}
+use Rattle.std.specs.Prelude.{None, Some}
 use Rattle.map.specs.Numbers.{FLASH_SIZE}
 use Rattle.whole.specs.Forms.{bit}
-use Rattle.panel.specs.declared.MaybeByte.TheVariants.{Nothing, Byte}
 use Rattle.flash.specs.declared.Trans.{Trans}
 use Rattle.whole.proofs.Choice.{both as apart}
 use Rattle.reach.specs.Reach.{reachable, header_ok, mark_ok, page_ok}
@@ -68,7 +68,7 @@ maybe_most : (v : ℕ) → maybe_number (maybe_in v) ≡ v → v ≤ 256
 unfolding maybe_in maybe_number
 maybe_most v h = by (ltb v 256) refl h
   where
-    by : (b : Bool) → ltb v 256 ≡ b → maybe_number (cond b (Byte v) Nothing) ≡ v → v ≤ 256
+    by : (b : Bool) → ltb v 256 ≡ b → maybe_number (cond b (Some v) None) ≡ v → v ≤ 256
     by true e h = let less = ltb-true v 256 e in omega arith
     by false e h = omega arith
 

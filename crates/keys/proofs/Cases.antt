@@ -1,5 +1,5 @@
 -- The branches of the definitions, each with the fact that leads to it, and the steps of their loops.
-use Prim.Native.Nat.{ℕ, zero, suc, ◌+◌, ◌-◌, ◌≤◌, ◌<◌}
+use Prim.Native.Nat.{ℕ, zero, suc, ◌+◌, ◌-◌, ◌≤◌, ◌<◌, max}
 use mathlib.Core.Path.{◌≡◌, refl, sym, ap, ◌∙◌}
 use mathlib.Core.Bool.{Bool, true, false, cond, not, ◌||◌, or-false, and-true, and-false, true≢false}
 use mathlib.Core.List.{List}
@@ -8,21 +8,21 @@ use native.Mathlib.Nat.{sub-zero}
 use native.Mathlib.Numerals.{add-one}
 use native.Mathlib.Omega.{arith}
 use lib.Dec.{T, ltb, leb, eqb}
-use lib.ListN.{get_or, set}
-use lib.Ieee.{Float, nan, binary64, of_bits}
+use lib.ListN.{length, get_or, set, take, drop}
+use lib.Seq.{length-take-le, get_or-take, get_or-drop}
+use lib.Ieee.{Float, nan}
 use borrow.Author.Count.{below_more}
 use borrow.Author.Tests.{lt-ltb, le-ltb, le-leb, lt-leb, ltb-true, leb-true, leb-false, eq-eqb, ne_eqb}
-use Rattle.whole.specs.declared.Checked.{Checked}
-use Rattle.whole.specs.declared.Checked.TheVariants.{Good, Bad}
-use Rattle.whole.specs.Limits.{good_time, time_of}
-use Rattle.whole.proofs.Numbers.{checked_good, checked_then, checked_bad}
-use Rattle.whole.proofs.Choice.{of_not}
+use Rattle.map.specs.Numbers.{BAD_KEY, BAD_TIME, DONE, KEYS_FULL}
+use Rattle.map.specs.declared.refusals.Refusal.{Refusal}
+use Rattle.map.specs.declared.refusals.Refusal.TheVariants.{BadTime, BadKey}
+use Rattle.map.specs.Refusals.{number_of}
+use Rattle.std.specs.Prelude.{Result, Ok, Err}
+use Rattle.whole.specs.Limits.{good_time}
+use Rattle.whole.proofs.Choice.{of_not, by_less}
 use Rattle.memory.specs.Bytes.{loaded, stored_at}
 use Rattle.keys.specs.declared.Held.{Held}
 use Rattle.keys.specs.declared.Keys.{Keys}
-use Rattle.keys.specs.declared.Tap.{Tap}
-use Rattle.keys.specs.declared.Tap.TheVariants.{Until, Refused}
-use Rattle.keys.specs.declared.Refusal.TheVariants.{Done, BadKey, BadTime, KeysFull}
 use Rattle.keys.specs.Script.{places_of, waits, free_from, free_of, counted_of, Script, script, Outcome, outcome}
 use Rattle.keys.specs.Script.{placed, put_of, press_of}
 use Rattle.keys.specs.Live as live
@@ -31,6 +31,16 @@ use Rattle.keys.specs.Live.{hold_of}
 use Rattle.keys.specs.Live.{down_of, also, held_from, held_of, tapped}
 use Rattle.keys.specs.Lines.{wanted, driven, lines, sync_of}
 use Rattle.keys.specs.Edges.{edges_of, edges_from, press_edges}
+
+-- ---- a part of the presses' times
+module _ (starts : List Float) (n j : ℕ) (less : j < n) where
+  pub front_at : get_or (take n starts) j nan ≡ get_or starts j nan
+  front_at = get_or-take n starts j nan less
+
+  pub part_at : (i : ℕ) → get_or (take (i + n - i) (drop i starts)) j nan ≡ get_or starts (i + j) nan
+  part_at i =
+      let many : i + n - i ≡ n = omega arith in
+      rw many (get_or-take n (drop i starts) j nan less ∙ get_or-drop i starts j nan)
 
 -- ---- places
 pub places_most : (count : ℕ) → places_of count ≤ 64
@@ -48,6 +58,16 @@ module _ (place count n : ℕ) (e : n ≡ places_of count) where
   pub counted_after : n ≤ place → place + 1 ≡ counted_of place count
   unfolding counted_of
   counted_after l = rw (← e, le-ltb _ _ l)
+
+  pub counted_is : max n (place + 1) ≡ counted_of place count
+  counted_is =
+      by_less place n
+      (λ l. let here : max n (place + 1) ≡ n = omega arith in here ∙ counted_in l)
+      (λ l. let here : max n (place + 1) ≡ place + 1 = omega arith in here ∙ counted_after l)
+
+pub front_long : (starts : List Float) (count n : ℕ) → length starts ≡ 64 → n ≡ places_of count
+    → length (take n starts) ≡ n
+front_long starts count n long e = length-take-le n starts (omega (arith, places_most count))
 
 -- ---- the search for a place
 module _ (starts : List Float) (now : Float) (m i : ℕ) where
@@ -84,21 +104,21 @@ module _ (starts : List Float) (count : ℕ) (now : Float) (n : ℕ) where
 -- ---- press
 module _ (starts : List Float) (codes : List ℕ) (count code : ℕ) (at now : Float) (p : ℕ)
     (e : p ≡ free_of starts count now) where
-  pub put_in : (n : ℕ) → p < 64 → n ≡ counted_of p count → outcome Done (script (set starts p at) (set codes p code) n)
+  pub put_in : (n : ℕ) → p < 64 → n ≡ counted_of p count → outcome DONE (script (set starts p at) (set codes p code) n)
       ≡ put_of (script starts codes count) code at now
   unfolding put_of placed
   put_in n l k = rw (← e, lt-ltb _ _ l, k)
 
-  pub put_full : 64 ≤ p → outcome KeysFull (script starts codes count) ≡ put_of (script starts codes count) code at now
+  pub put_full : 64 ≤ p → outcome KEYS_FULL (script starts codes count) ≡ put_of (script starts codes count) code at now
   unfolding put_of
   put_full l = rw (← e, le-ltb _ _ l)
 
 module _ (s : Script) (key : ℕ) (at now : Float) where
-  pub press_bad_key : 2 < key → outcome BadKey s ≡ press_of s key at now
+  pub press_bad_key : 2 < key → outcome BAD_KEY s ≡ press_of s key at now
   unfolding press_of
   press_bad_key h = rw (lt-leb _ _ h)
 
-  pub press_bad_time : key ≤ 2 → good_time at ≡ false → outcome BadTime s ≡ press_of s key at now
+  pub press_bad_time : key ≤ 2 → good_time at ≡ false → outcome BAD_TIME s ≡ press_of s key at now
   unfolding press_of
   press_bad_time h g = rw (le-leb _ _ h, g)
 
@@ -107,62 +127,53 @@ module _ (s : Script) (key : ℕ) (at now : Float) where
   press_put o h g e = rw (le-leb _ _ h, g) e
 
   -- what holds after each answer holds after a press
-  pub press_each : (P : Outcome → Type 0) → P (outcome BadKey s) → P (outcome BadTime s) → P (outcome KeysFull s)
+  pub press_each : (P : Outcome → Type 0) → P (outcome BAD_KEY s) → P (outcome BAD_TIME s) → P (outcome KEYS_FULL s)
       → (key ≤ 2 → T (good_time at) → free_of s.starts s.count now < 64
-      → P (outcome Done (placed s (free_of s.starts s.count now) key at)))
+      → P (outcome DONE (placed s (free_of s.starts s.count now) key at)))
       → P (press_of s key at now)
   unfolding press_of put_of
   press_each P k t f d = by (leb key 2) refl (good_time at) refl (ltb (free_of s.starts s.count now) 64) refl
     where
       by : (a : Bool) → leb key 2 ≡ a → (b : Bool) → good_time at ≡ b → (c : Bool)
           → ltb (free_of s.starts s.count now) 64 ≡ c
-          → P (cond a (cond b (cond c (outcome Done (placed s (free_of s.starts s.count now) key at))
-          (outcome KeysFull s)) (outcome BadTime s)) (outcome BadKey s))
+          → P (cond a (cond b (cond c (outcome DONE (placed s (free_of s.starts s.count now) key at))
+          (outcome KEYS_FULL s)) (outcome BAD_TIME s)) (outcome BAD_KEY s))
       by false p b q c r = k
       by true p false q c r = t
       by true p true q false r = f
       by true p true q true r = d (leb-true key 2 p) (rw q tt) (ltb-true _ 64 r)
 
--- ---- from bits: what is read is the float of the pattern, and what is not is no good time
-module _ (bits : ℕ) (t : Checked) (h : t ≡ time_of bits) where
-  pub bits_good : (x : Float) → t ≡ Good x → x ≡ of_bits binary64 bits
-  bits_good x e = checked_good (good_time (of_bits binary64 bits)) bits x (sym e ∙ h)
-
-  pub tap_good : (key : ℕ) (x : Float) → key ≤ 2 → t ≡ Good x → Until x ≡ tap_of key (of_bits binary64 bits)
-  unfolding tap_of
-  tap_good key x l e = rw (le-leb _ _ l) (checked_then (good_time (of_bits binary64 bits)) bits Until (Refused BadTime)
-      x (sym e ∙ h))
-
-  pub bits_bad : t ≡ Bad → good_time (of_bits binary64 bits) ≡ false
-  bits_bad e = checked_bad (good_time (of_bits binary64 bits)) bits (sym e ∙ h)
-
-  pub press_from_lem : (s : Script) (key : ℕ) (x now : Float) (o : Outcome) → t ≡ Good x → o ≡ press_of s key x now
-      → o ≡ press_of s key (of_bits binary64 bits) now
-  press_from_lem s key x now o e k = rw (← bits_good x e) k
-
 -- ---- live keys and taps
+
+pub tap_good : (key : ℕ) (until : Float) → key ≤ 2 → good_time until ≡ true → Ok until ≡ tap_of key until
+unfolding tap_of
+tap_good key until l g = rw (le-leb _ _ l, g)
+
 module _ (k : Keys) (key : ℕ) where
   -- a key past the three changes nothing
-  pub live_by : (down : Bool) → live.outcome (key_refusal key) (with_live k (held_with k.live key down)) ≡ live_of k
+  pub live_by : (down : Bool) → live.outcome (number_of (key_refusal key)) (with_live k (held_with k.live key down))
+      ≡ live_of k
       key down
   unfolding key_refusal live_of
   live_by down = by (leb key 2) refl
     where
       by : (b : Bool) → leb key 2 ≡ b
-          → live.outcome (cond b Done BadKey) (with_live k (held_with k.live key down)) ≡ cond b
-          (live.outcome Done (with_live k (held_with k.live key down))) (live.outcome BadKey k)
+          → live.outcome (number_of {A = Unit} (cond b (Ok tt) (Err BadKey))) (with_live k
+          (held_with k.live key down)) ≡ cond b
+          (live.outcome DONE (with_live k (held_with k.live key down))) (live.outcome BAD_KEY k)
       by true e = refl
       by false e =
           let h : 2 < key = leb-false key 2 e in
           rw (ne_eqb key 0 (λ z. omega arith), ne_eqb key 1 (λ z. omega arith), ne_eqb key 2 (λ z. omega arith))
 
-  pub hold_by : (until : Float) {t : Tap} → t ≡ tap_of key until → tap_put k key t ≡ hold_of k key until
+  pub hold_by : (until : Float) {t : Result Float Refusal} → t ≡ tap_of key until → tap_put k key t
+      ≡ hold_of k key until
   unfolding tap_of hold_of
   hold_by until e = rw e (by (leb key 2) (good_time until))
     where
-      by : (b g : Bool) → tap_put k key (cond b (cond g (Until until) (Refused BadTime)) (Refused BadKey))
-          ≡ cond b (cond g (live.outcome Done (with_holds k (holds_with k.holds key until)))
-          (live.outcome BadTime k)) (live.outcome BadKey k)
+      by : (b g : Bool) → tap_put k key (cond b (cond g (Ok until) (Err BadTime)) (Err BadKey))
+          ≡ cond b (cond g (live.outcome DONE (with_holds k (holds_with k.holds key until)))
+          (live.outcome BAD_TIME k)) (live.outcome BAD_KEY k)
       by false g = refl
       by true false = refl
       by true true = refl
@@ -179,16 +190,16 @@ up_still h t code now d =
     rw (d, and-false (eqb code 0), and-false (eqb code 1), and-false (eqb code 2))
     (rw (or-false h.a, or-false h.b, or-false h.c))
 
-module _ (starts : List Float) (now : Float) where
-  -- none of n presses from the i-th on is down
-  abbrev pub Up : ℕ → ℕ → Type 0
-  Up i n = (j : ℕ) → j < n → down_of (get_or starts (i + j) nan) now ≡ false
+-- none of n presses from the i-th on is down
+abbrev pub Up : List Float → Float → ℕ → ℕ → Type 0
+Up starts now i n = (j : ℕ) → j < n → down_of (get_or starts (i + j) nan) now ≡ false
 
-  pub up_more : (i n : ℕ) (on down : Bool) → down ≡ down_of (get_or starts (i + n) nan) now → (on ≡ false → Up i n)
-      → (on || down) ≡ false → Up i (n + 1)
-  up_more i n true down e u h = absurd (true≢false h)
-  up_more i n false down e u h =
-      below_more (λ (j : ℕ). down_of (get_or starts (i + j) nan) now ≡ false) n (u refl) (sym e ∙ h)
+pub up_more : (starts : List Float) (now : Float) (i n : ℕ) (on down : Bool)
+    → down ≡ down_of (get_or starts (i + n) nan) now → (on ≡ false → Up starts now i n) → (on || down) ≡ false
+    → Up starts now i (n + 1)
+up_more starts now i n true down e u h = absurd (true≢false h)
+up_more starts now i n false down e u h =
+    below_more (λ (j : ℕ). down_of (get_or starts (i + j) nan) now ≡ false) n (u refl) (sym e ∙ h)
 
 module _ (starts : List Float) (codes : List ℕ) (now : Float) where
   pub held_none : (h : Held) → h ≡ held_from starts codes h now 0
@@ -200,9 +211,9 @@ module _ (starts : List Float) (codes : List ℕ) (now : Float) where
   unfolding held_from
   held_more h₀ h i e = rw (add-one, e)
 
-  pub held_upto : (h₀ h : Held) (i to : ℕ) → i ≤ to → to ≤ i → h ≡ held_from starts codes h₀ now i
+  pub held_same : (h₀ h : Held) (i to : ℕ) → i ≡ to → h ≡ held_from starts codes h₀ now i
       → h ≡ held_from starts codes h₀ now to
-  held_upto h₀ h i to a b e = let z : i ≡ to = omega arith in e ∙ rw z
+  held_same h₀ h i to z e = e ∙ rw z
 
   -- presses that are not down change nothing, however many
   pub held_past : (h : Held) (i n : ℕ) → Up starts now i n

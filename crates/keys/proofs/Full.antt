@@ -9,10 +9,10 @@ use lib.Dec.{ltb, leb, eqb}
 use lib.ListN.{get_or}
 use lib.Ieee.{Float, nan}
 use borrow.Author.Tests.{ltb-true, ltb-false, eq-eqb, ne_eqb}
+use Rattle.map.specs.Numbers.{BAD_KEY, BAD_TIME, DONE, KEYS_FULL}
 use Rattle.whole.proofs.Choice.{lt_or_ge}
 use Rattle.whole.specs.Limits.{good_time}
 use Rattle.keys.specs.Script.{places_of, waits, waiting_in, free_from, free_of, Script, outcome, put_of, press_of}
-use Rattle.keys.specs.declared.Refusal.TheVariants.{Done, BadKey, BadTime, KeysFull}
 use Rattle.keys.proofs.Cases.{places_most, from_waits, from_expired}
 
 module _ (starts : List Float) (now : Float) where
@@ -127,11 +127,11 @@ pub keys_full_lem : (s : Script) (key : ℕ) (at now : Float)
 unfolding press_of put_of free_of
 keys_full_lem s key at now = by (leb key 2) (good_time at)
   where
-    put : (b : Bool) (p : Script) → (cond b (outcome Done p) (outcome KeysFull s)).refusal ≡ cond b 0 3
+    put : (b : Bool) (p : Script) → (cond b (outcome DONE p) (outcome KEYS_FULL s)).refusal ≡ cond b 0 3
     put true p = refl
     put false p = refl
 
-    by : (a b : Bool) → (cond a (cond b (put_of s key at now) (outcome BadTime s)) (outcome BadKey s)).refusal
+    by : (a b : Bool) → (cond a (cond b (put_of s key at now) (outcome BAD_TIME s)) (outcome BAD_KEY s)).refusal
         ≡ cond a (cond b (cond (eqb (waiting_in s.starts now (places_of s.count)) 64) 3 0) 1) 8
     by false b = refl
     by true false = refl

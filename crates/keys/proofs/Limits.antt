@@ -7,9 +7,9 @@ use native.Mathlib.Omega.{arith}
 use lib.Bits.{bit_and}
 use lib.Dec.{T, leb, eqb}
 use lib.Ieee.{Float, of_bits}
+use Rattle.map.specs.Numbers.{BAD_KEY, BAD_TIME, DONE}
 use Rattle.whole.specs.Limits.{good_time}
 use Rattle.keys.specs.declared.Held.{Held}
-use Rattle.keys.specs.declared.Refusal.TheVariants.{Done, BadKey, BadTime}
 use Rattle.keys.specs.Keys.{Buttons, fresh_buttons}
 use Rattle.keys.specs.Live.{outcome, held_with, holds_with, with_live, with_holds, live_of, hold_of}
 use Rattle.keys.specs.Lines.{wanted, lines, sync_of}
@@ -34,7 +34,7 @@ unfolding live_of
 live_within b key down w = by (leb key 2)
   where
     by : (t : Bool) → Within (with_keys b (cond t
-        (outcome Done (with_live b.keys (held_with b.keys.live key down))) (outcome BadKey b.keys)).keys)
+        (outcome DONE (with_live b.keys (held_with b.keys.live key down))) (outcome BAD_KEY b.keys)).keys)
     by false = w
     by true = record {
       starts = w.starts;
@@ -58,8 +58,8 @@ hold_within b key until w = by (leb key 2) (good_time until) refl
 
     by : (t u : Bool) → good_time until ≡ u
         → Within (with_keys b (cond t (cond u
-        (outcome Done (with_holds b.keys (holds_with b.keys.holds key until))) (outcome BadTime b.keys))
-        (outcome BadKey b.keys)).keys)
+        (outcome DONE (with_holds b.keys (holds_with b.keys.holds key until))) (outcome BAD_TIME b.keys))
+        (outcome BAD_KEY b.keys)).keys)
     by false u e = w
     by true false e = w
     by true true e = record {

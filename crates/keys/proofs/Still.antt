@@ -5,9 +5,8 @@ use mathlib.Core.Bool.{Bool, true, false, cond}
 use mathlib.Core.Logic.{◌≢◌}
 use lib.Dec.{leb}
 use lib.Ieee.{Float}
-use Rattle.map.specs.Numbers.{DONE}
+use Rattle.map.specs.Numbers.{DONE, BAD_KEY}
 use Rattle.keys.specs.declared.Keys.{Keys}
-use Rattle.keys.specs.declared.Refusal.TheVariants.{BadKey}
 use Rattle.keys.specs.Script as script
 use Rattle.keys.specs.Script.{Script, press_of}
 use Rattle.keys.specs.Live.{Outcome, outcome, live_of}
@@ -16,7 +15,7 @@ use Rattle.keys.proofs.Cases.{press_each}
 abbrev Still : Keys → Outcome → Type 0
 Still k o = o.refusal ≢ DONE → o.keys ≡ k
 
-key_tested : (k : Keys) (o : Outcome) (b : Bool) → Still k o → Still k (cond b o (outcome BadKey k))
+key_tested : (k : Keys) (o : Outcome) (b : Bool) → Still k o → Still k (cond b o (outcome BAD_KEY k))
 key_tested k o true h = h
 key_tested k o false h = λ g. refl
 

@@ -1,47 +1,28 @@
 -- What meets a contract is the only thing that does.
 use Prim.Native.Nat.{ℕ}
-use mathlib.Core.Path.{◌≡◌, refl, ap}
-use mathlib.Core.Bool.{cond}
+use mathlib.Core.Path.{◌≡◌, ap}
 use mathlib.Core.List.{List}
-use lib.Dec.{eqb}
 use lib.Ieee.{Float}
-use Rattle.map.specs.Numbers.{DONE, BAD_TIME, BAD_KEY}
-use Rattle.whole.proofs.Unique.{unique, same_by_number}
+use Rattle.map.specs.declared.refusals.Refusal.{Refusal}
+use Rattle.map.specs.Refusals.{number_of, value_or}
+use Rattle.std.specs.Prelude.{Result}
+use Rattle.whole.proofs.Unique.{unique}
+use Rattle.whole.proofs.Answered.{answer_tells}
 use Rattle.keys.specs.declared.Keys.{Keys}
-use Rattle.keys.specs.declared.Refusal.{Refusal}
-use Rattle.keys.specs.declared.Refusal.TheVariants.{Done, BadKey, BadTime, KeysFull}
-use Rattle.keys.specs.declared.Pressed.{Pressed}
-use Rattle.keys.specs.Keys.{number_of, Buttons, buttons}
+use Rattle.keys.specs.Keys.{Buttons, buttons}
 use Rattle.keys.specs.Script.{script, outcome}
 use Rattle.keys.specs.Script as presses
 use Rattle.keys.specs.Lines.{Lines, lines}
 
--- the refusal of a number
-abbrev refusal_of : ℕ → Refusal
-refusal_of n = cond (eqb n DONE) Done (cond (eqb n BAD_KEY) BadKey (cond (eqb n BAD_TIME) BadTime KeysFull))
-
--- a refusal is known by its number
-number_tells : (a b : Refusal) → number_of a ≡ number_of b → a ≡ b
-number_tells = same_by_number number_of refusal_of back
-  where
-    back : (r : Refusal) → refusal_of (number_of r) ≡ r
-    back Done = refl
-    back BadKey = refl
-    back BadTime = refl
-    back KeysFull = refl
-
-pressed_is : {a b : Refusal} {m n : ℕ} → a ≡ b → m ≡ n → ◌≡◌ {A = Pressed} (record { refusal = a; count = m })
-    (record { refusal = b; count = n })
-pressed_is e f = rw (e, f)
-
--- of a press there is one answer, and the later arrays are one pair of lists
-pub one_press : (d : presses.Outcome) (r s : Pressed) (starts ts : List Float) (codes cs : List ℕ)
-    → outcome r.refusal (script starts codes r.count) ≡ d → outcome s.refusal (script ts cs s.count) ≡ d
+-- of a press there is one answer, and the later arrays are one pair of lists; `count` is how many places held presses
+pub one_press : (d : presses.Outcome) (count : ℕ) (r s : Result ℕ Refusal) (starts ts : List Float)
+    (codes cs : List ℕ) → outcome (number_of r) (script starts codes (value_or r count)) ≡ d
+    → outcome (number_of s) (script ts cs (value_or s count)) ≡ d
     → (r ≡ s) × (starts ≡ ts) × (codes ≡ cs)
-one_press d r s starts ts codes cs h k =
-    let e : outcome r.refusal (script starts codes r.count) ≡ outcome s.refusal (script ts cs s.count) =
-    unique h k in (
-      pressed_is (number_tells r.refusal s.refusal (ap (λ (o : presses.Outcome). o.refusal) e))
+one_press d count r s starts ts codes cs h k =
+    let e : outcome (number_of r) (script starts codes (value_or r count))
+    ≡ outcome (number_of s) (script ts cs (value_or s count)) = unique h k in (
+      answer_tells count r s (ap (λ (o : presses.Outcome). o.refusal) e)
           (ap (λ (o : presses.Outcome). o.script.count) e),
       ap (λ (o : presses.Outcome). o.script.starts) e,
       ap (λ (o : presses.Outcome). o.script.codes) e,

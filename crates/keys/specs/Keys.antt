@@ -1,10 +1,7 @@
--- The state of the keys, 01's numbers of the refusals, and the state after a wipe.
+-- The state of the keys, and the state after a wipe.
 use Rattle.std.specs.Prelude.{ℕ, false, List, replicate, Float}
-use Rattle.map.specs.Numbers.{DONE, BAD_TIME, KEYS_FULL, BAD_KEY}
 use Rattle.whole.specs.Forms.{nought}
 use Rattle.keys.specs.declared.Keys.{Keys}
-use Rattle.keys.specs.declared.Refusal.{Refusal}
-use Rattle.keys.specs.declared.Refusal.TheVariants.{Done, BadKey, BadTime, KeysFull}
 
 -- the presses' times and codes, and the rest
 pub record Buttons : Type 0 where
@@ -14,13 +11,6 @@ pub record Buttons : Type 0 where
 
 abbrev pub buttons : List Float → List ℕ → Keys → Buttons
 buttons starts codes keys = record { starts = starts; codes = codes; keys = keys }
-
--- Refusal numbers: 0 done, 8 BadKey, 1 BadTime, 3 KeysFull
-abbrev pub number_of : Refusal → ℕ
-number_of Done = DONE
-number_of BadKey = BAD_KEY
-number_of BadTime = BAD_TIME
-number_of KeysFull = KEYS_FULL
 
 abbrev pub fresh_keys : Keys
 fresh_keys = record {

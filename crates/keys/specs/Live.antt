@@ -1,24 +1,23 @@
 -- Live keys and taps, and which keys are down.
-use Rattle.std.specs.Prelude.{ℕ, zero, suc, Bool, cond, ◌&&◌, ◌||◌, List, leb, eqb, get_or, Float}
+use Rattle.std.specs.Prelude.{ℕ, zero, suc, Bool, cond, ◌&&◌, ◌||◌, List, leb, eqb, get_or, Float, Result, Ok, Err}
 use Rattle.std.specs.Float.{nan}
 use Rattle.std.specs.Float.Ieee.{lt, le}
+use Rattle.map.specs.Numbers.{BAD_KEY, BAD_TIME, DONE}
+use Rattle.map.specs.declared.refusals.Refusal.{Refusal}
+use Rattle.map.specs.declared.refusals.Refusal.TheVariants.{BadTime, BadKey}
+use Rattle.map.specs.Refusals.{code_of}
 use Rattle.whole.specs.Limits.{good_time}
 use Rattle.keys.specs.declared.Held.{Held}
 use Rattle.keys.specs.declared.Holds.{Holds}
 use Rattle.keys.specs.declared.Keys.{Keys}
-use Rattle.keys.specs.declared.Refusal.{Refusal}
-use Rattle.keys.specs.declared.Refusal.TheVariants.{Done, BadKey, BadTime}
-use Rattle.keys.specs.declared.Tap.{Tap}
-use Rattle.keys.specs.declared.Tap.TheVariants.{Until, Refused}
-use Rattle.keys.specs.Keys.{number_of}
 use Rattle.keys.specs.Script.{end_of, places_of}
 
 pub record Outcome : Type 0 where
   pub refusal : ℕ
   pub keys : Keys
 
-abbrev pub outcome : Refusal → Keys → Outcome
-outcome r keys = record { refusal = number_of r; keys = keys }
+abbrev pub outcome : ℕ → Keys → Outcome
+outcome n keys = record { refusal = n; keys = keys }
 
 -- ---- one key of three
 
@@ -46,25 +45,25 @@ with_holds k holds = record { count = k.count; live = k.live; holds = holds; app
 
 -- key not 0, 1 or 2: nothing changes
 unfoldable pub live_of : Keys → ℕ → Bool → Outcome
-live_of k key down = cond (leb key 2) (outcome Done (with_live k (held_with k.live key down))) (outcome BadKey k)
+live_of k key down = cond (leb key 2) (outcome DONE (with_live k (held_with k.live key down))) (outcome BAD_KEY k)
 
 -- and of a tap, a time that is not good
 unfoldable pub hold_of : Keys → ℕ → Float → Outcome
 hold_of k key until =
-    cond (leb key 2) (cond (good_time until) (outcome Done (with_holds k (holds_with k.holds key until)))
-    (outcome BadTime k)) (outcome BadKey k)
+    cond (leb key 2) (cond (good_time until) (outcome DONE (with_holds k (holds_with k.holds key until)))
+    (outcome BAD_TIME k)) (outcome BAD_KEY k)
 
 -- ---- the same in two steps: what is decided before anything changes, the key first, and then what is put
 
-unfoldable pub key_refusal : ℕ → Refusal
-key_refusal key = cond (leb key 2) Done BadKey
+unfoldable pub key_refusal : ℕ → Result Unit Refusal
+key_refusal key = cond (leb key 2) (Ok tt) (Err BadKey)
 
-unfoldable pub tap_of : ℕ → Float → Tap
-tap_of key until = cond (leb key 2) (cond (good_time until) (Until until) (Refused BadTime)) (Refused BadKey)
+unfoldable pub tap_of : ℕ → Float → Result Float Refusal
+tap_of key until = cond (leb key 2) (cond (good_time until) (Ok until) (Err BadTime)) (Err BadKey)
 
-abbrev pub tap_put : Keys → ℕ → Tap → Outcome
-tap_put k key (Until until) = outcome Done (with_holds k (holds_with k.holds key until))
-tap_put k key (Refused r) = outcome r k
+abbrev pub tap_put : Keys → ℕ → Result Float Refusal → Outcome
+tap_put k key (Ok until) = outcome DONE (with_holds k (holds_with k.holds key until))
+tap_put k key (Err r) = outcome (code_of r) k
 
 -- ---- keys_held
 

@@ -2,10 +2,8 @@
 use Rattle.std.specs.Prelude.{ℕ, zero, suc, ◌+◌, Bool, cond, List, ltb, leb, get_or, set, Float}
 use Rattle.std.specs.Float.{nan, binary64}
 use Rattle.std.specs.Float.Ieee.{of_bits, add, lt}
+use Rattle.map.specs.Numbers.{BAD_KEY, BAD_TIME, DONE, KEYS_FULL}
 use Rattle.whole.specs.Limits.{good_time}
-use Rattle.keys.specs.declared.Refusal.{Refusal}
-use Rattle.keys.specs.declared.Refusal.TheVariants.{Done, BadKey, BadTime, KeysFull}
-use Rattle.keys.specs.Keys.{number_of}
 
 -- t + KEY_HOLD
 abbrev pub end_of : Float → Float
@@ -51,8 +49,8 @@ pub record Outcome : Type 0 where
   pub refusal : ℕ
   pub script : Script
 
-abbrev pub outcome : Refusal → Script → Outcome
-outcome r s = record { refusal = number_of r; script = s }
+abbrev pub outcome : ℕ → Script → Outcome
+outcome n s = record { refusal = n; script = s }
 
 -- a press at a place
 unfoldable pub placed : Script → ℕ → ℕ → Float → Script
@@ -62,9 +60,9 @@ placed s place code at = script (set s.starts place at) (set s.codes place code)
 unfoldable pub put_of : Script → ℕ → Float → Float → Outcome
 put_of s code at now =
     cond (ltb (free_of s.starts s.count now) 64)
-    (outcome Done (placed s (free_of s.starts s.count now) code at)) (outcome KeysFull s)
+    (outcome DONE (placed s (free_of s.starts s.count now) code at)) (outcome KEYS_FULL s)
 
 -- key not 0, 1 or 2; then a time that is not good; then no place
 unfoldable pub press_of : Script → ℕ → Float → Float → Outcome
-press_of s key at now = cond (leb key 2) (cond (good_time at) (put_of s key at now) (outcome BadTime s))
-    (outcome BadKey s)
+press_of s key at now = cond (leb key 2) (cond (good_time at) (put_of s key at now) (outcome BAD_TIME s))
+    (outcome BAD_KEY s)

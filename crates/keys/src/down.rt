@@ -1,48 +1,34 @@
 // Keys held down right now, taps that stay held, and which keys are down at a time.
 ghost use Rattle.std.specs.Prelude.{◌≡◌, false, ℕ, ◌+◌, ◌≤◌, ◌<◌, get_or};
-ghost use Rattle.std.specs.Float.{nan, binary64};
-ghost use Rattle.std.specs.Float.Ieee.{of_bits};
+ghost use Rattle.std.specs.Float.{nan};
 ghost use Rattle.keys.specs.Live.{key_refusal, tap_of, down_of, tapped, also, held_from, held_of};
 
 use crate::presses::places;
-use crate::{Held, Holds, Keys, Refusal, Tap};
-use whole::Checked;
+use crate::{Held, Holds, Keys};
+use map::Refusal;
+use whole::limits::Given;
 
-// What a call for a key answers.
-pub fn check_key(key: u32) -> Refusal
+// There are three keys.
+pub fn check_key(key: u32) -> Result<(), Refusal>
     ensures { result ≡ key_refusal key }
 {
     if key > 2 {
-        return Refusal::BadKey;
+        return Err(Refusal::BadKey);
     }
-    Refusal::Done
+    Ok(())
 }
 
-// What is decided of a tap before anything changes: the key is looked at first, then the time.
-pub fn check_hold(key: u32, until: f64) -> Tap
-    ensures { result ≡ tap_of key until }
+// Until when a tap stays held, decided before anything changes: the key is looked at first, then the time.
+pub fn check_hold<T: Given>(key: u32, until: T) -> Result<f64, Refusal>
+    ensures { result ≡ tap_of key (T.float until) }
 {
     if key > 2 {
-        return Tap::Refused(Refusal::BadKey);
+        return Err(Refusal::BadKey);
     }
-    if whole::limits::good_time(until) {
-        return Tap::Until(until);
-    }
-    Tap::Refused(Refusal::BadTime)
-}
-
-// The same from the bits of a float, as scripts have them: no NaN's pattern becomes a float.
-pub fn check_hold_bits(key: u32, bits: u64) -> Tap
-    ensures { result ≡ tap_of key (of_bits binary64 bits) }
-{
-    if key > 2 {
-        return Tap::Refused(Refusal::BadKey);
-    }
-    let until = whole::limits::time_of(bits);
-    match until {
-        Checked::Good(x) => Tap::Until(x),
-        Checked::Bad => Tap::Refused(Refusal::BadTime),
-    }
+    let Some(until) = until.time() else {
+        return Err(Refusal::BadTime);
+    };
+    Ok(until)
 }
 
 // A press is held for 0.15 seconds.
@@ -85,10 +71,8 @@ fn any_down(starts: &[f64; 64], from: usize, time: f64) -> bool
         → down_of (get_or starts.now (from + j) nan) time ≡ false }
 {
     let mut on = false;
-    let mut i = 0usize;
-    while i < 8 {
-        on = on | down(starts[from + i], time);
-        i += 1usize;
+    for t in &starts[from..from + 8] {
+        on = on | down(*t, time);
     }
     on
 }
@@ -107,10 +91,8 @@ fn also_each(
         → result ≡ held_from starts.now codes.now h time to }
 {
     let mut held = start;
-    let mut i = from;
-    while i < to {
+    for i in from..to {
         held = also(held, starts[i], codes[i], time);
-        i += 1usize;
     }
     held
 }
@@ -135,6 +117,8 @@ pub fn keys_held(starts: &[f64; 64], codes: &[u8; 64], keys: Keys, time: f64) ->
     let n = places(keys.count);
     let mut held = tapped(keys.live, keys.holds, time);
     let mut i = 0usize;
+    // No for over whole blocks: with one, `keys, colours, counters` of bench/ needs 1.053 of the Rust's instructions,
+    // and so 1.042. The bar is 1.05.
     while i + 8 <= n {
         held = also_block(starts, codes, i, time, held);
         i += 8usize;

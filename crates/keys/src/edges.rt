@@ -5,6 +5,7 @@ ghost use Rattle.keys.specs.Edges.{min_of, after_of, edges_of, press_edges, hold
 use crate::presses::places;
 use crate::{Holds, Keys};
 
+// Not f64::min, which says otherwise where the first is a NaN, and does not say which of two zeros it gives.
 pub fn min(a: f64, b: f64) -> f64
     ensures { result ≡ min_of a b }
 {
@@ -29,10 +30,8 @@ fn press_edges(starts: &[f64; 64], count: usize, time: f64, t: f64) -> f64
 {
     let n = places(count);
     let mut r = t;
-    let mut i = 0usize;
-    while i < n {
-        r = edges(starts[i], time, r);
-        i += 1usize;
+    for k in &starts[..n] {
+        r = edges(*k, time, r);
     }
     r
 }

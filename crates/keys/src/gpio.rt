@@ -1,20 +1,15 @@
 // The lines that the keys drive: bits 5, 6 and 7 of GPIO port 1, whose word stands at 0x20. No key has a pin at
 // another port.
-ghost use Rattle.std.specs.Prelude.{◌≡◌, cond};
+ghost use Rattle.std.specs.Prelude.{◌≡◌};
 ghost use Rattle.keys.specs.Lines.{wanted, driven, lines, sync_of};
 
 use crate::Held;
-
-fn line(on: bool, bit: u32) -> u32
-    ensures { result ≡ cond on bit 0 }
-{
-    if on { bit } else { 0 }
-}
+use whole::forms::choose;
 
 fn want(held: Held) -> u32
     ensures { result ≡ wanted held }
 {
-    line(held.a, 0x20) | line(held.b, 0x40) | line(held.c, 0x80)
+    choose(held.a, 0x20, 0) | choose(held.b, 0x40, 0) | choose(held.c, 0x80, 0)
 }
 
 fn drive(word: u32, applied: u32, want: u32) -> u32

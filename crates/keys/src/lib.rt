@@ -37,28 +37,6 @@ pub struct Keys {
     pub applied: u32,
 }
 
-#[derive(Drop)]
-pub enum Refusal {
-    Done,
-    BadKey,
-    BadTime,
-    KeysFull,
-}
-
-// Until when a tap stays held, or why it is refused.
-#[derive(Drop)]
-pub enum Tap {
-    Until(f64),
-    Refused(Refusal),
-}
-
-// What a press answers beside the arrays.
-#[derive(Drop)]
-pub struct Pressed {
-    pub refusal: Refusal,
-    pub count: usize,
-}
-
 // The keys as they are after a wipe.
 pub fn fresh() -> Keys
     ensures { result ≡ fresh_keys }

@@ -1,11 +1,9 @@
 -- What a line of a list says, and the line that an answer is.
 use Rattle.std.specs.Prelude.{◌≡◌, ℕ, zero, suc, ◌+◌, ◌-◌, ◌*◌, ◌%◌, ◌^◌, cond, List, [], ◌∷◌, ◌++◌, nat_le, nat_lt}
-use Rattle.std.specs.Prelude.{slice_index}
+use Rattle.std.specs.Prelude.{slice_index, Option, Some, None}
 use Rattle.io.specs.Digits.{last_digits}
 use Rattle.lines.specs.declared.Step.{Step}
 use Rattle.lines.specs.declared.Answer.{Answer}
-use Rattle.lines.specs.declared.Input.{Input}
-use Rattle.lines.specs.declared.Input.TheVariants.{Line, End}
 
 -- the value of a lowercase hex digit: `0` to `9` are 48 to 57, `a` to `f` 97 to 102; any other byte counts as 0
 unfoldable pub digit_of : ℕ → ℕ
@@ -20,11 +18,11 @@ abbrev pub step_of : List ℕ → Step
 step_of line = record { kind = number_at line 0 2; address = number_at line 3 8; value = number_at line 12 16 }
 
 -- what a read of 29 bytes gives that gave only so many
-abbrev pub input_of : ℕ → List ℕ → Input
-input_of count line = cond (nat_lt count 29) End (Line (step_of line))
+abbrev pub input_of : ℕ → List ℕ → Option Step
+input_of count line = cond (nat_lt count 29) None (Some (step_of line))
 
 -- some read gives this
-pub record Read (r : Input) : Type 0 where
+pub record Read (r : Option Step) : Type 0 where
   pub count : ℕ
   pub line : List ℕ
   pub stands : r ≡ input_of count line

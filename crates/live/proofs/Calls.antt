@@ -1,28 +1,28 @@
 -- What the entries answer, from what the calls below leave: with BadMemory in front, and as an operation of the bus.
 use Prim.Native.Nat.{ℕ, ◌+◌, ◌*◌}
-use mathlib.Core.Path.{◌≡◌, refl, ap}
+use mathlib.Core.Path.{◌≡◌, refl, ap, ◌∙◌}
 use mathlib.Core.Bool.{Bool, true, false}
 use mathlib.Core.List.{List}
 use mathlib.Core.Logic.{◌≢◌}
 use lib.Ieee.{Float}
 use lib.ListN.{length}
+use Rattle.std.specs.Prelude.{None, Some, Option}
+use Rattle.std.specs.Int.{from_bool}
 use Rattle.map.specs.Numbers.{DONE, BAD_MEMORY}
 use Rattle.whole.specs.Forms.{nought, bit}
 use Rattle.block.specs.Block as block
 use Rattle.block.specs.Block.{Plain, plain, peek_of, peeked32, laid_of}
 use Rattle.panel.specs.Entries.{picture_of}
-use Rattle.clock.specs.declared.Alarm.{Alarm}
-use Rattle.clock.specs.declared.Alarm.TheVariants.{Off, At}
 use Rattle.clock.specs.declared.Times.{Times}
 use Rattle.clock.specs.Rtc as rtc
 use Rattle.keys.specs.declared.Keys.{Keys}
 use Rattle.keys.specs.Live as live
 use Rattle.keys.specs.declared.Held.{Held}
 use Rattle.state.specs.Packed.{cells_of, floats_of}
-use Rattle.time.specs.declared.NextTime.{NextTime}
+use Rattle.time.specs.Next.{NextTime}
 use Rattle.system.specs.declared.System.{System}
-use Rattle.system.specs.declared.Changed.{Changed}
-use Rattle.system.specs.declared.Read.{Read}
+use Rattle.system.specs.Calls.{Changed}
+use Rattle.system.specs.Calls.{Read}
 use Rattle.system.specs.System.{Machine, machine, left}
 use Rattle.system.specs.Bank.{fresh_parts}
 use Rattle.system.specs.Calls.{changed, Moved, moved, read_of, write_of, advance_of, next_of, turbo_of, pending_of}
@@ -34,6 +34,15 @@ use Rattle.system.specs.Steps.{by_move}
 use Rattle.system.specs.Steps.{by_next, by_poke}
 use Rattle.live.specs.Live.{alarm_seen, alarm_of}
 use Rattle.live.specs.Live.{notAUnit, called, Zeroed, block_seen, seen_of, block_of, screen_seen, screen_of}
+
+-- ---- a flag, as hosts get it
+
+flag_is : (b : Bool) → from_bool b ≡ bit b
+flag_is true = refl
+flag_is false = refl
+
+pub flag_number : (b : Bool) {n : ℕ} → n ≡ from_bool b → n ≡ bit b
+flag_number b e = e ∙ flag_is b
 
 -- ---- 7, or the operation
 
@@ -134,11 +143,11 @@ module _ (m : Machine) where
 
 -- ---- the alarm
 
-module _ (m : Machine) {x : Alarm} (e : x ≡ rtc.alarm_of m.system.rtc) where
-  pub alarm_off : x ≡ Off → alarm_seen 0 0 ≡ alarm_of m
+module _ (m : Machine) {x : Option ℕ} (e : x ≡ rtc.alarm_of m.system.rtc) where
+  pub alarm_off : x ≡ None → alarm_seen 0 0 ≡ alarm_of m
   alarm_off h = rw (← e, h)
 
-  pub alarm_on : (t : ℕ) → x ≡ At t → alarm_seen 1 t ≡ alarm_of m
+  pub alarm_on : (t : ℕ) → x ≡ Some t → alarm_seen 1 t ≡ alarm_of m
   alarm_on t h = rw (← e, h)
 
 -- ---- wipe, block, screen

@@ -7,13 +7,12 @@ ghost use Rattle.system.specs.Steps as steps;
 ghost use Rattle.system.specs.Steps.{words, plainly};
 ghost use Rattle.live.specs.Live.{only, called, block_seen, block_of};
 
-use crate::{BAD_MEMORY, DONE, one};
-use script::bad_memory;
+use block::Seen;
+use script::{BAD_MEMORY, DONE, bad_memory};
 use state::{Cells, Floats};
 
 // A read; some registers change by it.
-#[unsafe(no_mangle)]
-pub extern "C" fn tg18_lent_read(
+pub fn tg18_lent_read(
     slots: &mut [u32; 76],
     addresses: &[u32; 256],
     values: &[u32; 256],
@@ -42,13 +41,12 @@ pub extern "C" fn tg18_lent_read(
     let got = bus::read::read(
         slots, addresses, values, cells, floats, ram, sram, gpio, address, size,
     );
-    *value = [got.value];
-    got.refusal as u32
+    *value = [got.unwrap_or(0)];
+    map::status(got)
 }
 
 // A write.
-#[unsafe(no_mangle)]
-pub extern "C" fn tg18_lent_write(
+pub fn tg18_lent_write(
     slots: &mut [u32; 76],
     addresses: &mut [u32; 256],
     values: &mut [u32; 256],
@@ -100,12 +98,11 @@ pub extern "C" fn tg18_lent_write(
         size,
         value,
     );
-    answer.refusal as u32
+    map::status(answer)
 }
 
 // The memory byte, the stored register byte or 0 at an address.
-#[unsafe(no_mangle)]
-pub extern "C" fn tg18_lent_peek8(
+pub fn tg18_lent_peek8(
     slots: &[u32; 76],
     addresses: &[u32; 256],
     values: &[u32; 256],
@@ -129,14 +126,20 @@ pub extern "C" fn tg18_lent_peek8(
         *value = [0];
         return BAD_MEMORY;
     }
-    let seen = block::peek8(slots, addresses, values, ram, sram, gpio, address);
-    *value = [seen];
+    let seen = Seen {
+        slots,
+        addresses,
+        values,
+        ram,
+        sram,
+        gpio,
+    };
+    *value = [seen.peek8(address)];
     DONE
 }
 
 // Four of them, the lowest first.
-#[unsafe(no_mangle)]
-pub extern "C" fn tg18_lent_peek32(
+pub fn tg18_lent_peek32(
     slots: &[u32; 76],
     addresses: &[u32; 256],
     values: &[u32; 256],
@@ -160,14 +163,20 @@ pub extern "C" fn tg18_lent_peek32(
         *value = [0];
         return BAD_MEMORY;
     }
-    let seen = block::peek32(slots, addresses, values, ram, sram, gpio, address);
-    *value = [seen];
+    let seen = Seen {
+        slots,
+        addresses,
+        values,
+        ram,
+        sram,
+        gpio,
+    };
+    *value = [seen.peek32(address)];
     DONE
 }
 
 // Bytes laid into memories; those that fall elsewhere are dropped.
-#[unsafe(no_mangle)]
-pub extern "C" fn tg18_lent_poke(
+pub fn tg18_lent_poke(
     ram: &mut [u8],
     sram: &mut [u8],
     gpio: &mut [u8],
@@ -191,8 +200,7 @@ pub extern "C" fn tg18_lent_poke(
 }
 
 // A block of the bus; `whole` is 1 where it lies in one memory, or in one page of stray space.
-#[unsafe(no_mangle)]
-pub extern "C" fn tg18_lent_read_block(
+pub fn tg18_lent_read_block(
     slots: &[u32; 76],
     addresses: &[u32; 256],
     values: &[u32; 256],
@@ -215,7 +223,14 @@ pub extern "C" fn tg18_lent_read_block(
         *whole = [0];
         return BAD_MEMORY;
     }
-    let lies = block::read_block(slots, addresses, values, ram, sram, gpio, address, bytes);
-    *whole = [one(lies)];
+    let seen = Seen {
+        slots,
+        addresses,
+        values,
+        ram,
+        sram,
+        gpio,
+    };
+    *whole = [u32::from(seen.read_block(address, bytes))];
     DONE
 }

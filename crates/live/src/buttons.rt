@@ -7,18 +7,11 @@ ghost use Rattle.system.specs.Bank.{machine_of};
 ghost use Rattle.system.specs.Steps as steps;
 ghost use Rattle.system.specs.Steps.{words, plainly, step};
 
-use crate::one;
 use keys::Held;
 use state::{Cells, Floats};
 
 // A key goes down, or up where `down` is 0.
-#[unsafe(no_mangle)]
-pub extern "C" fn tg18_lent_live_key(
-    cells: &mut Cells,
-    floats: &mut Floats,
-    key: u32,
-    down: u32,
-) -> u32
+pub fn tg18_lent_live_key(cells: &mut Cells, floats: &mut Floats, key: u32, down: u32) -> u32
     ensures { (slots addresses values rtc page : List ℕ) (onsets frequencies duties starts : List Float)
         (codes ram sram gpio fb : List ℕ) →
         (plainly (machine_of slots addresses values rtc page onsets frequencies duties starts codes (parts_in
@@ -27,17 +20,11 @@ pub extern "C" fn tg18_lent_live_key(
         cells.old floats.old) ram sram gpio fb) (steps.live key (not (eqb down 0))))
         × Answered result cells.old floats.old cells.new floats.new }
 {
-    time::buttons::set_live(cells, floats, key, down != 0) as u32
+    map::status(time::buttons::set_live(cells, floats, key, down != 0))
 }
 
 // A tap of a key stays held until a time.
-#[unsafe(no_mangle)]
-pub extern "C" fn tg18_lent_hold_until(
-    cells: &mut Cells,
-    floats: &mut Floats,
-    key: u32,
-    until: f64,
-) -> u32
+pub fn tg18_lent_hold_until(cells: &mut Cells, floats: &mut Floats, key: u32, until: f64) -> u32
     ensures { (slots addresses values rtc page : List ℕ) (onsets frequencies duties starts : List Float)
         (codes ram sram gpio fb : List ℕ) →
         (plainly (machine_of slots addresses values rtc page onsets frequencies duties starts codes (parts_in
@@ -46,12 +33,11 @@ pub extern "C" fn tg18_lent_hold_until(
         cells.old floats.old) ram sram gpio fb) (steps.hold key until))
         × Answered result cells.old floats.old cells.new floats.new }
 {
-    time::buttons::hold_until(cells, floats, key, until) as u32
+    map::status(time::buttons::hold_until(cells, floats, key, until))
 }
 
 // A press of a key at a time.
-#[unsafe(no_mangle)]
-pub extern "C" fn tg18_lent_press(
+pub fn tg18_lent_press(
     starts: &mut [f64; 64],
     codes: &mut [u8; 64],
     cells: &mut Cells,
@@ -68,18 +54,17 @@ pub extern "C" fn tg18_lent_press(
         at))
         × Answered result cells.old floats.now cells.new floats.now }
 {
-    time::buttons::press(starts, codes, cells, floats, key, at) as u32
+    map::status(time::buttons::press(starts, codes, cells, floats, key, at))
 }
 
 fn number(held: Held) -> u32
     ensures { result ≡ bit held.a + bit held.b * 2 + bit held.c * 4 }
 {
-    one(held.a) + one(held.b) * 2 + one(held.c) * 4
+    u32::from(held.a) + u32::from(held.b) * 2 + u32::from(held.c) * 4
 }
 
 // Which keys are down now: 1 A, 2 B, 4 C, added.
-#[unsafe(no_mangle)]
-pub extern "C" fn tg18_lent_keys_held(
+pub fn tg18_lent_keys_held(
     starts: &[f64; 64],
     codes: &[u8; 64],
     cells: &Cells,

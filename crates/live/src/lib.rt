@@ -12,21 +12,3 @@ pub mod looks;
 pub mod moments;
 pub mod taker;
 pub mod units;
-
-ghost use Rattle.std.specs.Prelude.{◌≡◌, ◌≤◌};
-ghost use Rattle.whole.specs.Forms.{bit};
-
-// What is done, and 7, as hosts get them.
-pub(crate) const DONE: u32 = map::DONE as u32;
-
-pub(crate) const BAD_MEMORY: u32 = map::BAD_MEMORY as u32;
-
-// A flag, as hosts get it.
-pub(crate) fn one(on: bool) -> u32
-    ensures { (result ≡ bit on) × (result ≤ 1) }
-{
-    if on {
-        return 1;
-    }
-    0
-}

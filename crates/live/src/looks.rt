@@ -1,20 +1,16 @@
 // What can be seen beside the bus: the counters and the screen.
 ghost use Rattle.std.specs.Prelude.{◌≡◌, List, ℕ, Float};
-ghost use Rattle.panel.specs.Entries.{number_of};
 ghost use Rattle.state.specs.Bank.{parts_in};
 ghost use Rattle.system.specs.Bank.{machine_of};
 ghost use Rattle.system.specs.Steps as steps;
 ghost use Rattle.system.specs.Steps.{words, step};
 ghost use Rattle.live.specs.Live.{only, screen_seen, screen_of};
 
-use crate::{BAD_MEMORY, DONE, one};
-use panel::Refusal;
-use script::bad_memory;
+use script::{BAD_MEMORY, DONE, bad_memory};
 use state::Cells;
 
 // Frames drawn, writes of the flash, and 1 where the power is off.
-#[unsafe(no_mangle)]
-pub extern "C" fn tg18_lent_counters(
+pub fn tg18_lent_counters(
     cells: &Cells,
     frames: &mut [u64; 1],
     writes: &mut [u64; 1],
@@ -30,27 +26,11 @@ pub extern "C" fn tg18_lent_counters(
 {
     *frames = [state::panels::frames_of(cells)];
     *writes = [state::chips::writes_of(cells)];
-    *off = [one(state::rests::off_of(cells))];
-}
-
-fn screen_number(refusal: Refusal) -> u32
-    ensures { result ≡ number_of refusal }
-{
-    match refusal {
-        Refusal::Done => DONE,
-        Refusal::BadMemory => BAD_MEMORY,
-    }
+    *off = [u32::from(state::rests::off_of(cells))];
 }
 
 // The colours of every pixel, row by row, three bytes each.
-#[unsafe(no_mangle)]
-pub extern "C" fn tg18_lent_screen(
-    ram: &[u8],
-    sram: &[u8],
-    gpio: &[u8],
-    fb: &[u8],
-    rgb: &mut [u8],
-) -> u32
+pub fn tg18_lent_screen(ram: &[u8], sram: &[u8], gpio: &[u8], fb: &[u8], rgb: &mut [u8]) -> u32
     ensures { (slots addresses values rtc page : List ℕ) (onsets frequencies duties starts : List Float)
         (codes l : List ℕ) (f : List Float) →
         screen_seen result rgb.new
@@ -60,6 +40,5 @@ pub extern "C" fn tg18_lent_screen(
     if bad_memory(ram, sram, gpio, fb) {
         return BAD_MEMORY;
     }
-    let refusal = panel::rgb(fb, rgb);
-    screen_number(refusal)
+    map::status(panel::rgb(fb, rgb))
 }

@@ -8,14 +8,11 @@ ghost use Rattle.system.specs.Steps as steps;
 ghost use Rattle.system.specs.Steps.{words, plainly, floats as in_floats, step};
 ghost use Rattle.live.specs.Live.{only, only_time, called, tod_of, ticks_of, alarm_seen, alarm_of};
 
-use crate::{BAD_MEMORY, one};
-use clock::Alarm;
-use script::bad_memory;
+use script::{BAD_MEMORY, bad_memory};
 use state::{Cells, Floats};
 
 // Brings the hardware up to a time.
-#[unsafe(no_mangle)]
-pub extern "C" fn tg18_lent_advance(
+pub fn tg18_lent_advance(
     slots: &mut [u32; 76],
     starts: &[f64; 64],
     codes: &[u8; 64],
@@ -39,12 +36,11 @@ pub extern "C" fn tg18_lent_advance(
     if bad_memory(ram, sram, gpio, fb) {
         return BAD_MEMORY;
     }
-    time::advancing::advance(slots, cells, floats, sram, gpio, starts, codes, to) as u32
+    map::status(time::advancing::advance(slots, cells, floats, sram, gpio, starts, codes, to))
 }
 
 // When something can happen next.
-#[unsafe(no_mangle)]
-pub extern "C" fn tg18_lent_next_event(
+pub fn tg18_lent_next_event(
     slots: &[u32; 76],
     starts: &[f64; 64],
     cells: &Cells,
@@ -68,13 +64,12 @@ pub extern "C" fn tg18_lent_next_event(
         return BAD_MEMORY;
     }
     let next = time::next::next_event(slots, cells, floats, sram, starts);
-    *at = [next.time];
-    next.refusal as u32
+    *at = [next.unwrap_or(0.0)];
+    map::status(next)
 }
 
 // The number of the interrupt that waits, or 0.
-#[unsafe(no_mangle)]
-pub extern "C" fn tg18_lent_pending_irq(slots: &[u32; 76], cells: &Cells) -> u32
+pub fn tg18_lent_pending_irq(slots: &[u32; 76], cells: &Cells) -> u32
     ensures { (addresses values rtc page : List ℕ) (onsets frequencies duties starts : List Float)
         (codes : List ℕ) (f : List Float) (ram sram gpio fb : List ℕ) →
         words (machine_of slots.now addresses values rtc page onsets frequencies duties starts codes (parts_in
@@ -86,8 +81,7 @@ pub extern "C" fn tg18_lent_pending_irq(slots: &[u32; 76], cells: &Cells) -> u32
 }
 
 // 1 where one waits and interrupts are on.
-#[unsafe(no_mangle)]
-pub extern "C" fn tg18_lent_irq_wanted(slots: &[u32; 76], cells: &Cells) -> u32
+pub fn tg18_lent_irq_wanted(slots: &[u32; 76], cells: &Cells) -> u32
     ensures { (addresses values rtc page : List ℕ) (onsets frequencies duties starts : List Float)
         (codes : List ℕ) (f : List Float) (ram sram gpio fb : List ℕ) →
         words (machine_of slots.now addresses values rtc page onsets frequencies duties starts codes (parts_in
@@ -95,12 +89,11 @@ pub extern "C" fn tg18_lent_irq_wanted(slots: &[u32; 76], cells: &Cells) -> u32
         ≡ step (machine_of slots.now addresses values rtc page onsets frequencies duties starts codes
         (parts_in cells.now f) ram sram gpio fb) steps.irq_wanted }
 {
-    one(time::irq::irq_wanted(slots, cells))
+    u32::from(time::irq::irq_wanted(slots, cells))
 }
 
 // How fast game time goes.
-#[unsafe(no_mangle)]
-pub extern "C" fn tg18_lent_turbo(floats: &mut Floats, to: f64) -> u32
+pub fn tg18_lent_turbo(floats: &mut Floats, to: f64) -> u32
     ensures { (slots addresses values rtc page : List ℕ) (onsets frequencies duties starts : List Float)
         (codes l ram sram gpio fb : List ℕ) →
         (plainly (machine_of slots addresses values rtc page onsets frequencies duties starts codes (parts_in l
@@ -109,12 +102,11 @@ pub extern "C" fn tg18_lent_turbo(floats: &mut Floats, to: f64) -> u32
         floats.old) ram sram gpio fb) (steps.turbo to))
         × Answered result l floats.old l floats.new }
 {
-    time::pace::set_turbo(floats, to) as u32
+    map::status(time::pace::set_turbo(floats, to))
 }
 
 // Seconds of the day.
-#[unsafe(no_mangle)]
-pub extern "C" fn tg18_lent_tod(cells: &Cells, floats: &Floats) -> u64
+pub fn tg18_lent_tod(cells: &Cells, floats: &Floats) -> u64
     ensures { (slots addresses values rtc page : List ℕ) (onsets frequencies duties starts : List Float)
         (codes ram sram gpio fb : List ℕ) →
         result
@@ -127,8 +119,7 @@ pub extern "C" fn tg18_lent_tod(cells: &Cells, floats: &Floats) -> u64
 }
 
 // Ticks of the RTC, as the 64 bits of the Rust's i64.
-#[unsafe(no_mangle)]
-pub extern "C" fn tg18_lent_ticks(cells: &Cells, floats: &Floats) -> u64
+pub fn tg18_lent_ticks(cells: &Cells, floats: &Floats) -> u64
     ensures { (slots addresses values rtc page : List ℕ) (onsets frequencies duties starts : List Float)
         (codes ram sram gpio fb : List ℕ) →
         result
@@ -141,8 +132,7 @@ pub extern "C" fn tg18_lent_ticks(cells: &Cells, floats: &Floats) -> u64
 }
 
 // 1 and the alarm's ticks, or 0 and 0 where none is on.
-#[unsafe(no_mangle)]
-pub extern "C" fn tg18_lent_alarm_ticks(rtc: &[u8; 256], ticks: &mut [u64; 1]) -> u32
+pub fn tg18_lent_alarm_ticks(rtc: &[u8; 256], ticks: &mut [u64; 1]) -> u32
     ensures { (slots addresses values page : List ℕ) (onsets frequencies duties starts : List Float)
         (codes l : List ℕ) (f : List Float) (ram sram gpio fb : List ℕ) →
         alarm_seen result (only ticks.new)
@@ -151,13 +141,13 @@ pub extern "C" fn tg18_lent_alarm_ticks(rtc: &[u8; 256], ticks: &mut [u64; 1]) -
 {
     let alarm = clock::chip::alarm_ticks(rtc);
     match alarm {
-        Alarm::Off => {
+        None => {
             *ticks = [0];
-            return 0;
+            0
         }
-        Alarm::At(at) => {
+        Some(at) => {
             *ticks = [at];
-            return 1;
+            1
         }
     }
 }

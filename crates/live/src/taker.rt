@@ -24,8 +24,7 @@ fn keep(cells: &mut Cells, batch: Batch) -> usize
 }
 
 // The bulk taker: as many events as there are records, oldest first. Their number is the answer.
-#[unsafe(no_mangle)]
-pub extern "C" fn tg18_lent_take_events(
+pub fn tg18_lent_take_events(
     onsets: &mut [f64; 256],
     frequencies: &mut [f64; 256],
     duties: &mut [f64; 256],

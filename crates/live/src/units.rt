@@ -8,13 +8,11 @@ ghost use Rattle.system.specs.Steps as steps;
 ghost use Rattle.system.specs.Steps.{plainly};
 ghost use Rattle.live.specs.Live.{called, Zeroed};
 
-use crate::{BAD_MEMORY, DONE};
-use script::bad_memory;
+use script::{BAD_MEMORY, DONE, bad_memory};
 use state::{Cells, Floats};
 
 // The fresh state, whatever the arrays held; every word is set.
-#[unsafe(no_mangle)]
-pub extern "C" fn tg18_lent_fresh(
+pub fn tg18_lent_fresh(
     slots: &mut [u32; 76],
     addresses: &mut [u32; 256],
     values: &mut [u32; 256],
@@ -51,8 +49,7 @@ pub extern "C" fn tg18_lent_fresh(
 }
 
 // The fresh state, and the memories zero.
-#[unsafe(no_mangle)]
-pub extern "C" fn tg18_lent_wipe(
+pub fn tg18_lent_wipe(
     slots: &mut [u32; 76],
     addresses: &mut [u32; 256],
     values: &mut [u32; 256],

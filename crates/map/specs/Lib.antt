@@ -1,2 +1,3 @@
 -- The numbers, for the definitions.
 pub mod Numbers
+pub mod Refusals

@@ -7,6 +7,10 @@
 
 #![tactic(auto)]
 
+pub mod refusals;
+
+pub use refusals::{Refusal, number, status};
+
 // ---- memories, and the screen that the framebuffer holds
 
 pub const FLASH_BASE: u32 = 0x2000_0000;

@@ -1,14 +1,18 @@
 -- The branches of the definitions, each with the fact that leads to it.
-use Prim.Native.Nat.{ℕ, suc, ◌+◌, ◌-◌, ◌*◌, ◌/◌, ◌%◌, ◌^◌, ◌≤◌, ◌<◌}
-use mathlib.Core.Path.{◌≡◌, refl, sym}
+use Prim.Native.Nat.{ℕ, zero, suc, ◌+◌, ◌-◌, ◌*◌, ◌/◌, ◌%◌, ◌^◌, ◌≤◌, ◌<◌}
+use mathlib.Core.Path.{◌≡◌, refl, sym, ap, ◌∙◌}
 use mathlib.Core.Bool.{Bool, true, false, ◌&&◌}
-use mathlib.Core.List.{List}
+use mathlib.Core.List.{List, [], ◌∷◌, ◌++◌, append_assoc, reverse}
 use mathlib.Core.Logic.{◌≢◌, ⊎_elim}
-use native.Mathlib.Nat.{add-zero, sub-zero, sub_self, mod-eq_of_lt, div-le_self}
-use native.Mathlib.Numerals.{add-one}
+use native.Mathlib.Nat.{add-zero, zero-add, mod-eq_of_lt, div-le_self}
 use native.Mathlib.Omega.{arith}
-use lib.ListN.{length, get_or, set, length-set}
-use lib.Seq.{sets}
+use lib.ListN.{length, get_or, set, take, drop, length-set, length-drop}
+use borrow.Rule.Slice.PartMut.{put_mid}
+use lib.Seq.{sets-eq, length-take-le, get_or-take, get_or-drop}
+use Rattle.std.specs.List.{fold}
+use Rattle.std.proofs.Common.{Fits, w8, drop-drop, append-nil, take_all}
+use Rattle.std.proofs.lemmas.List.{take_more_set, reverse-append}
+use Rattle.std.proofs.lemmas.List.Sums.{fold-append}
 use lib.Dec.{leb}
 use borrow.Author.Tests.{le-leb, lt-leb, eq-eqb, ne_eqb}
 use Rattle.map.specs.Numbers.{FLASH_BASE, RAM_SIZE, SRAM_BASE, SRAM_SIZE, SRAM_END, GPIO_BASE, GPIO_SIZE, GPIO_END}
@@ -158,17 +162,108 @@ module _ (a : ℕ) where
   unfolding place_of in_registers
   place_stray r c d f h = rw (no_ram r, no_sram f, no_gpio c, no_low c, no_middle d, no_high h)
 
--- ---- bytes
+-- ---- bytes by themselves
+
+-- the same bytes elsewhere are the same number
+pub le_part : (n : ℕ) (k m : List ℕ) (p o : ℕ) → ((i : ℕ) → i < n → get_or k (p + i) 0 ≡ get_or m (o + i) 0)
+    → le k p n ≡ le m o n
+unfolding le
+le_part zero k m p o same = refl
+le_part (suc n) k m p o same =
+    let first : get_or k p 0 ≡ get_or m o 0 = rw (add-zero, add-zero) at (same 0 (omega arith)) in
+    let rest : le k (p + 1) n ≡ le m (o + 1) n = le_part n k m (p + 1) (o + 1)
+    (λ i less.
+    let a : p + 1 + i ≡ p + (i + 1) = omega arith in
+    let b : o + 1 + i ≡ o + (i + 1) = omega arith in
+    rw (a, b) (same (i + 1) (omega arith))) in
+    rw (first, rest)
+
+module _ (m : List ℕ) (n v : ℕ) (byte : (i : ℕ) → Fits w8 (get_or m i 0)) where
+  pub le_word : n ≡ 4
+      → v ≡ get_or m 0 0 + get_or m 1 0 * 256 + get_or m 2 0 * 65536 + get_or m 3 0 * 16777216 → v ≡ le m 0 n
+  unfolding le
+  le_word e f =
+      let a = byte 0 in
+      let b = byte 1 in
+      let c = byte 2 in
+      let d = byte 3 in
+      rw e (omega arith)
+
+  pub le_half : n ≡ 2 → v ≡ get_or m 0 0 + get_or m 1 0 * 256 → v ≡ le m 0 n
+  unfolding le
+  le_half e f =
+      let a = byte 0 in
+      let b = byte 1 in
+      rw e (omega arith)
+
+  pub le_byte : n ≡ 1 → v ≡ get_or m 0 0 → v ≡ le m 0 n
+  unfolding le
+  le_byte e f = let a = byte 0 in rw e (omega arith)
+
+-- from the last byte to the first
+pub le_reverse : (m : List ℕ) → fold (λ v b. (b + 256 * v) % 2 ^ 32) 0 (reverse m) ≡ le m 0 (length m)
+unfolding le
+le_reverse [] = refl
+le_reverse (x ∷ xs) =
+    ap (λ m. fold (λ v b. (b + 256 * v) % 2 ^ 32) 0 m) (reverse-append (x ∷ []) xs)
+    ∙ fold-append (λ v b. (b + 256 * v) % 2 ^ 32) 0 (reverse xs) (x ∷ [])
+    ∙ ap (λ v. (x + 256 * v) % 2 ^ 32) (le_reverse xs ∙ sym (le_part (length xs) (x ∷ xs) xs 1 0
+    (λ i less.
+    let a : 1 + i ≡ suc i = omega arith in
+    let b : 0 + i ≡ i = omega arith in
+    rw (a, b))))
+
+pub length-bytes_of : (n v : ℕ) → length (bytes_of n v) ≡ n
+unfolding bytes_of
+length-bytes_of zero v = refl
+length-bytes_of (suc n) v = ap suc (length-bytes_of n (v / 256))
+
+module _ (n v : ℕ) where
+  pub bytes_word : n ≡ 4 → v % 256 ∷ v / 256 % 256 ∷ v / 65536 % 256 ∷ v / 16777216 % 256 ∷ [] ≡ bytes_of n v
+  unfolding bytes_of
+  bytes_word e =
+      let a : v / 65536 ≡ v / 256 / 256 = omega arith in
+      let b : v / 16777216 ≡ v / 256 / 256 / 256 = omega arith in
+      rw (e, a, b)
+
+  pub bytes_half : n ≡ 2 → v % 256 ∷ v / 256 % 256 ∷ [] ≡ bytes_of n v
+  unfolding bytes_of
+  bytes_half e = rw e
+
+  pub bytes_byte : n ≡ 1 → v % 256 ∷ [] ≡ bytes_of n v
+  unfolding bytes_of
+  bytes_byte e = rw e
+
+-- a byte more, and all
+module _ (k : List ℕ) (i v : ℕ) {all : List ℕ} (so : take i k ++ bytes_of (length k - i) v ≡ all) where
+  pub bytes_more : i < length k
+      → take (i + 1) (set k i (v % 256)) ++ bytes_of (length (set k i (v % 256)) - (i + 1)) (v / 256) ≡ all
+  unfolding bytes_of
+  bytes_more less =
+      let left : length k - i ≡ suc (length k - (i + 1)) = omega arith in
+      let e : take i k ++ (v % 256 ∷ bytes_of (length k - (i + 1)) (v / 256)) ≡ all = rw left at so in
+      rw (length-set, take_more_set k i (v % 256) less, append_assoc) e
+
+  pub bytes_all : length k ≤ i → k ≡ all
+  unfolding bytes_of
+  bytes_all past =
+      let left : length k - i ≡ 0 = omega arith in
+      let e : take i k ++ [] ≡ all = rw left at so in
+      sym (append-nil k) ∙ ap (λ m. m ++ []) (sym (take_all i k past)) ∙ e
+
 module _ (m : List ℕ) (o n : ℕ) where
   pub load_out : length m < o + n → 0 ≡ loaded m o n
   unfolding loaded
   load_out h = rw (lt-leb _ _ h)
 
-  pub load_in : (i v : ℕ) → o + n ≤ length m → i ≤ 0 → v ≡ le m (o + i) (n - i) → v ≡ loaded m o n
+  pub load_in : (k : List ℕ) (v : ℕ) → o + n ≤ length m → k ≡ take n (drop o m) → v ≡ le k 0 (length k)
+      → v ≡ loaded m o n
   unfolding loaded
-  load_in i v h l e =
-      let z : i ≡ 0 = omega arith in
-      rw (le-leb _ _ h) (rw (z, add-zero, sub-zero) at e)
+  load_in k v h e f =
+      let rest : n ≤ length (drop o m) = omega (arith, length-drop o m) in
+      let long : length k ≡ n = ap length e ∙ length-take-le n (drop o m) rest in
+      rw (le-leb _ _ h) (f ∙ ap (le k 0) long ∙ le_part n k m 0 o
+      (λ i less. rw (e, zero-add i) (get_or-take n (drop o m) i 0 less ∙ get_or-drop o m i 0)))
 
   pub load_none : 0 ≡ loaded m o 0
   unfolding loaded le
@@ -183,55 +278,23 @@ module _ (m : List ℕ) (o n : ℕ) where
       let y : v ≡ le m (o + 1) n = rw (le-leb _ _ h') at e in
       rw (le-leb _ _ h, ← y) f
 
-  pub le_none : 0 ≡ le m (o + n) (n - n)
-  unfolding le
-  le_none = rw sub_self
-
-  pub le_more : (i v r : ℕ) → 0 < i → i ≤ n → v ≡ le m (o + i) (n - i) → r ≡ (get_or m (o + (i - 1)) 0 + 256 * v) %
-      2 ^ 32
-      → r ≡ le m (o + (i - 1)) (n - (i - 1))
-  unfolding le
-  le_more i v r h g e f =
-      let z : n - (i - 1) ≡ suc (n - i) = omega arith in
-      let y : (o + (i - 1)) + 1 ≡ o + i = omega arith in
-      rw (z, y, ← e) f
-
   pub store_out : (v : ℕ) → length m < o + n → m ≡ stored_at m o n v
   unfolding stored_at
   store_out v h = rw (lt-leb _ _ h)
 
-  pub store_none : (v : ℕ) → m ≡ stored_at m o 0 v
-  unfolding stored_at bytes_of
-  store_none v = either (λ (k : List ℕ). m ≡ k) (leb (o + 0) (length m)) m m refl refl
-
-  -- a byte more in front
-  pub store_front : (k : List ℕ) (v b : ℕ) → o + suc n ≤ length m → b ≡ v % 256
-      → k ≡ stored_at (set m o b) (o + 1) n (v / 256) → k ≡ stored_at m o (suc n) v
-  unfolding stored_at bytes_of
-  store_front k v b h e f =
-      let h' : o + 1 + n ≤ length (set m o b) = rw length-set (omega arith) in
-      let y : k ≡ sets (set m o b) (o + 1) (bytes_of n (v / 256)) = rw (le-leb _ _ h') at f in
-      rw (le-leb _ _ h, ← e, ← add-one o) y
-
-  pub store_start : (v : ℕ) → sets m (o + 0) (bytes_of (n - 0) v) ≡ sets m o (bytes_of n v)
-  store_start v = rw (add-zero, sub-zero)
-
-  pub store_more : (i v b : ℕ) → i < n → b ≡ v % 256
-      → sets (set m (o + i) b) (o + (i + 1)) (bytes_of (n - (i + 1)) (v / 256)) ≡ sets m (o + i) (bytes_of (n - i) v)
-  unfolding bytes_of
-  store_more i v b h e =
-      let z : n - i ≡ suc (n - (i + 1)) = omega arith in
-      let y : o + (i + 1) ≡ suc (o + i) = omega arith in
-      rw (z, y, e)
-
-  pub store_end : (m₀ : List ℕ) (i v w : ℕ) → o + n ≤ length m₀ → n ≤ i → sets m (o + i) (bytes_of (n - i) w) ≡ sets m₀
-      o (bytes_of n v)
-      → m ≡ stored_at m₀ o n v
-  unfolding bytes_of stored_at
-  store_end m₀ i v w g h e =
-      let z : n - i ≡ 0 = omega arith in
-      let y : sets m (o + i) (bytes_of 0 w) ≡ sets m₀ o (bytes_of n v) = rw z at e in
-      rw (le-leb _ _ g) y
+  pub store_in : (k : List ℕ) (v : ℕ) → o + n ≤ length m → k ≡ bytes_of (length (take (o + n - o) (drop o m))) v
+      → put_mid o (o + n - o) m k ≡ stored_at m o n v
+  unfolding stored_at
+  store_in k v h e =
+      let rest : n ≤ length (drop o m) = omega (arith, length-drop o m) in
+      let part : o + n - o ≡ n = omega arith in
+      let f : k ≡ bytes_of n v = rw (part, length-take-le n (drop o m) rest) at e in
+      let long : length (bytes_of n v) ≡ n = length-bytes_of n v in
+      let within : o + length (bytes_of n v) ≤ length m = omega arith in
+      rw (le-leb _ _ h, part, f)
+      (rw (drop-drop n o m) (sym (append_assoc (take o m) (bytes_of n v) (drop (o + n) m)))
+      ∙ ap (λ j. take o m ++ bytes_of n v ++ drop (o + j) m) (sym long)
+      ∙ sym (sets-eq (bytes_of n v) m o within))
 
 -- ---- a part of a register word
 module _ (a n : ℕ) where

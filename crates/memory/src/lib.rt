@@ -6,7 +6,7 @@
 
 ghost use Rattle.std.specs.Prelude.{◌≡◌, ◌+◌, ◌*◌, ◌%◌, ◌^◌, ◌≤◌, length, get_or};
 ghost use Rattle.memory.specs.Places.{place_of};
-ghost use Rattle.memory.specs.Bytes.{loaded, stored_at};
+ghost use Rattle.memory.specs.Bytes.{le, loaded, bytes_of, stored_at};
 ghost use Rattle.memory.specs.Access.{good_size, shifted, mask_of, cut_of, written_of, merged_of};
 
 // The memory that an address lies in, with its place there.
@@ -25,35 +25,14 @@ pub enum Place {
 pub fn locate(addr: u32) -> Place
     ensures { result ≡ place_of addr }
 {
-    let high = addr / 0x100_0000;
-    match high {
-        0x20 => {
-            return Place::Ram((addr - map::FLASH_BASE) as usize);
-        }
-        0xC0 => {
-            if addr < map::GPIO_END {
-                return Place::Gpio((addr - map::GPIO_BASE) as usize);
-            }
-            return Place::Register;
-        }
-        0xD0 => {
-            return Place::Register;
-        }
-        0xF8 => {
-            if addr < map::SRAM_END {
-                return Place::Sram((addr - map::SRAM_BASE) as usize);
-            }
-            return Place::Stray;
-        }
-        0xFF => {
-            if addr < map::REGISTERS_END {
-                return Place::Register;
-            }
-            return Place::Stray;
-        }
-        _ => {
-            return Place::Stray;
-        }
+    match addr / 0x100_0000 {
+        0x20 => Place::Ram((addr - map::FLASH_BASE) as usize),
+        0xC0 if addr < map::GPIO_END => Place::Gpio((addr - map::GPIO_BASE) as usize),
+        0xC0 => Place::Register,
+        0xD0 => Place::Register,
+        0xF8 if addr < map::SRAM_END => Place::Sram((addr - map::SRAM_BASE) as usize),
+        0xFF if addr < map::REGISTERS_END => Place::Register,
+        _ => Place::Stray,
     }
 }
 
@@ -63,7 +42,7 @@ pub fn locate(addr: u32) -> Place
 pub fn byte(m: &[u8], at: usize) -> u8
     ensures { result ≡ get_or m.now at 0 }
 {
-    if at < m.len() { m[at] } else { 0 }
+    m.get(at).copied().unwrap_or(0)
 }
 
 // A byte below the value so far: the Rust's `v << 8 | b`, whose top byte is lost.
@@ -73,51 +52,20 @@ fn grown(v: u32, b: u8) -> u32
     v % 0x100_0000 * 256 + b as u32
 }
 
-// The value of 1 to 4 bytes that are there, the lowest first, with no loop.
-fn one(m: &[u8], at: usize) -> u32
-    requires { at + 1 ≤ length m.now }
-    ensures { result ≡ loaded m.now at 1 }
+// The value of bytes, the lowest first. A word, a half and a byte are read with no loop.
+fn value_of(bytes: &[u8]) -> u32
+    ensures { result ≡ le bytes.now 0 (length bytes.now) }
 {
-    grown(0, m[at])
-}
-
-fn two(m: &[u8], at: usize) -> u32
-    requires { at + 2 ≤ length m.now }
-    ensures { result ≡ loaded m.now at 2 }
-{
-    grown(one(m, at + 1), m[at])
-}
-
-fn three(m: &[u8], at: usize) -> u32
-    requires { at + 3 ≤ length m.now }
-    ensures { result ≡ loaded m.now at 3 }
-{
-    grown(two(m, at + 1), m[at])
-}
-
-fn four(m: &[u8], at: usize) -> u32
-    requires { at + 4 ≤ length m.now }
-    ensures { result ≡ loaded m.now at 4 }
-{
-    grown(three(m, at + 1), m[at])
-}
-
-// Any count of bytes that are there.
-fn load_any(m: &[u8], at: usize, size: usize) -> u32
-    requires { at + size ≤ length m.now }
-    ensures { result ≡ loaded m.now at size }
-{
-    let mut v: u32 = 0;
-    let mut i = size;
-    while 0 < i {
-        i -= 1;
-        v = grown(v, m[at + i]);
+    match bytes {
+        [a, b, c, d] => u32::from_le_bytes([*a, *b, *c, *d]),
+        [a, b] => u32::from(u16::from_le_bytes([*a, *b])),
+        [a] => u32::from(*a),
+        _ => bytes.iter().rev().fold(0, |v, b| grown(v, *b)),
     }
-    v
 }
 
-// The value of `size` bytes, the lowest first; 0 where they pass the end. The tests are so that a word takes the
-// fewest, and that the first falls away where the place is known to be small.
+// The value of `size` bytes, the lowest first; 0 where they pass the end. The tests are so that the first falls away
+// where the place is known to be small.
 pub fn load(m: &[u8], at: usize, size: usize) -> u32
     ensures { result ≡ loaded m.now at size }
 {
@@ -127,64 +75,25 @@ pub fn load(m: &[u8], at: usize, size: usize) -> u32
     if m.len() < at + size {
         return 0;
     }
-    if size > 2 {
-        if size == 4 {
-            return four(m, at);
+    value_of(&m[at..at + size])
+}
+
+// The lowest bytes of a value, the lowest first, over bytes that are there; zeros over those past four.
+fn lay(bytes: &mut [u8], value: u32)
+    ensures { bytes.new ≡ bytes_of (length bytes.old) value }
+{
+    let all = value.to_le_bytes();
+    match bytes.len() {
+        4 => bytes.copy_from_slice(&all),
+        2 => bytes.copy_from_slice(&all[..2]),
+        1 => bytes.copy_from_slice(&all[..1]),
+        _ => {
+            let mut v = value;
+            for b in bytes.iter_mut() {
+                *b = low(v);
+                v /= 256;
+            }
         }
-        return load_any(m, at, size);
-    }
-    if size == 2 {
-        return two(m, at);
-    }
-    if size == 1 {
-        return one(m, at);
-    }
-    0
-}
-
-// The lowest 1 to 4 bytes of a value, to places that are there, with no loop.
-fn put_one(m: &mut [u8], at: usize, value: u32)
-    requires { at + 1 ≤ length m.old }
-    ensures { m.new ≡ stored_at m.old at 1 value }
-{
-    m[at] = low(value);
-}
-
-fn put_two(m: &mut [u8], at: usize, value: u32)
-    requires { at + 2 ≤ length m.old }
-    ensures { m.new ≡ stored_at m.old at 2 value }
-{
-    m[at] = low(value);
-    put_one(m, at + 1, value / 256);
-}
-
-fn put_three(m: &mut [u8], at: usize, value: u32)
-    requires { at + 3 ≤ length m.old }
-    ensures { m.new ≡ stored_at m.old at 3 value }
-{
-    m[at] = low(value);
-    put_two(m, at + 1, value / 256);
-}
-
-fn put_four(m: &mut [u8], at: usize, value: u32)
-    requires { at + 4 ≤ length m.old }
-    ensures { m.new ≡ stored_at m.old at 4 value }
-{
-    m[at] = low(value);
-    put_three(m, at + 1, value / 256);
-}
-
-// Any count of bytes, to places that are there.
-fn store_any(m: &mut [u8], at: usize, size: usize, value: u32)
-    requires { at + size ≤ length m.old }
-    ensures { m.new ≡ stored_at m.old at size value }
-{
-    let mut v = value;
-    let mut i: usize = 0;
-    while i < size {
-        m[at + i] = low(v);
-        v = v / 256;
-        i += 1;
     }
 }
 
@@ -198,22 +107,7 @@ pub fn store(m: &mut [u8], at: usize, size: usize, value: u32)
     if m.len() < at + size {
         return;
     }
-    if size > 2 {
-        if size == 4 {
-            put_four(m, at, value);
-            return;
-        }
-        store_any(m, at, size, value);
-        return;
-    }
-    if size == 2 {
-        put_two(m, at, value);
-        return;
-    }
-    if size == 1 {
-        put_one(m, at, value);
-        return;
-    }
+    lay(&mut m[at..at + size], value);
 }
 
 pub fn low(word: u32) -> u8

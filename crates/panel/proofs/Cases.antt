@@ -1,8 +1,8 @@
 -- The branches of the definitions, each with the fact that leads to it.
 use Rattle.std.proofs.Common.{◌≡◌, ℕ, ◌+◌, ◌<◌, ◌≤◌, ◌≢◌, List, length, set, sym, ap, ◌∙◌, arith, le-ltb, lt-ltb}
 use Rattle.std.proofs.Common.{eq-eqb, ne_eqb}
+use Rattle.std.specs.Prelude.{None, Some}
 use Rattle.map.specs.Numbers.{DONE, BAD_MEMORY, FRAMEBUFFER_SIZE, SCREEN_BYTES}
-use Rattle.panel.specs.declared.MaybeByte.TheVariants.{Nothing, Byte}
 use Rattle.panel.specs.declared.Window.{Window}
 use Rattle.panel.specs.declared.Pen.{Pen}
 use Rattle.panel.specs.declared.Panel.{Panel}
@@ -13,13 +13,13 @@ use Rattle.panel.specs.Entries.{Screen, screen, Drawing, drawing, data_of, pixel
 
 -- ---- command
 module _ (p : Panel) (c : ℕ) where
-  pub commanded_start : c ≡ 0x2C → commanded p c ≡ panel_with (Byte c) p.window
-      (pen_at p.window.x0 p.window.y0 Nothing p.pen.frames)
+  pub commanded_start : c ≡ 0x2C → commanded p c ≡ panel_with (Some c) p.window
+      (pen_at p.window.x0 p.window.y0 None p.pen.frames)
   unfolding commanded
   commanded_start e = simp (eq-eqb _ _ e)
 
-  pub commanded_stay : c ≢ 0x2C → commanded p c ≡ panel_with (Byte c) p.window
-      (pen_at p.pen.x p.pen.y Nothing p.pen.frames)
+  pub commanded_stay : c ≢ 0x2C → commanded p c ≡ panel_with (Some c) p.window
+      (pen_at p.pen.x p.pen.y None p.pen.frames)
   unfolding commanded
   commanded_stay n = simp (ne_eqb _ _ n)
 
@@ -38,34 +38,34 @@ module _ (fb : List ℕ) (x y h b : ℕ) where
   put_below hx hy = simp (lt-ltb _ _ hx, le-ltb _ _ hy)
 
 module _ (w : Window) (p : Pen) where
-  pub next_along : p.x < w.x1 → next_pen w p ≡ pen_at (p.x + 1) p.y Nothing p.frames
+  pub next_along : p.x < w.x1 → next_pen w p ≡ pen_at (p.x + 1) p.y None p.frames
   unfolding next_pen
   next_along hx = simp (le-ltb w.x1 (p.x + 1) (omega arith))
 
-  pub next_down : w.x1 ≤ p.x → p.y < w.y1 → next_pen w p ≡ pen_at w.x0 (p.y + 1) Nothing p.frames
+  pub next_down : w.x1 ≤ p.x → p.y < w.y1 → next_pen w p ≡ pen_at w.x0 (p.y + 1) None p.frames
   unfolding next_pen
   next_down hx hy = simp (lt-ltb w.x1 (p.x + 1) (omega arith), le-ltb w.y1 (p.y + 1) (omega arith))
 
-  pub next_round : w.x1 ≤ p.x → w.y1 ≤ p.y → next_pen w p ≡ pen_at w.x0 w.y0 Nothing (counts p.frames)
+  pub next_round : w.x1 ≤ p.x → w.y1 ≤ p.y → next_pen w p ≡ pen_at w.x0 w.y0 None (counts p.frames)
   unfolding next_pen
   next_round hx hy = simp (lt-ltb w.x1 (p.x + 1) (omega arith), lt-ltb w.y1 (p.y + 1) (omega arith))
 
 -- ---- data after 0x2C
 module _ (w : Window) (p : Pen) (b : ℕ) where
-  pub penned_first : p.half ≡ Nothing → penned w p b ≡ pen_at p.x p.y (Byte b) p.frames
+  pub penned_first : p.half ≡ None → penned w p b ≡ pen_at p.x p.y (Some b) p.frames
   unfolding penned
   penned_first e = rw e
 
-  pub penned_second : (h : ℕ) → p.half ≡ Byte h → penned w p b ≡ next_pen w p
+  pub penned_second : (h : ℕ) → p.half ≡ Some h → penned w p b ≡ next_pen w p
   unfolding penned
   penned_second h e = rw e
 
 module _ (fb : List ℕ) (p : Pen) (b : ℕ) where
-  pub inked_first : p.half ≡ Nothing → inked fb p b ≡ fb
+  pub inked_first : p.half ≡ None → inked fb p b ≡ fb
   unfolding inked
   inked_first e = rw e
 
-  pub inked_second : (h : ℕ) → p.half ≡ Byte h → inked fb p b ≡ put fb p.x p.y h b
+  pub inked_second : (h : ℕ) → p.half ≡ Some h → inked fb p b ≡ put fb p.x p.y h b
   unfolding inked
   inked_second h e = rw e
 

@@ -1,8 +1,8 @@
 -- Demand 3, the panel's part: damage between two 0x2C is gone once a whole window has followed, and stays gone.
 use Rattle.std.proofs.Common.{◌≡◌, ℕ, ◌<◌, ◌≤◌, Bool, true, false, cond, eqb, ltb, List, [], ◌∷◌, refl, ap, ◌∙◌, arith}
 use native.Mathlib.Decide.{dec_lt}
-use Rattle.panel.specs.declared.MaybeByte.{MaybeByte}
-use Rattle.panel.specs.declared.MaybeByte.TheVariants.{Nothing, Byte}
+use Rattle.std.specs.Prelude.{None, Some}
+use Rattle.panel.specs.Lcd.{MaybeByte}
 use Rattle.panel.specs.declared.Window.{Window}
 use Rattle.panel.specs.declared.Pen.{Pen}
 use Rattle.panel.specs.declared.Panel.{Panel}
@@ -20,10 +20,10 @@ use Rattle.panel.proofs.Stray.{alike, Aside, inside, apart, Astray, agreed, stra
 -- ---- at the end of the window
 
 abbrev pub start : Window → ℕ → Pen
-start w f = pen_at w.x0 w.y0 Nothing f
+start w f = pen_at w.x0 w.y0 None f
 
 abbrev pub writing : Window → Pen → Panel
-writing w q = panel_with (Byte 0x2C) w q
+writing w q = panel_with (Some 0x2C) w q
 
 abbrev pub frames_after : Window → ℕ → List Input → ℕ
 frames_after w f is = (pen_after w (start w f) is).frames
@@ -56,7 +56,7 @@ at_end s after one two l e =
     let f = s.panel.pen.frames in
     let i = at_start w in
     let a : Astray w (ink w (start w f) s.fb one) (ink w (start w f) s.fb two) =
-    stray w one two (alike one two e) _ _ Nothing f _ _ Nothing f s.fb s.fb i i (agreed w s.fb) in
+    stray w one two (alike one two e) _ _ None f _ _ None f s.fb s.fb i i (agreed w s.fb) in
     let r : Healed w (start w (frames_after w f one)) (start w (frames_after w f two)) (ink w (start w f) s.fb one)
     (ink w (start w f) s.fb two) after =
     swept w after _ _ _ _ a.sized (λ k. to_sweep w _ _ k (a.outside k) (dec_lt w.y0 (row k))) l in
@@ -72,14 +72,14 @@ pick_same false a b c d p q = q
 penned_same : (w : Window) (x y : ℕ) (h : MaybeByte) (f g b : ℕ) → sight (penned w (pen_at x y h f) b)
     ≡ sight (penned w (pen_at x y h g) b)
 unfolding penned
-penned_same w x y Nothing f g b = refl
-penned_same w x y (Byte h) f g b = rw (next_is w x y (Byte h) f, next_is w x y (Byte h) g)
+penned_same w x y None f g b = refl
+penned_same w x y (Some h) f g b = rw (next_is w x y (Some h) f, next_is w x y (Some h) g)
 
 inked_same : (fb : List ℕ) (x y : ℕ) (h : MaybeByte) (f g b : ℕ)
     → inked fb (pen_at x y h f) b ≡ inked fb (pen_at x y h g) b
 unfolding inked
-inked_same fb x y Nothing f g b = refl
-inked_same fb x y (Byte h) f g b = refl
+inked_same fb x y None f g b = refl
+inked_same fb x y (Some h) f g b = refl
 
 fed_same : (p : Panel) (f g b : ℕ) → uncounted (fed (with_frames p f) b) ≡ uncounted (fed (with_frames p g) b)
 unfolding fed argued
@@ -96,11 +96,11 @@ painted_same p fb f g b =
 commanded_same : (p : Panel) (f g c : ℕ) → uncounted (commanded (with_frames p f) c)
     ≡ uncounted (commanded (with_frames p g) c)
 unfolding commanded
-commanded_same p f g c = ap (panel_with (Byte c) p.window) (go (eqb c 0x2C))
+commanded_same p f g c = ap (panel_with (Some c) p.window) (go (eqb c 0x2C))
   where
     go : (t : Bool)
-        → sight (cond t (start p.window f) (pen_at p.pen.x p.pen.y Nothing f))
-        ≡ sight (cond t (start p.window g) (pen_at p.pen.x p.pen.y Nothing g))
+        → sight (cond t (start p.window f) (pen_at p.pen.x p.pen.y None f))
+        ≡ sight (cond t (start p.window g) (pen_at p.pen.x p.pen.y None g))
     go true = refl
     go false = refl
 

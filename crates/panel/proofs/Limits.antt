@@ -2,7 +2,7 @@
 use Rattle.std.proofs.Common.{◌≡◌, ℕ, zero, suc, ◌<◌, Bool, true, false, cond, eqb, ltb, List, [], ◌∷◌, get_or, set}
 use Rattle.std.proofs.Common.{refl, ◌∙◌, arith, length-set, get_or-set_other, ltb-true}
 use Rattle.whole.proofs.Words.{either}
-use Rattle.panel.specs.declared.MaybeByte.{MaybeByte}
+use Rattle.panel.specs.Lcd.{MaybeByte}
 use Rattle.panel.specs.declared.Window.{Window}
 use Rattle.panel.specs.declared.Pen.{Pen}
 use Rattle.panel.specs.declared.Panel.{Panel}

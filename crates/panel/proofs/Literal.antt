@@ -4,8 +4,8 @@ use Rattle.std.proofs.Common.{◌||◌, eqb, ltb, List, [], ◌∷◌, ◌++◌,
 use Rattle.std.proofs.Common.{length-append, le-ltb, lt-ltb, ne_eqb}
 use lib.Bits.{bit_or, or_shifted}
 use native.Mathlib.Decide.{dec_lt}
+use Rattle.std.specs.Prelude.{None, Some}
 use Rattle.whole.proofs.Words.{either as pick}
-use Rattle.panel.specs.declared.MaybeByte.TheVariants.{Nothing, Byte}
 use Rattle.panel.specs.declared.Panel.{Panel}
 use Rattle.panel.specs.Lcd.{pen_at, with_pen, panel_with, counts, commanded, frame_counted, put, next_pen, penned_by}
 use Rattle.panel.specs.Lcd.{inked_by, penned, inked, code_of, aimed}
@@ -27,8 +27,8 @@ as_command l c = go (eqb c 0x2C)
     go : (t : Bool)
         → compact (cond t (with_position (with_new_command l c) l.x0 l.y0 l.frames) (with_new_command l c))
         ≡ screen
-        (panel_with (Byte c) (compact l).panel.window
-        (cond t (pen_at l.x0 l.y0 Nothing l.frames) (pen_at l.x l.y Nothing l.frames)))
+        (panel_with (Some c) (compact l).panel.window
+        (cond t (pen_at l.x0 l.y0 None l.frames) (pen_at l.x l.y None l.frames)))
         l.fb
     go true = refl
     go false = refl
@@ -88,8 +88,8 @@ as_step l hx hy = rw (inc_small l.x hx, inc_small l.y hy) (go (ltb l.x1 (l.x + 1
         ≡ screen
         (with_pen (compact l).panel
         (cond t
-        (cond u (pen_at l.x0 l.y0 Nothing (counts l.frames)) (pen_at l.x0 (l.y + 1) Nothing l.frames))
-        (pen_at (l.x + 1) l.y Nothing l.frames)))
+        (cond u (pen_at l.x0 l.y0 None (counts l.frames)) (pen_at l.x0 (l.y + 1) None l.frames))
+        (pen_at (l.x + 1) l.y None l.frames)))
         l.fb
     go true true = refl
     go true false = refl

@@ -2,9 +2,9 @@
 use Rattle.std.proofs.Common.{◌≡◌, ℕ, zero, suc, ◌<◌, ◌≤◌, min, ◌⊎◌, List, [], ◌∷◌, length, get_or, take, sym, refl}
 use Rattle.std.proofs.Common.{ap, ◌∙◌, inl, inr, arith, length-take-le, get_or-take}
 use lib.ListN.{get_or-eq_default}
+use Rattle.std.specs.Prelude.{None, Some}
 use Rattle.whole.proofs.Choice.{lt_or_ge}
-use Rattle.panel.specs.declared.MaybeByte.{MaybeByte}
-use Rattle.panel.specs.declared.MaybeByte.TheVariants.{Nothing, Byte}
+use Rattle.panel.specs.Lcd.{MaybeByte}
 use Rattle.panel.specs.declared.Panel.{Panel}
 use Rattle.panel.specs.Entries.{Screen, screen}
 use Rattle.panel.specs.Runs.{later}
@@ -16,8 +16,8 @@ use Rattle.panel.proofs.Literal.{Small, Smalls, Fits, runs}
 -- ---- the list of arguments looks like the four places
 
 maybe_back : (m : MaybeByte) → maybe_of (option_of m) ≡ m
-maybe_back Nothing = refl
-maybe_back (Byte b) = refl
+maybe_back None = refl
+maybe_back (Some b) = refl
 
 four : (a : List ℕ) → length a ≡ 4 → first_four a ≡ a
 four [] h = absurd (let z : ⊥ = omega (arith, h) in z)
@@ -51,8 +51,8 @@ module _ (p : Panel) (fb : List ℕ) (w : PanelWithin p) where
 -- ---- what the types say
 
 small_half : (m : MaybeByte) → IsByte m → Small (option_of m)
-small_half Nothing h = tt
-small_half (Byte b) h = h
+small_half None h = tt
+small_half (Some b) h = h
 
 small_take : (n : ℕ) (a : List ℕ) → ((i : ℕ) → get_or a i 0 < 256) → Smalls (take n a)
 small_take zero a h = tt

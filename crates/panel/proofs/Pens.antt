@@ -1,7 +1,7 @@
 -- The pen and the pixels during pixel data. The count of frames bears on nothing else.
 use Rattle.std.proofs.Common.{◌≡◌, ℕ, ◌+◌, Bool, true, false, cond, ltb, List, [], ◌∷◌, refl}
-use Rattle.panel.specs.declared.MaybeByte.{MaybeByte}
-use Rattle.panel.specs.declared.MaybeByte.TheVariants.{Nothing, Byte}
+use Rattle.std.specs.Prelude.{None, Some}
+use Rattle.panel.specs.Lcd.{MaybeByte}
 use Rattle.panel.specs.declared.Window.{Window}
 use Rattle.panel.specs.declared.Pen.{Pen}
 use Rattle.panel.specs.Lcd.{pen_at, with_pen, counts, frame_counted, put, next_pen, penned, inked, code_of}
@@ -47,14 +47,14 @@ module _ (w : Window) (x y : ℕ) where
   abbrev pub next_frames : ℕ → ℕ
   next_frames f = cond ends (cond last (counts f) f) f
 
-  pub next_is : (h : MaybeByte) (f : ℕ) → next_pen w (pen_at x y h f) ≡ pen_at next_x next_y Nothing (next_frames f)
+  pub next_is : (h : MaybeByte) (f : ℕ) → next_pen w (pen_at x y h f) ≡ pen_at next_x next_y None (next_frames f)
   unfolding next_pen
   next_is h f = go ends last
     where
       go : (a b : Bool)
-          → cond a (cond b (pen_at w.x0 w.y0 Nothing (counts f)) (pen_at w.x0 (y + 1) Nothing f))
-          (pen_at (x + 1) y Nothing f)
-          ≡ pen_at (cond a w.x0 (x + 1)) (cond a (cond b w.y0 (y + 1)) y) Nothing (cond a (cond b (counts f) f) f)
+          → cond a (cond b (pen_at w.x0 w.y0 None (counts f)) (pen_at w.x0 (y + 1) None f))
+          (pen_at (x + 1) y None f)
+          ≡ pen_at (cond a w.x0 (x + 1)) (cond a (cond b w.y0 (y + 1)) y) None (cond a (cond b (counts f) f) f)
       go true true = refl
       go true false = refl
       go false b = refl
@@ -62,7 +62,7 @@ module _ (w : Window) (x y : ℕ) where
   -- it holds no half pixel
   pub next_empty : (h : MaybeByte) (f : ℕ)
       → next_pen w (pen_at x y h f)
-      ≡ pen_at (next_pen w (pen_at x y h f)).x (next_pen w (pen_at x y h f)).y Nothing
+      ≡ pen_at (next_pen w (pen_at x y h f)).x (next_pen w (pen_at x y h f)).y None
       (next_pen w (pen_at x y h f)).frames
   next_empty h f = rw (next_is h f)
 
@@ -81,11 +81,11 @@ unfolding ink pen_after penned inked
 frameless w x y h f g fb [] = record { pixels = refl; pen = refl }
 frameless w x y h f g fb (copy m ∷ is) =
     let r = frameless w x y h _ _ m is in record { pixels = r.pixels; pen = r.pen }
-frameless w x y Nothing f g fb (byte b ∷ is) =
-    let r = frameless w x y (Byte b) f g fb is in record { pixels = r.pixels; pen = r.pen }
-frameless w x y (Byte h) f g fb (byte b ∷ is) =
-    let r : Healed w (next_pen w (pen_at x y (Byte h) f)) (next_pen w (pen_at x y (Byte h) g)) (put fb x y h b)
+frameless w x y None f g fb (byte b ∷ is) =
+    let r = frameless w x y (Some b) f g fb is in record { pixels = r.pixels; pen = r.pen }
+frameless w x y (Some h) f g fb (byte b ∷ is) =
+    let r : Healed w (next_pen w (pen_at x y (Some h) f)) (next_pen w (pen_at x y (Some h) g)) (put fb x y h b)
     (put fb x y h b) is =
-    rw (next_is w x y (Byte h) f, next_is w x y (Byte h) g)
-    (frameless w (next_x w x y) (next_y w x y) Nothing _ _ (put fb x y h b) is) in
+    rw (next_is w x y (Some h) f, next_is w x y (Some h) g)
+    (frameless w (next_x w x y) (next_y w x y) None _ _ (put fb x y h b) is) in
     record { pixels = r.pixels; pen = r.pen }

@@ -1,7 +1,7 @@
 -- Whatever data bytes come after a 0x2C, what lies outside of the window stays.
 use Rattle.std.proofs.Common.{◌≡◌, ℕ, List, [], ◌∷◌, length, get_or, sym, refl, ◌∙◌, arith}
-use Rattle.panel.specs.declared.MaybeByte.{MaybeByte}
-use Rattle.panel.specs.declared.MaybeByte.TheVariants.{Nothing, Byte}
+use Rattle.std.specs.Prelude.{None, Some}
+use Rattle.panel.specs.Lcd.{MaybeByte}
 use Rattle.panel.specs.declared.Window.{Window}
 use Rattle.panel.specs.Lcd.{pen_at, put, penned, inked}
 use Rattle.panel.specs.Runs.{Input, byte, copy, copies}
@@ -70,14 +70,14 @@ pub stray : (w : Window) (is js : List Input) → Alike is js → (x y : ℕ) (h
 unfolding ink penned inked
 stray w is js ended x y h f x' y' h' f' fb gb i i' a = a
 stray w is js (both {m} r) x y h f x' y' h' f' fb gb i i' a = stray w _ _ r x y h _ x' y' h' _ m m i i' (agreed w m)
-stray w is js (left {b} r) x y Nothing f x' y' h' f' fb gb i i' a =
-    stray w _ _ r x y (Byte b) f x' y' h' f' fb gb i i' a
-stray w is js (left {b} r) x y (Byte h) f x' y' h' f' fb gb i i' a =
-    rw (next_empty w x y (Byte h) f)
-    (stray w _ _ r _ _ Nothing _ x' y' h' f' (put fb x y h b) gb (within_next w x y (Byte h) f i) i'
+stray w is js (left {b} r) x y None f x' y' h' f' fb gb i i' a =
+    stray w _ _ r x y (Some b) f x' y' h' f' fb gb i i' a
+stray w is js (left {b} r) x y (Some h) f x' y' h' f' fb gb i i' a =
+    rw (next_empty w x y (Some h) f)
+    (stray w _ _ r _ _ None _ x' y' h' f' (put fb x y h b) gb (within_next w x y (Some h) f i) i'
     (strayed w x y h b fb gb i a))
-stray w is js (right {b} r) x y h f x' y' Nothing f' fb gb i i' a = stray w _ _ r x y h f x' y' (Byte b) f' fb gb i i' a
-stray w is js (right {b} r) x y h f x' y' (Byte h') f' fb gb i i' a =
-    rw (next_empty w x' y' (Byte h') f')
-    (stray w _ _ r x y h f _ _ Nothing _ fb (put gb x' y' h' b) i (within_next w x' y' (Byte h') f' i')
+stray w is js (right {b} r) x y h f x' y' None f' fb gb i i' a = stray w _ _ r x y h f x' y' (Some b) f' fb gb i i' a
+stray w is js (right {b} r) x y h f x' y' (Some h') f' fb gb i i' a =
+    rw (next_empty w x' y' (Some h') f')
+    (stray w _ _ r x y h f _ _ None _ fb (put gb x' y' h' b) i (within_next w x' y' (Some h') f' i')
     (astray_sym (strayed w x' y' h' b gb fb i' (astray_sym a))))

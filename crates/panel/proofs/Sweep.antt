@@ -2,8 +2,8 @@
 use Rattle.std.proofs.Common.{◌≡◌, ℕ, suc, ◌+◌, ◌-◌, ◌*◌, ◌<◌, ◌≤◌, max, List, [], ◌∷◌, length, get_or, sym, refl}
 use Rattle.std.proofs.Common.{ap, ◌∙◌, suc-mul, arith, ext_get_or}
 use native.Mathlib.Decide.{dec_lt}
-use Rattle.panel.specs.declared.MaybeByte.{MaybeByte}
-use Rattle.panel.specs.declared.MaybeByte.TheVariants.{Nothing, Byte}
+use Rattle.std.specs.Prelude.{None, Some}
+use Rattle.panel.specs.Lcd.{MaybeByte}
 use Rattle.panel.specs.declared.Window.{Window}
 use Rattle.panel.specs.Lcd.{pen_at, put, next_pen, penned, inked}
 use Rattle.panel.specs.Runs.{Input, byte, copy, bytes_in, window_bytes}
@@ -110,8 +110,8 @@ rest_whole w = ap (λ n. (last_y w - w.y0) * across w + n) f ∙ sym (ap (λ n. 
 
 -- a held byte counts
 abbrev pub half_bytes : MaybeByte → ℕ
-half_bytes Nothing = 0
-half_bytes (Byte b) = 1
+half_bytes None = 0
+half_bytes (Some b) = 1
 
 -- from any place of the window a run that takes the sweep to the window's end heals what was left
 abbrev Swept : Window → List Input → Type 0
@@ -126,34 +126,34 @@ module _ (w : Window) (h : ℕ) (is : List Input) (later : Swept w is) where
   step : (x y f g : ℕ) (fb gb : List ℕ) → Within w x y → length fb ≡ length gb → ((k : ℕ) → Still w (x + 1) y fb gb k)
       → rest w x y * 2 ≤ bytes_in is + 2
       → Dec (x < w.x1) → Dec (y < w.y1)
-      → Healed w (next_pen w (pen_at x y (Byte h) f)) (next_pen w (pen_at x y (Byte h) g)) fb gb is
+      → Healed w (next_pen w (pen_at x y (Some h) f)) (next_pen w (pen_at x y (Some h) g)) fb gb is
   step x y f g fb gb i e s l (yes p) q =
-      rw (next_along w (pen_at x y (Byte h) f) p, next_along w (pen_at x y (Byte h) g) p)
-      (later (x + 1) y Nothing f g fb gb
+      rw (next_along w (pen_at x y (Some h) f) p, next_along w (pen_at x y (Some h) g) p)
+      (later (x + 1) y None f g fb gb
       (record { left = omega (arith, i.left); right = omega arith; top = i.top; low = i.low }) e s (omega arith))
   step x y f g fb gb i e s l (no p) (yes q) =
-      rw (next_down w (pen_at x y (Byte h) f) (omega arith) q, next_down w (pen_at x y (Byte h) g) (omega arith) q)
-      (later w.x0 (y + 1) Nothing f g fb gb
+      rw (next_down w (pen_at x y (Some h) f) (omega arith) q, next_down w (pen_at x y (Some h) g) (omega arith) q)
+      (later w.x0 (y + 1) None f g fb gb
       (record { left = omega arith; right = omega arith; top = omega (arith, i.top); low = omega arith }) e
       (λ k. down w x y fb gb k i.left (omega arith) (s k)) (omega (arith, row_less w y q, i.left, i.right)))
   step x y f g fb gb i e s l (no p) (no q) =
       rw (
-        next_round w (pen_at x y (Byte h) f) (omega arith) (omega arith),
-        next_round w (pen_at x y (Byte h) g)
+        next_round w (pen_at x y (Some h) f) (omega arith) (omega arith),
+        next_round w (pen_at x y (Some h) g)
             (omega arith) (omega arith),
       )
-      (settled w w.x0 w.y0 Nothing _ _ fb gb is e
+      (settled w w.x0 w.y0 None _ _ fb gb is e
       (λ k. none_left w x y fb gb k i (omega arith) (omega arith) (s k)))
 
 sweep : (w : Window) (is : List Input) → Swept w is
 unfolding ink pen_after penned inked bytes_in
-sweep w [] x y Nothing f g fb gb i e s l = absurd (omega (arith, i.right))
-sweep w [] x y (Byte h) f g fb gb i e s l = absurd (omega (arith, i.right))
+sweep w [] x y None f g fb gb i e s l = absurd (omega (arith, i.right))
+sweep w [] x y (Some h) f g fb gb i e s l = absurd (omega (arith, i.right))
 sweep w (copy m ∷ is) x y h f g fb gb i e s l =
     let r = sweep w is x y h _ _ m m i refl (λ k. same refl) l in record { pixels = r.pixels; pen = r.pen }
-sweep w (byte b ∷ is) x y Nothing f g fb gb i e s l =
-    let r = sweep w is x y (Byte b) f g fb gb i e s (omega arith) in record { pixels = r.pixels; pen = r.pen }
-sweep w (byte b ∷ is) x y (Byte h) f g fb gb i e s l =
+sweep w (byte b ∷ is) x y None f g fb gb i e s l =
+    let r = sweep w is x y (Some b) f g fb gb i e s (omega arith) in record { pixels = r.pixels; pen = r.pen }
+sweep w (byte b ∷ is) x y (Some h) f g fb gb i e s l =
     let r = step w h is (sweep w is) x y f g (put fb x y h b) (put gb x y h b) i
     (put_length fb x y h b ∙ e ∙ sym (put_length gb x y h b))
     (λ k. wrote w x y fb gb h b k e (touch x y k) (s k)) (omega arith) (dec_lt x w.x1) (dec_lt y w.y1) in
@@ -167,5 +167,5 @@ at_start w = record { left = omega arith; right = omega arith; top = omega arith
 pub swept : (w : Window) (is : List Input) (f g : ℕ) (fb gb : List ℕ) → length fb ≡ length gb
     → ((k : ℕ) → Still w w.x0 w.y0 fb gb k)
     → window_bytes w ≤ bytes_in is
-    → Healed w (pen_at w.x0 w.y0 Nothing f) (pen_at w.x0 w.y0 Nothing g) fb gb is
-swept w is f g fb gb e s l = sweep w is w.x0 w.y0 Nothing f g fb gb (at_start w) e s (omega (arith, rest_whole w))
+    → Healed w (pen_at w.x0 w.y0 None f) (pen_at w.x0 w.y0 None g) fb gb is
+swept w is f g fb gb e s l = sweep w is w.x0 w.y0 None f g fb gb (at_start w) e s (omega (arith, rest_whole w))

@@ -3,8 +3,8 @@
 use Rattle.std.proofs.Common.{◌≡◌, ℕ, zero, suc, ◌+◌, ◌-◌, ◌*◌, ◌<◌, ◌≤◌, Bool, true, false, List, [], ◌∷◌, length}
 use Rattle.std.proofs.Common.{get_or, set, sym, refl, ap, ◌∙◌, zero-mul, arith, get_or-set_other, get_or-set_same}
 use native.Mathlib.Decide.{dec_lt}
-use Rattle.panel.specs.declared.MaybeByte.{MaybeByte}
-use Rattle.panel.specs.declared.MaybeByte.TheVariants.{Nothing, Byte}
+use Rattle.std.specs.Prelude.{None, Some}
+use Rattle.panel.specs.Lcd.{MaybeByte}
 use Rattle.panel.specs.declared.Window.{Window}
 use Rattle.panel.specs.Lcd.{pen_at, spot, put, next_pen, penned, inked}
 use Rattle.panel.specs.Entries.{Screen}
@@ -70,11 +70,11 @@ module _ (w : Window) (hx : last_x w < 128) (hy : last_y w < 128) where
   unfolding ink penned inked bytes_in copies
   spared [] x y h f fb i e l = refl
   spared (copy m ∷ is) x y h f fb i e l = let z : ◌≡◌ {A = ℕ} 0 1 = cc in absurd (omega arith)
-  spared (byte b ∷ is) x y Nothing f fb i e l = spared is x y (Byte b) f fb i e (omega arith)
-  spared (byte b ∷ is) x y (Byte h) f fb i e l =
-      let n = nearer w x y (Byte h) f i (omega arith) in
-      rw (next_empty w x y (Byte h) f)
-      (spared is _ _ Nothing _ (put fb x y h b) (within_next w x y (Byte h) f i) e (omega arith))
+  spared (byte b ∷ is) x y None f fb i e l = spared is x y (Some b) f fb i e (omega arith)
+  spared (byte b ∷ is) x y (Some h) f fb i e l =
+      let n = nearer w x y (Some h) f i (omega arith) in
+      rw (next_empty w x y (Some h) f)
+      (spared is _ _ None _ (put fb x y h b) (within_next w x y (Some h) f i) e (omega arith))
       ∙ missed x y fb h b (omega arith) (touch x y (last w))
 
   -- it is written
@@ -91,8 +91,8 @@ module _ (w : Window) (hx : last_x w < 128) (hy : last_y w < 128) where
 
   -- a run of one byte c that ends with it, from any place; a pixel's first byte may have come
   abbrev half : Bool → ℕ → MaybeByte
-  half true c = Byte c
-  half false c = Nothing
+  half true c = Some c
+  half false c = None
 
   abbrev Filled : ℕ → ℕ → Type 0
   Filled n c =
@@ -103,15 +103,15 @@ module _ (w : Window) (hx : last_x w < 128) (hy : last_y w < 128) where
   -- its next pixel is the last one, or it goes on
   goes_on : (n c x y f : ℕ) (fb : List ℕ) → Filled n c → Within w x y → last w < length fb → suc n + 1 ≡ rest w x y * 2
       → Dec (1 < rest w x y)
-      → get_or (ink w (next_pen w (pen_at x y (Byte c) f)) (put fb x y c c) (full n c)) (last w) 0 ≡ c
+      → get_or (ink w (next_pen w (pen_at x y (Some c) f)) (put fb x y c c) (full n c)) (last w) 0 ≡ c
   unfolding ink full
   goes_on n c x y f fb on i s e (yes l) =
-      let k = nearer w x y (Byte c) f i l in
-      rw (next_empty w x y (Byte c) f)
-      (on false _ _ _ (put fb x y c c) (within_next w x y (Byte c) f i) (rw (put_length fb x y c c) s) (omega arith))
+      let k = nearer w x y (Some c) f i l in
+      rw (next_empty w x y (Some c) f)
+      (on false _ _ _ (put fb x y c c) (within_next w x y (Some c) f i) (rw (put_length fb x y c c) s) (omega arith))
   goes_on n c x y f fb on i s e (no l) =
       let z : n ≡ 0 = omega arith in
-      ap (λ (m : ℕ). get_or (ink w (next_pen w (pen_at x y (Byte c) f)) (put fb x y c c) (full m c)) (last w) 0) z
+      ap (λ (m : ℕ). get_or (ink w (next_pen w (pen_at x y (Some c) f)) (put fb x y c c) (full m c)) (last w) 0) z
       ∙ written x y fb c i (omega arith) s
 
   filled : (n c : ℕ) → Filled n c
@@ -135,7 +135,7 @@ module _ (s : Screen) (after : List Input) (q : LastSeen s) (e : copies after �
       let f = s.panel.pen.frames in
       let all = rest_whole w in
       ap (λ (t : Screen). get_or t.fb (last w) 0) (redrawn_is s.panel s.fb (whole c) after)
-      ∙ spared w q.column q.row after w.x0 w.y0 Nothing (frames_after w f (whole c))
+      ∙ spared w q.column q.row after w.x0 w.y0 None (frames_after w f (whole c))
       (ink w (start w f) s.fb (whole c)) (at_start w) e (omega arith)
       ∙ filled w q.column q.row (window_bytes w) c false w.x0 w.y0 f s.fb (at_start w) q.stored
       (omega arith)

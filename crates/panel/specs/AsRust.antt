@@ -1,15 +1,14 @@
 -- Demand 2 for the panel: what it is to do as sys.rs does.
-use Rattle.std.specs.Prelude.{◌≡◌, ℕ, ◌<◌, min, List, [], ◌∷◌, length, slice_index}
-use Rattle.panel.specs.declared.MaybeByte.{MaybeByte}
-use Rattle.panel.specs.declared.MaybeByte.TheVariants.{Nothing, Byte}
+use Rattle.std.specs.Prelude.{◌≡◌, ℕ, ◌<◌, min, List, [], ◌∷◌, length, slice_index, None, Some}
+use Rattle.panel.specs.Lcd.{MaybeByte}
 use Rattle.panel.specs.Lcd.{fresh_panel, pen_at}
 use Rattle.panel.specs.Entries.{Screen, screen}
 use Rattle.panel.specs.Runs.{byte, copy, Act, order, input, later}
 use Rattle.panel.specs.Rust.{Lcd, Option, none, some, default, lcd_after_acts}
 
 abbrev pub maybe_of : Option → MaybeByte
-maybe_of none = Nothing
-maybe_of (some b) = Byte b
+maybe_of none = None
+maybe_of (some b) = Some b
 
 -- of the list of arguments the first four, those that did not come 0
 abbrev pub first_four : List ℕ → List ℕ

@@ -1,13 +1,11 @@
--- What a call can change, as one record; 01's refusal numbers; and what the entries answer.
-use Rattle.std.specs.Prelude.{ℕ, cond, List, length, ◌==◌}
+-- What a call can change, as one record; and what the entries answer.
+use Rattle.std.specs.Prelude.{ℕ, cond, List, length, ◌==◌, Result}
 use Rattle.map.specs.Numbers.{FRAMEBUFFER_SIZE, SCREEN_BYTES, DONE, BAD_MEMORY}
+use Rattle.map.specs.declared.refusals.Refusal.{Refusal}
+use Rattle.map.specs.Refusals.{number_of, value_or}
 use Rattle.panel.specs.declared.Pen.{Pen}
 use Rattle.panel.specs.declared.Panel.{Panel}
 use Rattle.panel.specs.declared.Colours.{Colours}
-use Rattle.panel.specs.declared.Refusal.{Refusal}
-use Rattle.panel.specs.declared.Refusal.TheVariants.{Done, BadMemory}
-use Rattle.panel.specs.declared.Sent.{Sent}
-use Rattle.panel.specs.declared.Shown.{Shown}
 use Rattle.panel.specs.Lcd.{fed, painted}
 use Rattle.panel.specs.Colour.{pixel_at, rgb_of}
 
@@ -27,19 +25,15 @@ pub record Drawing : Type 0 where
 abbrev pub drawing : Pen → List ℕ → Drawing
 drawing p fb = record { pen = p; fb = fb }
 
--- Refusal numbers: 0 done, 7 BadMemory
-abbrev pub number_of : Refusal → ℕ
-number_of Done = DONE
-number_of BadMemory = BAD_MEMORY
-
 -- ---- data
 
 pub record Outcome : Type 0 where
   pub refusal : ℕ
   pub screen : Screen
 
-abbrev pub outcome : Sent → List ℕ → Outcome
-outcome r fb = record { refusal = number_of r.refusal; screen = screen r.panel fb }
+-- what a call answers; where it refuses, the panel is the one that was given
+abbrev pub outcome : Panel → Result Panel Refusal → List ℕ → Outcome
+outcome p r fb = record { refusal = number_of r; screen = screen (value_or r p) fb }
 
 -- framebuffer not 32,768: nothing changes
 unfoldable pub data_of : Panel → List ℕ → ℕ → Outcome
@@ -54,11 +48,11 @@ pub record Pixel : Type 0 where
   pub refusal : ℕ
   pub colours : Colours
 
-abbrev pub pixel : Shown → Pixel
-pixel r = record { refusal = number_of r.refusal; colours = r.colours }
-
 abbrev pub black : Colours
 black = record { r = 0; g = 0; b = 0 }
+
+abbrev pub pixel : Result Colours Refusal → Pixel
+pixel r = record { refusal = number_of r; colours = value_or r black }
 
 unfoldable pub pixel_of : List ℕ → ℕ → Pixel
 pixel_of fb k =
@@ -71,7 +65,7 @@ pub record Picture : Type 0 where
   pub refusal : ℕ
   pub out : List ℕ
 
-abbrev pub picture : Refusal → List ℕ → Picture
+abbrev pub picture : Result Unit Refusal → List ℕ → Picture
 picture r out = record { refusal = number_of r; out = out }
 
 -- either length wrong: nothing changes

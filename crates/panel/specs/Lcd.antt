@@ -1,14 +1,17 @@
 -- The panel, as document 000 has it (Lcd: command, data, pixel), with the arguments as four bytes and a count that
 -- stops. Pixels are a list of bytes of any length.
 use Rattle.std.specs.Prelude.{ℕ, ◌+◌, ◌-◌, ◌*◌, ◌%◌, ◌^◌, cond, List, [], ◌∷◌, ◌==◌, nat_lt, slice_index, slice_set}
+use Rattle.std.specs.Prelude.{None, Some, Option}
 use Rattle.map.specs.Numbers.{LCD_W, LCD_H}
-use Rattle.panel.specs.declared.MaybeByte.{MaybeByte}
-use Rattle.panel.specs.declared.MaybeByte.TheVariants.{Nothing, Byte}
 use Rattle.panel.specs.declared.Window.{Window}
 use Rattle.panel.specs.declared.Pen.{Pen}
 use Rattle.panel.specs.declared.Panel.{Panel}
 
 -- ---- state, and its parts
+
+-- a byte, or none
+abbrev pub MaybeByte : Type 0
+MaybeByte = Option ℕ
 
 abbrev pub pen_at : ℕ → ℕ → MaybeByte → ℕ → Pen
 pen_at x y h f = record { x = x; y = y; half = h; frames = f }
@@ -27,7 +30,7 @@ abbrev pub panel_with : MaybeByte → Window → Pen → Panel
 panel_with c w q = record { cmd = c; args = zeros; count = 0; window = w; pen = q }
 
 abbrev pub fresh_panel : Panel
-fresh_panel = panel_with Nothing (record { x0 = 0; x1 = LCD_W - 1; y0 = 0; y1 = LCD_H - 1 }) (pen_at 0 0 Nothing 0)
+fresh_panel = panel_with None (record { x0 = 0; x1 = LCD_W - 1; y0 = 0; y1 = LCD_H - 1 }) (pen_at 0 0 None 0)
 
 -- a counter goes round from 2^64 - 1 to 0
 abbrev pub counts : ℕ → ℕ
@@ -37,9 +40,9 @@ counts f = (f + 1) % 2 ^ 64
 
 unfoldable pub commanded : Panel → ℕ → Panel
 commanded p c =
-    panel_with (Byte c) p.window
-    (cond (c == 0x2C) (pen_at p.window.x0 p.window.y0 Nothing p.pen.frames)
-    (pen_at p.pen.x p.pen.y Nothing p.pen.frames))
+    panel_with (Some c) p.window
+    (cond (c == 0x2C) (pen_at p.window.x0 p.window.y0 None p.pen.frames)
+    (pen_at p.pen.x p.pen.y None p.pen.frames))
 
 -- ---- pixel
 
@@ -56,22 +59,22 @@ put fb x y h b = cond (nat_lt x LCD_W) (cond (nat_lt y LCD_H)
 unfoldable pub next_pen : Window → Pen → Pen
 next_pen w p =
     cond (nat_lt w.x1 (p.x + 1))
-    (cond (nat_lt w.y1 (p.y + 1)) (pen_at w.x0 w.y0 Nothing (counts p.frames))
-    (pen_at w.x0 (p.y + 1) Nothing p.frames))
-    (pen_at (p.x + 1) p.y Nothing p.frames)
+    (cond (nat_lt w.y1 (p.y + 1)) (pen_at w.x0 w.y0 None (counts p.frames))
+    (pen_at w.x0 (p.y + 1) None p.frames))
+    (pen_at (p.x + 1) p.y None p.frames)
 
 -- ---- data after 0x2C: the first byte of a pixel is held, the second writes it
 
 abbrev pub penned_by : MaybeByte → Window → Pen → ℕ → Pen
-penned_by Nothing w p b = pen_at p.x p.y (Byte b) p.frames
-penned_by (Byte h) w p b = next_pen w p
+penned_by None w p b = pen_at p.x p.y (Some b) p.frames
+penned_by (Some h) w p b = next_pen w p
 
 unfoldable pub penned : Window → Pen → ℕ → Pen
 penned w p b = penned_by p.half w p b
 
 abbrev pub inked_by : MaybeByte → List ℕ → Pen → ℕ → List ℕ
-inked_by Nothing fb p b = fb
-inked_by (Byte h) fb p b = put fb p.x p.y h b
+inked_by None fb p b = fb
+inked_by (Some h) fb p b = put fb p.x p.y h b
 
 unfoldable pub inked : List ℕ → Pen → ℕ → List ℕ
 inked fb p b = inked_by p.half fb p b
@@ -80,8 +83,8 @@ inked fb p b = inked_by p.half fb p b
 
 -- no command is no byte
 abbrev pub code_of : MaybeByte → ℕ
-code_of Nothing = 256
-code_of (Byte b) = b
+code_of None = 256
+code_of (Some b) = b
 
 -- 0x2A sets the columns, 0x2B the rows
 unfoldable pub aimed : Window → ℕ → ℕ → ℕ → Window

@@ -1,8 +1,7 @@
 -- Demand 2 for the panel from any state on, as from a session that is resumed: the state of sys.rs that stands for it,
 -- and what it is to do as that one does.
-use Rattle.std.specs.Prelude.{◌≡◌, ℕ, ◌^◌, ◌<◌, List, take, slice_index}
-use Rattle.panel.specs.declared.MaybeByte.{MaybeByte}
-use Rattle.panel.specs.declared.MaybeByte.TheVariants.{Nothing, Byte}
+use Rattle.std.specs.Prelude.{◌≡◌, ℕ, ◌^◌, ◌<◌, List, take, slice_index, None, Some}
+use Rattle.panel.specs.Lcd.{MaybeByte}
 use Rattle.panel.specs.declared.Panel.{Panel}
 use Rattle.panel.specs.Entries.{screen}
 use Rattle.panel.specs.Runs.{Act, later}
@@ -11,8 +10,8 @@ use Rattle.panel.specs.AsRust.{compact, Bytes}
 use Rattle.panel.specs.Within.{PanelWithin}
 
 abbrev pub option_of : MaybeByte → Option
-option_of Nothing = none
-option_of (Byte b) = some b
+option_of None = none
+option_of (Some b) = some b
 
 -- of the arguments those that have come; the rest alike
 abbrev pub lcd_of : Panel → List ℕ → Lcd
@@ -32,8 +31,8 @@ lcd_of p fb =
     }
 
 abbrev pub IsByte : MaybeByte → Type 0
-IsByte Nothing = Unit {0}
-IsByte (Byte b) = b < 256
+IsByte None = Unit {0}
+IsByte (Some b) = b < 256
 
 -- what the types of the fields say: ends and positions are u16, the half pixel and the arguments are bytes
 pub record PanelTyped (p : Panel) : Type 0 where

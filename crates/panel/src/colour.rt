@@ -4,7 +4,6 @@ ghost use Rattle.panel.specs.Colour.{parted, colours_at, pixel_at, over, rgb_of}
 ghost use Rattle.panel.specs.Inner.{triple};
 
 use crate::Colours;
-use crate::args::wide;
 use crate::glass::{load, store};
 
 // Five bits of red, six of green, five of blue.
@@ -24,7 +23,7 @@ fn pixel(fb: &[u8], n: usize) -> Colours
     requires { n * 2 + 1 < 2 ^ 64 }
     ensures { result ≡ colours_at fb.now n }
 {
-    parts(wide(load(fb, n * 2 + 1), load(fb, n * 2)))
+    parts(u16::from_le_bytes([load(fb, n * 2), load(fb, n * 2 + 1)]))
 }
 
 // The colours of pixel k modulo 16,384.
@@ -49,9 +48,7 @@ pub fn screen(fb: &[u8], out: &mut [u8])
     ensures { out.new ≡ over (rgb_of fb.now) out.old }
 {
     let n = fb.len() / 2;
-    let mut i = 0;
-    while i < n {
+    for i in 0..n {
         lay(out, i * 3, pixel(fb, i));
-        i += 1;
     }
 }

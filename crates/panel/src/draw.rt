@@ -1,11 +1,10 @@
 // Pixel data: the bytes after 0x2C. The Rust's `pixel` is `place`, which stores it, and `next`, which moves on.
-ghost use Rattle.std.specs.Prelude.{◌≡◌};
+ghost use Rattle.std.specs.Prelude.{◌≡◌, None};
 ghost use Rattle.panel.specs.Lcd.{pen_at, put, next_pen, penned, inked};
-ghost use Rattle.panel.specs.declared.MaybeByte.TheVariants.{Nothing};
 ghost use Rattle.panel.specs.Entries.{drawing};
 
 use crate::glass::store;
-use crate::{MaybeByte, Pen, Window};
+use crate::{Pen, Window};
 
 // The glass, as wide as positions are.
 const LCD_W: u16 = map::LCD_W as u16;
@@ -27,12 +26,12 @@ fn place(fb: &mut [u8], x: u16, y: u16, h: u8, b: u8)
 
 // A pen with no half pixel.
 fn pen_at(x: u16, y: u16, frames: u64) -> Pen
-    ensures { result ≡ pen_at x y Nothing frames }
+    ensures { result ≡ pen_at x y None frames }
 {
     Pen {
         x,
         y,
-        half: MaybeByte::Nothing,
+        half: None,
         frames,
     }
 }
@@ -41,7 +40,7 @@ fn pen_at(x: u16, y: u16, frames: u64) -> Pen
 pub fn next(w: Window, p: Pen) -> Pen
     ensures { result ≡ next_pen w p }
 {
-    let more = std::num::wrapping_add_u64(p.frames, 1);
+    let more = p.frames.wrapping_add(1);
     if p.x < w.x1 {
         return pen_at(p.x + 1, p.y, p.frames);
     }
@@ -57,13 +56,13 @@ pub fn paint(w: Window, p: Pen, fb: &mut [u8], b: u8) -> Pen
 {
     let half = p.half;
     match half {
-        MaybeByte::Nothing => Pen {
+        None => Pen {
             x: p.x,
             y: p.y,
-            half: MaybeByte::Byte(b),
+            half: Some(b),
             frames: p.frames,
         },
-        MaybeByte::Byte(h) => {
+        Some(h) => {
             let x = p.x;
             let y = p.y;
             place(fb, x, y, h, b);

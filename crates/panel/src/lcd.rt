@@ -5,7 +5,7 @@ ghost use Rattle.panel.specs.Entries.{screen};
 
 use crate::args::{argument, code};
 use crate::draw::paint;
-use crate::{MaybeByte, Panel, Pen};
+use crate::{Panel, Pen};
 
 // No argument and no half pixel is left; 0x2C goes to the window's start.
 pub fn command(p: Panel, c: u8) -> Panel
@@ -13,8 +13,8 @@ pub fn command(p: Panel, c: u8) -> Panel
 {
     let window = p.window;
     let old = p.pen;
-    let cmd = MaybeByte::Byte(c);
-    let half = MaybeByte::Nothing;
+    let cmd = Some(c);
+    let half = None;
     let mut pen = Pen {
         x: old.x,
         y: old.y,
@@ -39,10 +39,8 @@ pub fn data(p: Panel, fb: &mut [u8], b: u8) -> Panel
 {
     let cmd = p.cmd;
     if code(cmd) == 0x2C {
-        let moved = paint(p.window, p.pen, fb, b);
-        let mut next = p;
-        next.pen = moved;
-        return next;
+        let pen = paint(p.window, p.pen, fb, b);
+        return Panel { pen, ..p };
     }
     argument(p, b)
 }
@@ -51,9 +49,9 @@ pub fn data(p: Panel, fb: &mut [u8], b: u8) -> Panel
 pub fn count_frame(p: Panel) -> Panel
     ensures { result ≡ frame_counted p }
 {
-    let mut pen = p.pen;
-    pen.frames = std::num::wrapping_add_u64(pen.frames, 1);
-    let mut next = p;
-    next.pen = pen;
-    next
+    let frames = p.pen.frames.wrapping_add(1);
+    Panel {
+        pen: Pen { frames, ..p.pen },
+        ..p
+    }
 }

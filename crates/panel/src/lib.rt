@@ -14,12 +14,7 @@ ghost use Rattle.std.specs.Prelude.{◌≡◌};
 ghost use Rattle.panel.specs.Lcd.{fresh_panel};
 ghost use Rattle.panel.specs.Entries.{outcome, data_of, pixel, pixel_of, picture, picture_of};
 
-// A byte, or none: the Rust's Option<u8>.
-#[derive(Clone, Copy)]
-pub enum MaybeByte {
-    Nothing,
-    Byte(u8),
-}
+use map::Refusal;
 
 // First and last column, first and last row. They may lie off the glass, and in any order.
 #[derive(Clone, Copy)]
@@ -35,14 +30,14 @@ pub struct Window {
 pub struct Pen {
     pub x: u16,
     pub y: u16,
-    pub half: MaybeByte,
+    pub half: Option<u8>,
     pub frames: u64,
 }
 
 // The arguments are the first four data bytes of a command; the count of them stops at four.
 #[derive(Clone, Copy)]
 pub struct Panel {
-    pub cmd: MaybeByte,
+    pub cmd: Option<u8>,
     pub args: [u8; 4],
     pub count: u8,
     pub window: Window,
@@ -56,24 +51,6 @@ pub struct Colours {
     pub b: u8,
 }
 
-#[derive(Drop)]
-pub enum Refusal {
-    Done,
-    BadMemory,
-}
-
-#[derive(Drop)]
-pub struct Sent {
-    pub refusal: Refusal,
-    pub panel: Panel,
-}
-
-#[derive(Drop)]
-pub struct Shown {
-    pub refusal: Refusal,
-    pub colours: Colours,
-}
-
 const LAST_X: u16 = map::LCD_W as u16 - 1;
 
 const LAST_Y: u16 = map::LCD_H as u16 - 1;
@@ -83,7 +60,7 @@ pub fn fresh() -> Panel
     ensures { result ≡ fresh_panel }
 {
     Panel {
-        cmd: MaybeByte::Nothing,
+        cmd: None,
         args: [0, 0, 0, 0],
         count: 0,
         window: Window {
@@ -95,55 +72,41 @@ pub fn fresh() -> Panel
         pen: Pen {
             x: 0,
             y: 0,
-            half: MaybeByte::Nothing,
+            half: None,
             frames: 0,
         },
     }
 }
 
 // A data byte.
-pub fn data(p: Panel, framebuffer: &mut [u8], b: u8) -> Sent
-    ensures { outcome result framebuffer.new ≡ data_of p framebuffer.old b }
+pub fn data(p: Panel, framebuffer: &mut [u8], b: u8) -> Result<Panel, Refusal>
+    ensures { outcome p result framebuffer.new ≡ data_of p framebuffer.old b }
 {
     if framebuffer.len() == map::FRAMEBUFFER_SIZE {
-        let panel = lcd::data(p, framebuffer, b);
-        return Sent {
-            refusal: Refusal::Done,
-            panel,
-        };
+        return Ok(lcd::data(p, framebuffer, b));
     }
-    Sent {
-        refusal: Refusal::BadMemory,
-        panel: p,
-    }
+    Err(Refusal::BadMemory)
 }
 
 // The colours of pixel k modulo 16,384.
-pub fn rgb_at(framebuffer: &[u8], k: u32) -> Shown
+pub fn rgb_at(framebuffer: &[u8], k: u32) -> Result<Colours, Refusal>
     ensures { pixel result ≡ pixel_of framebuffer.now k }
 {
     if framebuffer.len() == map::FRAMEBUFFER_SIZE {
-        let colours = colour::at(framebuffer, k);
-        return Shown {
-            refusal: Refusal::Done,
-            colours,
-        };
+        return Ok(colour::at(framebuffer, k));
     }
-    Shown {
-        refusal: Refusal::BadMemory,
-        colours: Colours { r: 0, g: 0, b: 0 },
-    }
+    Err(Refusal::BadMemory)
 }
 
 // The whole screen as 8-bit triples, into 49,152 bytes.
-pub fn rgb(framebuffer: &[u8], out: &mut [u8]) -> Refusal
+pub fn rgb(framebuffer: &[u8], out: &mut [u8]) -> Result<(), Refusal>
     ensures { picture result out.new ≡ picture_of framebuffer.now out.old }
 {
     if framebuffer.len() == map::FRAMEBUFFER_SIZE {
         if out.len() == map::SCREEN_BYTES {
             colour::screen(framebuffer, out);
-            return Refusal::Done;
+            return Ok(());
         }
     }
-    Refusal::BadMemory
+    Err(Refusal::BadMemory)
 }

@@ -11,10 +11,7 @@ use flash::Trans;
 fn within(size: usize, pos: usize) -> bool
     ensures { result ≡ leb pos (size + 4) }
 {
-    if pos <= 4 {
-        return true;
-    }
-    pos - 4 <= size
+    pos.saturating_sub(4) <= size
 }
 
 fn header_ok(t: Trans) -> bool
@@ -46,10 +43,8 @@ fn page_ok(t: Trans, page: &[u8; 256]) -> bool
     ensures { result ≡ page_ok t page.now 256 }
 {
     let mut good = true;
-    let mut i: usize = 0;
-    while i < 256 {
-        good = slot_ok(t, i, page[i]) & good;
-        i += 1;
+    for (i, value) in page.iter().enumerate() {
+        good = slot_ok(t, i, *value) & good;
     }
     good
 }

@@ -7,8 +7,7 @@ use mathlib.Core.Logic.{◌≢◌}
 use native.Mathlib.Omega.{arith}
 use lib.ListN.{length, get_or, set}
 use borrow.Author.Tests.{eq-eqb, ne_eqb, lt-ltb, le-ltb}
-use Rattle.map.specs.Numbers.{TIMER_BASE, TIMER_END}
-use Rattle.registers.specs.declared.Refusal.TheVariants.{Done, RegistersFull}
+use Rattle.map.specs.Numbers.{TIMER_BASE, TIMER_END, DONE, REGISTERS_FULL}
 use Rattle.registers.specs.declared.Spot.TheVariants.{Own, Never, Present, Absent}
 use Rattle.registers.specs.Words.{unstored}
 use Rattle.registers.specs.Ports.{words_from, named_words, own_words, index, slot_of}
@@ -127,16 +126,16 @@ module _ (o : Others) (i v : ℕ) where
   present_some q n g = rw (ne_eqb _ _ n, g)
 
   module _ (a : ℕ) where
-    pub absent_zero : v ≡ 0 → other_outcome Done o ≡ put_absent o i a v
+    pub absent_zero : v ≡ 0 → other_outcome DONE o ≡ put_absent o i a v
     unfolding put_absent
     absent_zero z = rw (eq-eqb _ _ z)
 
-    pub absent_full : v ≢ 0 → get_or o.values 255 0 ≢ 0 → other_outcome RegistersFull o ≡ put_absent o i a v
+    pub absent_full : v ≢ 0 → get_or o.values 255 0 ≢ 0 → other_outcome REGISTERS_FULL o ≡ put_absent o i a v
     unfolding put_absent
     absent_full n full = rw (ne_eqb _ _ n, ne_eqb _ _ full)
 
     pub absent_room : (n : ℕ) (p q : List ℕ) → v ≢ 0 → get_or o.values 255 0 ≡ 0 → n ≡ end_of o i
         → p ≡ inserted_to n o.addresses i a → q ≡ inserted_to n o.values i v
-        → other_outcome Done (others p q) ≡ put_absent o i a v
+        → other_outcome DONE (others p q) ≡ put_absent o i a v
     unfolding put_absent
     absent_room n p q some free e f g = rw (ne_eqb _ _ some, eq-eqb _ _ free, f, g, e)

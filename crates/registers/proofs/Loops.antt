@@ -1,4 +1,4 @@
--- The loops that give a place back, and take one: from place to place.
+-- The places that a copy moves up or down, and the search for the last of them.
 use Prim.Native.Nat.{ℕ, zero, suc, ◌+◌, ◌-◌, ◌*◌, ◌<◌, ◌≤◌}
 use mathlib.Core.Path.{◌≡◌, refl, sym, ap, ◌∙◌}
 use mathlib.Core.List.{List, [], ◌∷◌, ◌++◌}
@@ -6,60 +6,53 @@ use mathlib.Core.Logic.{◌≢◌}
 use native.Mathlib.Numerals.{add-one}
 use native.Mathlib.Omega.{arith}
 use lib.ListN.{length, get_or, set, take, drop, take-append-drop}
-use lib.Seq.{length-take-le, set-append_left, take-set-lt, drop-set-lt, get_or-take}
+use lib.Seq.{length-take-le, paste}
 use borrow.Author.Tests.{eq-eqb, ne_eqb, lt-ltb, le-ltb}
 use Rattle.registers.specs.Words.{removed, inserted, removed_to, inserted_to, stride, strides, end_from}
 use Rattle.registers.proofs.Shifts.{removed_out, inserted_out}
 
--- ---- one turn
+-- ---- what a copy by one place leaves
 
--- what stands behind a place is copied to it, and the next place is given back in its stead
-removed_on : (l : List ℕ) (i : ℕ) → suc i < length l → removed (set l i (get_or l (suc i) 0)) (suc i) ≡ removed l i
+-- the n places behind one are copied to it and on, and a zero to the last of them
+copied_up : (x : ℕ) (l : List ℕ) (n : ℕ) → n ≤ length l
+    → set (take n l ++ drop n (x ∷ l)) n 0 ≡ take n l ++ (0 ∷ []) ++ drop n l
+copied_up x l zero upto = refl
+copied_up x [] (suc n) upto = absurd (omega arith)
+copied_up x (y ∷ ys) (suc n) upto = ap (λ (m : List ℕ). y ∷ m) (copied_up y ys n (omega arith))
+
+removed_copied : (l : List ℕ) (i n : ℕ) → i ≤ n → n < length l
+    → set (take i l ++ take (n - i) (drop (suc i) l) ++ drop n l) n 0 ≡ removed (take (suc n) l) i ++ drop (suc n) l
 unfolding removed
-removed_on [] i less = absurd (omega arith)
-removed_on (x ∷ []) i less = absurd (omega arith)
-removed_on (x ∷ y ∷ ys) zero less = refl
-removed_on (x ∷ y ∷ ys) (suc i) less = ap (λ (m : List ℕ). x ∷ m) (removed_on (y ∷ ys) i (omega arith))
+removed_copied [] i n upto less = absurd (omega arith)
+removed_copied (x ∷ xs) zero n upto less =
+    let e : n - 0 ≡ n = omega arith in
+    rw e (copied_up x xs n (omega arith))
+removed_copied (x ∷ xs) (suc i) zero upto less = absurd (omega arith)
+removed_copied (x ∷ xs) (suc i) (suc n) upto less =
+    let e : suc n - suc i ≡ n - i = omega arith in
+    rw e (ap (λ (m : List ℕ). x ∷ m) (removed_copied xs i n (omega arith) (omega arith)))
 
-removed_last : (l : List ℕ) (i : ℕ) → i + 1 ≡ length l → set l i 0 ≡ removed l i
-unfolding removed
-removed_last [] i last = absurd (omega arith)
-removed_last (x ∷ []) zero last = refl
-removed_last (x ∷ y ∷ ys) zero last = absurd (omega arith)
-removed_last (x ∷ xs) (suc i) last = ap (λ (m : List ℕ). x ∷ m) (removed_last xs i (omega arith))
-
--- the last place takes what stands before it, and a word comes in among the places before
-inserted_on : (l : List ℕ) (n i y : ℕ) → suc n < length l → i ≤ n
-    → let m = set l (suc n) (get_or l n 0) in
-    inserted (take (suc n) m) i y ++ drop (suc n) m ≡ inserted (take (suc (suc n)) l) i y ++ drop (suc (suc n)) l
+-- the n places from the first on are copied to the next and on
+copied_down : (x : ℕ) (l : List ℕ) (n : ℕ) → n ≤ length l → take n (x ∷ l) ≡ inserted (take n l) 0 x
 unfolding inserted
-inserted_on [] n i y less upto = absurd (omega arith)
-inserted_on (x ∷ []) n i y less upto = absurd (omega arith)
-inserted_on (x ∷ z ∷ zs) zero zero y less upto = refl
-inserted_on (x ∷ z ∷ zs) zero (suc i) y less upto = absurd (omega arith)
-inserted_on (x ∷ z ∷ zs) (suc n) zero y less upto =
-    ap (λ (m : List ℕ). y ∷ m) (inserted_on (z ∷ zs) n zero x (omega arith) (omega arith))
-inserted_on (x ∷ z ∷ zs) (suc n) (suc i) y less upto =
-    ap (λ (m : List ℕ). x ∷ m) (inserted_on (z ∷ zs) n i y (omega arith) (omega arith))
+copied_down x l zero upto = refl
+copied_down x [] (suc n) upto = absurd (omega arith)
+copied_down x (y ∷ ys) (suc n) upto = ap (λ (m : List ℕ). x ∷ m) (copied_down y ys n (omega arith))
 
-inserted_last : (l : List ℕ) (i y : ℕ) → i < length l → set l i y ≡ inserted (take (suc i) l) i y ++ drop (suc i) l
+inserted_copied : (l : List ℕ) (i n y : ℕ) → i ≤ n → n < length l
+    → set (take (suc i) l ++ take (n - i) (drop i l) ++ drop (suc n) l) i y
+    ≡ inserted (take (suc n) l) i y ++ drop (suc n) l
 unfolding inserted
-inserted_last [] i y less = absurd (omega arith)
-inserted_last (x ∷ xs) zero y less = refl
-inserted_last (x ∷ xs) (suc i) y less = ap (λ (m : List ℕ). x ∷ m) (inserted_last xs i y (omega arith))
+inserted_copied [] i n y upto less = absurd (omega arith)
+inserted_copied (x ∷ xs) zero n y upto less =
+    let e : n - 0 ≡ n = omega arith in
+    rw e (ap (λ (m : List ℕ). y ∷ (m ++ drop n xs)) (copied_down x xs n (omega arith)))
+inserted_copied (x ∷ xs) (suc i) zero y upto less = absurd (omega arith)
+inserted_copied (x ∷ xs) (suc i) (suc n) y upto less =
+    let e : suc n - suc i ≡ n - i = omega arith in
+    rw e (ap (λ (m : List ℕ). x ∷ m) (inserted_copied xs i n y (omega arith) (omega arith)))
 
 -- ---- among places 0 to n
-
-pub same_end : (l : List ℕ) (i y : ℕ) {m n : ℕ} → m ≡ n → inserted_to m l i y ≡ inserted_to n l i y
-same_end l i y e = rw e
-
-down_turn : (n : ℕ) (l : List ℕ) (i y : ℕ) → n < length l → i < n
-    → inserted_to (n - 1) (set l n (get_or l (n - 1) 0)) i y ≡ inserted_to n l i y
-unfolding inserted_to
-down_turn zero l i y long less = absurd (omega arith)
-down_turn (suc n) l i y long less =
-    let before : suc n - 1 ≡ n = omega arith in
-    rw (before, add-one n, add-one (suc n)) (inserted_on l n i y long (omega arith))
 
 module _ (n : ℕ) (l : List ℕ) (size : length l ≡ 256) (most : n ≤ 255) where
   pub front : length (take (n + 1) l) ≡ n + 1
@@ -74,41 +67,24 @@ module _ (n : ℕ) (l : List ℕ) (size : length l ≡ 256) (most : n ≤ 255) w
       sym joined
       ∙ ap (λ (m : List ℕ). m ++ drop (n + 1) l) (removed_out (take (n + 1) l) i (omega (arith, front)))
 
-  pub up_on : (i : ℕ) → i < n → removed_to n (set l i (get_or l (i + 1) 0)) (i + 1) ≡ removed_to n l i
-  unfolding removed_to
-  up_on i less =
-      let x = get_or l (i + 1) 0 in
-      let within : i < n + 1 = omega arith in
-      let next : i + 1 < n + 1 = omega arith in
-      let short : suc i < length (take (n + 1) l) = omega (arith, front) in
-      rw (take-set-lt (n + 1) l i x within, drop-set-lt (n + 1) l i x within, ← get_or-take (n + 1) l (i + 1) 0 next)
-      (rw (add-one i)
-      (ap (λ (m : List ℕ). m ++ drop (n + 1) l) (removed_on (take (n + 1) l) i short)))
-
-  -- what is stored among the first places
-  set_front : (m : List ℕ) (i v : ℕ) → length m ≡ n + 1 → i ≤ n
-      → set (m ++ drop (n + 1) l) i v ≡ set m i v ++ drop (n + 1) l
-  set_front m i v long upto = set-append_left m (drop (n + 1) l) i v (omega arith)
-
-  pub up_end : set l n 0 ≡ removed_to n l n
-  unfolding removed_to
-  up_end =
-      ap (λ (m : List ℕ). set m n 0) (sym joined)
-      ∙ set_front (take (n + 1) l) n 0 front (omega arith)
-      ∙ ap (λ (m : List ℕ). m ++ drop (n + 1) l) (removed_last (take (n + 1) l) n (sym front))
-
   pub down_past : (i y : ℕ) → n < i → l ≡ inserted_to n l i y
   unfolding inserted_to
   down_past i y past =
       sym joined
       ∙ ap (λ (m : List ℕ). m ++ drop (n + 1) l) (inserted_out (take (n + 1) l) i y (omega (arith, front)))
 
-  pub down_on : (i y : ℕ) → i < n → inserted_to (n - 1) (set l n (get_or l (n - 1) 0)) i y ≡ inserted_to n l i y
-  down_on i y less = down_turn n l i y (omega arith) less
+  pub up_copied : (i : ℕ) → i ≤ n → set (paste l i (drop (i + 1) l) (n + 1 - (i + 1))) n 0 ≡ removed_to n l i
+  unfolding removed_to
+  up_copied i upto =
+      let many : n + 1 - (i + 1) ≡ n - i = omega arith in
+      let last : i + (n - i) ≡ n = omega arith in
+      rw (many, last, add-one i, add-one n) (removed_copied l i n upto (omega arith))
 
-  pub down_end : (y : ℕ) → set l n y ≡ inserted_to n l n y
+  pub down_copied : (i y : ℕ) → i ≤ n → set (paste l (i + 1) (drop i l) (n - i)) i y ≡ inserted_to n l i y
   unfolding inserted_to
-  down_end y = rw (add-one n) (inserted_last l n y (omega arith))
+  down_copied i y upto =
+      let last : i + 1 + (n - i) ≡ n + 1 = omega arith in
+      rw (last, add-one i, add-one n) (inserted_copied l i n y upto (omega arith))
 
 -- ---- places a stride apart
 

@@ -6,8 +6,8 @@ use native.Mathlib.Omega.{arith}
 use lib.ListN.{length, get_or, take, drop, get_or-eq_default}
 use lib.Seq.{get_or-take, get_or-drop}
 use borrow.Author.Tests.{eq-eqb, ne_eqb, lt-ltb, le-ltb}
+use Rattle.map.specs.Numbers.{DONE}
 use Rattle.registers.specs.declared.Registers.{Registers}
-use Rattle.registers.specs.declared.Refusal.TheVariants.{Done}
 use Rattle.registers.specs.Words.{removed, inserted, removed_to, inserted_to, Others, stride, strides, end_from}
 use Rattle.registers.specs.Words.{end_of}
 use Rattle.registers.specs.Words.{registers_of, others_of, Outcome, outcome}
@@ -170,8 +170,8 @@ module _ (r : Registers) (a v : ℕ) (tidy : TidyOthers (others_of r)) where
       → PutCases r a v (given_back r (place_in r a)) (taken_by r (place_in r a) a v) P
   tidy_cases P own never back set none taken full =
       put_cases r a v P own never
-      (λ other here z. subst (λ (x : Registers). P (outcome Done x)) back_all (back other here z))
+      (λ other here z. subst (λ (x : Registers). P (outcome DONE x)) back_all (back other here z))
       set none
       (λ other gone some free.
-      subst (λ (x : Registers). P (outcome Done x)) (taken_all free) (taken other gone some free))
+      subst (λ (x : Registers). P (outcome DONE x)) (taken_all free) (taken other gone some free))
       full

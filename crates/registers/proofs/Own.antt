@@ -6,10 +6,10 @@ use mathlib.Core.Logic.{◌≢◌}
 use native.Mathlib.Omega.{arith}
 use lib.ListN.{length, get_or, length-set}
 use lib.Seq.{get_or-set_same, get_or-set_other}
+use Rattle.map.specs.Numbers.{DONE}
 use Rattle.registers.specs.declared.Registers.{Registers}
-use Rattle.registers.specs.declared.Refusal.TheVariants.{Done}
 use Rattle.registers.specs.Words.{own_at, own_with}
-use Rattle.registers.specs.Ports.{words_from, named_words, named_rows, own_words, slot_of}
+use Rattle.registers.specs.Ports.{words_from, named_rows, own_words, slot_of}
 use Rattle.registers.specs.Words.{registers_of, word_at, outcome, put_word}
 use Rattle.registers.proofs.Cases.{spot_own}
 use Rattle.whole.proofs.Choice.{by_less}
@@ -18,7 +18,7 @@ use Rattle.registers.proofs.Search.{index_most, index_hit}
 -- ---- slots
 
 own_count : length own_words ≡ 76
-unfolding own_words words_from named_words named_rows
+unfolding own_words words_from named_rows
 own_count = refl
 
 pub slot_most : (a : ℕ) → slot_of a ≤ 76
@@ -61,6 +61,6 @@ module _ (r : Registers) (a : ℕ) where
   own_word less = rw (← spot_own r.addresses a (slot_of a) refl less)
 
   pub own_put : (v : ℕ) → slot_of a < 76
-      → put_word r a v ≡ outcome Done (registers_of (own_with r.slots a v) r.addresses r.values)
+      → put_word r a v ≡ outcome DONE (registers_of (own_with r.slots a v) r.addresses r.values)
   unfolding put_word own_with
   own_put v less = rw (← spot_own r.addresses a (slot_of a) refl less)

@@ -3,7 +3,7 @@ use Prim.Native.Nat.{ℕ, zero, suc, ◌<◌, ◌≤◌}
 use mathlib.Core.Path.{◌≡◌, refl, sym, ap, ◌∙◌}
 use mathlib.Core.List.{List, [], ◌∷◌, ◌++◌}
 use native.Mathlib.Omega.{arith}
-use lib.ListN.{length, get_or, set, length-append, get_or-eq_default}
+use lib.ListN.{length, get_or, set, length-append}
 use lib.Seq.{set_out}
 use Rattle.registers.specs.Words.{removed, inserted}
 
@@ -33,13 +33,10 @@ inserted_out [] i y out = refl
 inserted_out (x ∷ xs) zero y out = absurd (omega arith)
 inserted_out (x ∷ xs) (suc i) y out = ap (λ (m : List ℕ). x ∷ m) (inserted_out xs i y (omega arith))
 
--- nothing stands past the n words of a list, and nothing is stored there
+-- nothing is stored past the n words of a list
 module _ (l : List ℕ) (n i : ℕ) (size : length l ≡ n) (past : n ≤ i) where
   out : length l ≤ i
   out = omega arith
-
-  pub none_past : 0 ≡ get_or l i 0
-  none_past = sym (get_or-eq_default l 0 out)
 
   pub set_past : (v : ℕ) → l ≡ set l i v
   set_past v = sym (set_out l i v out)

@@ -16,7 +16,7 @@ use Rattle.registers.specs.declared.View.TheVariants.{FlashAnswer, ClockStatus, 
 use Rattle.registers.specs.declared.Port.{Port}
 use Rattle.registers.specs.declared.Port.TheVariants.{Select, Send, LcdControl, RtcCommand, Acts, Shows, Holds}
 use Rattle.registers.specs.declared.Port.TheVariants.{Other}
-use Rattle.registers.specs.Ports.{ports_in, port_at, day_word, port_of, timer_of, words_from, named_words}
+use Rattle.registers.specs.Ports.{ports_in, port_at, day_word, port_of, timer_of, words_from}
 use Rattle.registers.specs.Ports.{named_rows, own_words, index, slot_of, slot_word}
 use Rattle.whole.proofs.Choice.{by_same, both, of_not}
 use Rattle.registers.proofs.Own.{slot_hit, by_slot}
@@ -43,7 +43,7 @@ port_past s h =
 
 -- a slot's word has that slot
 back : every (λ s. eqb (slot_of (slot_word s)) s) 76 ≡ true
-unfolding slot_of index own_words words_from named_words named_rows
+unfolding slot_of index own_words words_from named_rows
 back = refl
 
 pub slot_back : (s : ℕ) → s < 76 → slot_of (slot_word s) ≡ s
@@ -53,7 +53,7 @@ slot_back s h = eqb-true _ _ (at_each (λ t. eqb (slot_of (slot_word t)) t) 76 b
 
 -- a word of the time of day has no slot
 no_day : every (λ s. not (day_word (slot_word s))) 76 ≡ true
-unfolding day_word own_words words_from named_words named_rows
+unfolding day_word own_words words_from named_rows
 no_day = refl
 
 pub port_slot : (s : ℕ) → s < 76 → port_of (slot_word s) ≡ port_at s
@@ -148,7 +148,7 @@ first false true h e = h
 first false false h e = e
 
 all_timers : every (λ s. eqb (timer_of (slot_word s)) (s / 8)) 48 ≡ true
-unfolding own_words words_from named_words named_rows
+unfolding own_words words_from named_rows
 all_timers = refl
 
 pub slot_timers : (s : ℕ) → s < 76 → timers (port_at s) ≡ true → s < 48
@@ -177,9 +177,9 @@ port_timer a e =
 -- ---- ports that are used by name
 
 pub select_port : port_of SPIFC_SELECT ≡ Select
-unfolding port_of day_word port_at slot_of index own_words words_from named_words named_rows
+unfolding port_of day_word port_at slot_of index own_words words_from named_rows
 select_port = refl
 
 pub send_port : port_of SPIFC_SEND ≡ Send
-unfolding port_of day_word port_at slot_of index own_words words_from named_words named_rows
+unfolding port_of day_word port_at slot_of index own_words words_from named_rows
 send_port = refl

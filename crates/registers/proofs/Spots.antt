@@ -6,8 +6,8 @@ use mathlib.Core.List.{List}
 use mathlib.Core.Logic.{◌≢◌}
 use native.Mathlib.Omega.{arith}
 use lib.ListN.{get_or, set}
+use Rattle.map.specs.Numbers.{DONE, REGISTERS_FULL}
 use Rattle.registers.specs.declared.Registers.{Registers}
-use Rattle.registers.specs.declared.Refusal.TheVariants.{Done, RegistersFull}
 use Rattle.registers.specs.declared.Spot.{Spot}
 use Rattle.registers.specs.declared.Spot.TheVariants.{Own, Never, Present, Absent}
 use Rattle.registers.specs.Words.{own_with, unstored, place, spot_of, removed_to, inserted_to, end_of}
@@ -98,20 +98,20 @@ moved_down r i a v =
     (inserted_to (end_of (others_of r) i) r.addresses i a)
     (inserted_to (end_of (others_of r) i) r.values i v)
 
-pub put_never : (r : Registers) (a v : ℕ) → slot_of a ≡ 76 → unstored a ≡ true → put_word r a v ≡ outcome Done r
+pub put_never : (r : Registers) (a v : ℕ) → slot_of a ≡ 76 → unstored a ≡ true → put_word r a v ≡ outcome DONE r
 unfolding put_word
 put_never r a v none u = rw (← never_spot r.addresses a none u)
 
 -- an own word is stored, nothing is, a place is given back, set, not needed or taken, or there is no room
 abbrev pub PutCases : Registers → ℕ → ℕ → Registers → Registers → (Outcome → Type 0) → Type 0
 PutCases r a v back taken P =
-    (slot_of a < 76 → P (outcome Done (registers_of (own_with r.slots a v) r.addresses r.values)))
-    → (slot_of a ≡ 76 → unstored a ≡ true → P (outcome Done r))
-    → (Other a → Here r.addresses a → v ≡ 0 → P (outcome Done back))
-    → (Other a → Here r.addresses a → v ≢ 0 → P (outcome Done (set_in r (place_in r a) v)))
-    → (Other a → Gone r.addresses a → v ≡ 0 → P (outcome Done r))
-    → (Other a → Gone r.addresses a → v ≢ 0 → get_or r.values 255 0 ≡ 0 → P (outcome Done taken))
-    → (Other a → Gone r.addresses a → v ≢ 0 → get_or r.values 255 0 ≢ 0 → P (outcome RegistersFull r))
+    (slot_of a < 76 → P (outcome DONE (registers_of (own_with r.slots a v) r.addresses r.values)))
+    → (slot_of a ≡ 76 → unstored a ≡ true → P (outcome DONE r))
+    → (Other a → Here r.addresses a → v ≡ 0 → P (outcome DONE back))
+    → (Other a → Here r.addresses a → v ≢ 0 → P (outcome DONE (set_in r (place_in r a) v)))
+    → (Other a → Gone r.addresses a → v ≡ 0 → P (outcome DONE r))
+    → (Other a → Gone r.addresses a → v ≢ 0 → get_or r.values 255 0 ≡ 0 → P (outcome DONE taken))
+    → (Other a → Gone r.addresses a → v ≢ 0 → get_or r.values 255 0 ≢ 0 → P (outcome REGISTERS_FULL r))
     → P (put_word r a v)
 
 module _ (r : Registers) (a v : ℕ) (P : Outcome → Type 0) where
@@ -133,7 +133,7 @@ module _ (r : Registers) (a v : ℕ) (P : Outcome → Type 0) where
       (λ last. subst InAbsent (absent_full (others_of r) (place_in r a) v a n last) (full other gone n last))))
     where
       InPresent : Others → Type 0
-      InPresent x = P (beside r.slots (other_outcome Done x))
+      InPresent x = P (beside r.slots (other_outcome DONE x))
 
       InAbsent : OtherOutcome → Type 0
       InAbsent x = P (beside r.slots x)

@@ -4,11 +4,10 @@ use mathlib.Core.Path.{◌≡◌, refl, sym, ap, ◌∙◌}
 use mathlib.Core.Bool.{true, true≢false}
 use native.Mathlib.Omega.{arith}
 use borrow.Author.Tests.{ne_eqb}
-use Rattle.map.specs.Numbers.{REGISTERS_FULL, RTC_SECONDS, RTC_MINUTES, RTC_HOURS}
+use Rattle.map.specs.Numbers.{REGISTERS_FULL, RTC_SECONDS, RTC_MINUTES, RTC_HOURS, DONE}
 use Rattle.registers.specs.declared.Registers.{Registers}
-use Rattle.registers.specs.declared.Refusal.TheVariants.{Done}
 use Rattle.registers.specs.Words.{unstored}
-use Rattle.registers.specs.Ports.{day_word, words_from, named_words, named_rows, own_words, index, slot_of}
+use Rattle.registers.specs.Ports.{day_word, words_from, named_rows, own_words, index, slot_of}
 use Rattle.registers.specs.Words.{word_at, Outcome, outcome, put_word}
 use Rattle.whole.proofs.Choice.{by_same}
 use Rattle.registers.proofs.Spots.{read_never, put_never, put_cases}
@@ -30,7 +29,7 @@ refused_stays r a v =
 -- ---- never stored
 
 unstored_slot : (a : ℕ) → unstored a ≡ true → slot_of a ≡ 76
-unfolding slot_of own_words words_from named_words named_rows index unstored day_word
+unfolding slot_of own_words words_from named_rows index unstored day_word
 unstored_slot a u =
     by_same a 0 (λ e. ap slot_of e)
     (λ n0. by_same a RTC_SECONDS (λ e. ap slot_of e)
@@ -42,5 +41,5 @@ module _ (r : Registers) (a : ℕ) (never : unstored a ≡ true) where
   pub unstored_word : word_at r a ≡ 0
   unstored_word = read_never r a (unstored_slot a never) never
 
-  pub unstored_put : (v : ℕ) → put_word r a v ≡ outcome Done r
+  pub unstored_put : (v : ℕ) → put_word r a v ≡ outcome DONE r
   unstored_put v = put_never r a v (unstored_slot a never) never

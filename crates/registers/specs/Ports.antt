@@ -112,7 +112,7 @@ unfoldable pub words_from : ℕ → ℕ → List ℕ
 words_from zero a = []
 words_from (suc n) a = a ∷ words_from n (a + 4)
 
-unfoldable pub named_words : List ℕ
+abbrev pub named_words : List ℕ
 named_words = words_in named_rows
 
 -- the 48 timer words from TIMER-BASE, eight to a timer, then the 28 named ones

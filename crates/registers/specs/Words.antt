@@ -3,16 +3,9 @@ use Rattle.std.specs.Prelude.{ℕ, zero, suc, ◌+◌, ◌-◌, ◌/◌, ◌^◌
 use Rattle.std.specs.Prelude.{take, drop, replicate, eqb, ltb}
 use Rattle.map.specs.Numbers.{DONE, REGISTERS_FULL}
 use Rattle.registers.specs.declared.Registers.{Registers}
-use Rattle.registers.specs.declared.Refusal.{Refusal}
-use Rattle.registers.specs.declared.Refusal.TheVariants.{Done, RegistersFull}
 use Rattle.registers.specs.declared.Spot.{Spot}
 use Rattle.registers.specs.declared.Spot.TheVariants.{Own, Never, Present, Absent}
 use Rattle.registers.specs.Ports.{slot_of, day_word}
-
--- Refusal numbers: 0 done, 4 RegistersFull
-abbrev pub number_of : Refusal → ℕ
-number_of Done = DONE
-number_of RegistersFull = REGISTERS_FULL
 
 -- ---- words with storage of their own
 
@@ -69,7 +62,7 @@ removed_to n l i = removed (take (n + 1) l) i ++ drop (n + 1) l
 unfoldable pub inserted_to : ℕ → List ℕ → ℕ → ℕ → List ℕ
 inserted_to n l i y = inserted (take (n + 1) l) i y ++ drop (n + 1) l
 
--- how many places are moved at a time, and how often that is in the table
+-- how far apart the places are that are asked for the end of what is moved, and how often that is in the table
 abbrev pub stride : ℕ
 stride = 16
 
@@ -96,16 +89,16 @@ pub record OtherOutcome : Type 0 where
   pub refusal : ℕ
   pub others : Others
 
-abbrev pub other_outcome : Refusal → Others → OtherOutcome
-other_outcome r o = record { refusal = number_of r; others = o }
+abbrev pub other_outcome : ℕ → Others → OtherOutcome
+other_outcome n o = record { refusal = n; others = o }
 
 -- a word that stands nowhere becomes v, and takes place i; while the last place is not free there is no room
 unfoldable pub put_absent : Others → ℕ → ℕ → ℕ → OtherOutcome
 put_absent o i a v =
-    cond (eqb v 0) (other_outcome Done o)
+    cond (eqb v 0) (other_outcome DONE o)
     (cond (eqb (get_or o.values 255 0) 0)
-    (other_outcome Done (others (inserted_to (end_of o i) o.addresses i a) (inserted_to (end_of o i) o.values i v)))
-    (other_outcome RegistersFull o))
+    (other_outcome DONE (others (inserted_to (end_of o i) o.addresses i a) (inserted_to (end_of o i) o.values i v)))
+    (other_outcome REGISTERS_FULL o))
 
 -- ---- all words
 
@@ -141,8 +134,8 @@ pub record Outcome : Type 0 where
   pub refusal : ℕ
   pub registers : Registers
 
-abbrev pub outcome : Refusal → Registers → Outcome
-outcome r s = record { refusal = number_of r; registers = s }
+abbrev pub outcome : ℕ → Registers → Outcome
+outcome n s = record { refusal = n; registers = s }
 
 -- what a put of another word leaves, beside the own words
 abbrev pub beside : List ℕ → OtherOutcome → Outcome
@@ -152,9 +145,9 @@ beside slots o = record {
 }
 
 abbrev pub put_in : Registers → Spot → ℕ → ℕ → Outcome
-put_in r (Own s) a v = outcome Done (registers_of (set r.slots s v) r.addresses r.values)
-put_in r Never a v = outcome Done r
-put_in r (Present i) a v = beside r.slots (other_outcome Done (put_present (others_of r) i v))
+put_in r (Own s) a v = outcome DONE (registers_of (set r.slots s v) r.addresses r.values)
+put_in r Never a v = outcome DONE r
+put_in r (Present i) a v = beside r.slots (other_outcome DONE (put_present (others_of r) i v))
 put_in r (Absent i) a v = beside r.slots (put_absent (others_of r) i a v)
 
 unfoldable pub put_word : Registers → ℕ → ℕ → Outcome

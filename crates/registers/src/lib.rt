@@ -6,23 +6,20 @@
 #![tactic(auto)]
 
 ghost use Rattle.std.specs.Prelude.{◌≡◌, ℕ, ◌+◌, ◌-◌, ◌≤◌, length, get_or, set};
+ghost use Rattle.map.specs.Refusals.{number_of};
 ghost use Rattle.registers.specs.Words.{own_at, own_with, unstored, halved, place};
 ghost use Rattle.registers.specs.Ports.{slot_of, index, named_words, timer_port, port_at, day_word};
 ghost use Rattle.registers.specs.Words.{removed_to, inserted_to, strides, end_from, others, put_present};
 ghost use Rattle.registers.specs.Words.{other_outcome, put_absent, other_spot, spot_of, word_in};
 ghost use Rattle.registers.specs.Words.{registers_of, fresh_registers, word_at};
 
+use map::Refusal;
+
 #[derive(Clone, Copy)]
 pub struct Registers {
     pub slots: [u32; 76],
     pub addresses: [u32; 256],
     pub values: [u32; 256],
-}
-
-#[derive(Drop)]
-pub enum Refusal {
-    Done,
-    RegistersFull,
 }
 
 // What a write to a word does beside storing it, or instead.
@@ -81,6 +78,7 @@ pub enum Spot {
 
 // The slot of a word that is no timer's, or 76. A pattern takes no constant, so the addresses of `map` are spelled here
 // once more; of what ships nothing else spells them.
+#[tactic(auto, unfolding(crate::specs::Ports::index, crate::specs::Ports::named_rows))]
 fn named(addr: u32) -> usize
     ensures { result ≡ 48 + index named_words addr }
 {
@@ -158,6 +156,7 @@ fn timer_port(s: usize) -> Port
 }
 
 // The port of a slot. A slot is a number for the sake of its place; here it becomes what it means, and nowhere else.
+#[tactic(auto, unfolding(crate::specs::Ports::port_at, crate::specs::Ports::named_rows))]
 pub fn port_at(s: usize) -> Port
     ensures { result ≡ port_at s }
 {
@@ -204,20 +203,11 @@ pub fn day_word(addr: u32) -> bool
     (addr == map::RTC_SECONDS) | (addr == map::RTC_MINUTES) | (addr == map::RTC_HOURS)
 }
 
-// An array is as long as its type says: a proof is told so of one by value, and not of one that is lent. A call is
-// compiled to nothing.
-fn own_sized(slots: [u32; 76])
-    ensures { length slots ≡ 76 }
-{}
-
-pub fn slot_get(slots: &[u32; 76], s: usize) -> u32
-    ensures { result ≡ get_or slots.now s 0 }
+// The word at a place, 0 past the last.
+pub fn get(words: &[u32], at: usize) -> u32
+    ensures { result ≡ get_or words.now at 0 }
 {
-    if s < 76 {
-        return slots[s];
-    }
-    own_sized(*slots);
-    0
+    words.get(at).copied().unwrap_or(0)
 }
 
 pub fn slot_set(slots: &mut [u32; 76], s: usize, value: u32)
@@ -225,16 +215,14 @@ pub fn slot_set(slots: &mut [u32; 76], s: usize, value: u32)
 {
     if s < 76 {
         slots[s] = value;
-        return;
     }
-    own_sized(*slots);
 }
 
 // 0 where the word has no storage of its own.
 pub fn own_reg(slots: &[u32; 76], addr: u32) -> u32
     ensures { result ≡ own_at slots.now addr }
 {
-    slot_get(slots, slot(addr))
+    get(slots, slot(addr))
 }
 
 // Nothing where the word has no storage of its own.
@@ -266,7 +254,8 @@ fn halved(words: &[u32; 256], key: u32, i: usize, half: usize) -> usize
 }
 
 // How many places hold more than the key, where they are in falling order; 255 where all of them do. No loop, so that
-// no step is counted or tested.
+// no step is counted or tested; and no partition_point, which promises nothing of words in another order, of which
+// `place` speaks too.
 fn place(words: &[u32; 256], key: u32) -> usize
     ensures value { result ≡ place words.now key }
     ensures upper_bound { result ≤ 255 }
@@ -281,58 +270,21 @@ fn place(words: &[u32; 256], key: u32) -> usize
     halved(words, key, g, 1)
 }
 
-// As `own_sized`.
-fn sized(words: [u32; 256])
-    ensures { length words ≡ 256 }
-{}
-
-// How many places are moved at a time.
+// How far apart the places are that are asked for the end of what is moved.
 const STRIDE: usize = 16;
 
 // The last place that need be moved with one: of those a stride apart from it on the first that is free, as all behind
-// that are; near the end of the table the last. So whole strides are moved, but for what is left over there.
+// that are; near the end of the table the last.
 fn end_from(addresses: &[u32; 256], at: usize) -> usize
     ensures value { result ≡ end_from strides addresses.now at }
     ensures upper_bound { result ≤ 255 }
 {
-    let mut end = at;
-    while end < 256 - STRIDE {
+    for end in (at..256 - STRIDE).step_by(STRIDE) {
         if addresses[end] == 0 {
             return end;
         }
-        end += STRIDE;
     }
     255
-}
-
-// From place `at` on n places take each what stands behind it: then place `at + n` is left to be given back.
-fn copy_up(words: &mut [u32; 256], at: usize, n: usize)
-    requires { at + n ≤ 255 }
-    ensures words_len { length words.new ≡ 256 }
-    ensures by_index { (end : ℕ) → at + n ≤ end → end ≤ 255
-        → removed_to end words.new (at + n) ≡ removed_to end words.old at }
-{
-    sized(*words);
-    let mut k: usize = 0;
-    while k < n {
-        words[at + k] = words[at + k + 1];
-        k += 1;
-    }
-}
-
-// From place `end` down n places take each what stands before it: then a word is left to come in among those before.
-fn copy_down(words: &mut [u32; 256], end: usize, n: usize)
-    requires { (n ≤ end) × (end ≤ 255) }
-    ensures words_len { length words.new ≡ 256 }
-    ensures by_index { (at word : ℕ) → at + n ≤ end
-        → inserted_to (end - n) words.new at word ≡ inserted_to end words.old at word }
-{
-    sized(*words);
-    let mut k: usize = 0;
-    while k < n {
-        words[end - k] = words[end - k - 1];
-        k += 1;
-    }
 }
 
 // Up to place `end` the places behind one move up, and zeros come last.
@@ -341,19 +293,11 @@ fn shift_up(addresses: &mut [u32; 256], values: &mut [u32; 256], at: usize, end:
     ensures addresses_after { addresses.new ≡ removed_to end addresses.old at }
     ensures values_after { values.new ≡ removed_to end values.old at }
 {
-    sized(*addresses);
-    sized(*values);
     if at > end {
         return;
     }
-    let mut i = at;
-    while end - i >= STRIDE {
-        copy_up(addresses, i, STRIDE);
-        copy_up(values, i, STRIDE);
-        i += STRIDE;
-    }
-    copy_up(addresses, i, end - i);
-    copy_up(values, i, end - i);
+    addresses.copy_within(at + 1..end + 1, at);
+    values.copy_within(at + 1..end + 1, at);
     addresses[end] = 0;
     values[end] = 0;
 }
@@ -371,31 +315,13 @@ fn shift_down(
     ensures addresses_after { addresses.new ≡ inserted_to end addresses.old at addr }
     ensures values_after { values.new ≡ inserted_to end values.old at value }
 {
-    sized(*addresses);
-    sized(*values);
     if at > end {
         return;
     }
-    let mut i = end;
-    while i - at >= STRIDE {
-        copy_down(addresses, i, STRIDE);
-        copy_down(values, i, STRIDE);
-        i -= STRIDE;
-    }
-    copy_down(addresses, i, i - at);
-    copy_down(values, i, i - at);
+    addresses.copy_within(at..end, at + 1);
+    values.copy_within(at..end, at + 1);
     addresses[at] = addr;
     values[at] = value;
-}
-
-pub fn place_get(values: &[u32; 256], i: usize) -> u32
-    ensures { result ≡ get_or values.now i 0 }
-{
-    if i < 256 {
-        return values[i];
-    }
-    sized(*values);
-    0
 }
 
 // A word that becomes zero gives its place back.
@@ -410,9 +336,7 @@ pub fn put_present(addresses: &mut [u32; 256], values: &mut [u32; 256], i: usize
     }
     if i < 256 {
         values[i] = value;
-        return;
     }
-    sized(*values);
 }
 
 // A word that was zero takes a place, where the last is free.
@@ -422,19 +346,19 @@ pub fn put_absent(
     i: usize,
     addr: u32,
     value: u32,
-) -> Refusal
-    ensures { other_outcome result (others addresses.new values.new)
+) -> Result<(), Refusal>
+    ensures { other_outcome (number_of result) (others addresses.new values.new)
         ≡ put_absent (others addresses.old values.old) i addr value }
 {
     if value == 0 {
-        return Refusal::Done;
+        return Ok(());
     }
     if values[255] != 0 {
-        return Refusal::RegistersFull;
+        return Err(Refusal::RegistersFull);
     }
     let end = end_from(addresses, i);
     shift_down(addresses, values, i, end, addr, value);
-    Refusal::Done
+    Ok(())
 }
 
 // ---- one look-up, and what is read there
@@ -467,9 +391,9 @@ pub fn word_in(slots: &[u32; 76], values: &[u32; 256], spot: Spot) -> u32
     ensures { result ≡ word_in slots.now values.now spot }
 {
     match spot {
-        Spot::Own(s) => slot_get(slots, s),
+        Spot::Own(s) => get(slots, s),
         Spot::Never => 0,
-        Spot::Present(i) => place_get(values, i),
+        Spot::Present(i) => get(values, i),
         Spot::Absent(_) => 0,
     }
 }

@@ -1,85 +1,61 @@
-// Calls that change the state. Times and turbos come as bits, which are checked before they become floats.
-use crate::answers::{Stepped, changed, step_answer, word_answer};
-use lines::{Answer, refused};
-use system::{System, buttons, moment};
-use whole::Checked;
+// Calls that change the state. Times and turbos come as bits.
+use crate::desk::Desk;
+use crate::memories;
+use lines::{Answer, answered, refused};
+use system::{access, buttons, moment};
 use whole::forms::bits_of;
+use whole::limits::Bits;
 
-pub(crate) fn read(
-    s: System,
-    ram: &[u8; 65536],
-    sram: &[u8; 65536],
-    gpio: &[u8; 4096],
-    addr: u32,
-    size: u32,
-) -> Stepped {
-    let got = system::access::read(s, ram, sram, gpio, addr, size);
-    step_answer(got.system, word_answer(got.refusal, got.value as u64))
-}
-
-pub(crate) fn write(
-    s: System,
-    ram: &mut [u8; 65536],
-    sram: &mut [u8; 65536],
-    gpio: &mut [u8; 4096],
-    fb: &mut [u8; 32768],
-    addr: u32,
-    size: u32,
-    value: u32,
-) -> Stepped {
-    changed(system::access::write(s, ram, sram, gpio, fb, addr, size, value))
-}
-
-pub(crate) fn advance(s: System, sram: &[u8; 65536], gpio: &mut [u8; 4096], bits: u64) -> Stepped {
-    let to = whole::limits::time_of(bits);
-    match to {
-        Checked::Good(x) => changed(moment::advance(s, sram, gpio, x)),
-        Checked::Bad => step_answer(s, refused(map::BAD_TIME)),
+impl Desk {
+    pub(crate) fn read(&mut self, addr: u32, size: u32) -> Answer {
+        let m = &self.memories;
+        match access::read(self.system, &m.ram, &m.sram, &m.gpio, addr, size) {
+            Ok((word, later)) => {
+                self.system = later;
+                answered(u64::from(word), 0, 0)
+            }
+            Err(refusal) => refused(u8::from(refusal)),
+        }
     }
-}
 
-pub(crate) fn turbo(s: System, bits: u64) -> Stepped {
-    let to = whole::limits::turbo_of(bits);
-    match to {
-        Checked::Good(x) => changed(moment::set_turbo(s, x)),
-        Checked::Bad => step_answer(s, refused(map::BAD_TURBO)),
+    pub(crate) fn write(&mut self, addr: u32, size: u32, value: u32) -> Answer {
+        let later = memories::write(&mut self.memories, self.system, addr, size, value);
+        self.changed(later)
     }
-}
 
-// What a bad time beside this key is refused with: a bad key comes first.
-fn bad_time(key: u32) -> Answer {
-    if key > 2 {
-        refused(map::BAD_KEY)
-    } else {
-        refused(map::BAD_TIME)
+    pub(crate) fn advance(&mut self, bits: u64) -> Answer {
+        let later = memories::advance(&mut self.memories, self.system, Bits(bits));
+        self.changed(later)
     }
-}
 
-pub(crate) fn hold(s: System, key: u32, bits: u64) -> Stepped {
-    let until = whole::limits::time_of(bits);
-    match until {
-        Checked::Good(x) => changed(buttons::hold_until(s, key, x)),
-        Checked::Bad => step_answer(s, bad_time(key)),
+    pub(crate) fn turbo(&mut self, bits: u64) -> Answer {
+        self.changed(moment::set_turbo(self.system, Bits(bits)))
     }
-}
 
-pub(crate) fn press(s: System, key: u32, bits: u64) -> Stepped {
-    let at = whole::limits::time_of(bits);
-    match at {
-        Checked::Good(x) => changed(buttons::press(s, key, x)),
-        Checked::Bad => step_answer(s, bad_time(key)),
+    pub(crate) fn hold(&mut self, key: u32, bits: u64) -> Answer {
+        self.changed(buttons::hold_until(self.system, key, Bits(bits)))
     }
-}
 
-// Where no event waits, its three numbers are zeros.
-pub(crate) fn take(s: System) -> Stepped {
-    let taken = moment::take_event(s);
-    let event = taken.event;
-    let answer = Answer {
-        refusal: taken.refusal,
-        a: bits_of(event.time),
-        b: bits_of(event.frequency),
-        c: bits_of(event.duty),
-    };
-    step_answer(taken.system, answer)
+    pub(crate) fn press(&mut self, key: u32, bits: u64) -> Answer {
+        self.changed(buttons::press(self.system, key, Bits(bits)))
+    }
+
+    pub(crate) fn take(&mut self) -> Answer {
+        match moment::take_event(self.system) {
+            Ok((event, later)) => {
+                self.system = later;
+                answered(
+                    bits_of(event.time),
+                    bits_of(event.frequency),
+                    bits_of(event.duty),
+                )
+            }
+            Err(refusal) => refused(u8::from(refusal)),
+        }
+    }
+
+    pub(crate) fn wipe(&mut self) -> Answer {
+        self.system = memories::wipe(&mut self.memories);
+        answered(0, 0, 0)
+    }
 }

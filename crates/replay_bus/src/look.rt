@@ -1,86 +1,63 @@
-// Looks that change nothing, and bytes laid into plain memory.
-use crate::answers::word_answer;
-use lines::{Answer, answered, digest, lent};
-use system::System;
-use whole::forms::{bits_of, flag};
+// Looks that change nothing.
+use crate::desk::Desk;
+use lines::{Answer, answered, digest, lent, refused};
+use system::{buttons, look, moment};
+use whole::forms::bits_of;
 
-pub(crate) fn next_event(s: System, sram: &[u8; 65536]) -> Answer {
-    let next = system::moment::next_event(s, sram);
-    word_answer(next.refusal, bits_of(next.time))
-}
+impl Desk {
+    pub(crate) fn next_event(&self) -> Answer {
+        match moment::next_event(self.system, &self.memories.sram) {
+            Ok(time) => answered(bits_of(time), 0, 0),
+            Err(refusal) => refused(u8::from(refusal)),
+        }
+    }
 
-pub(crate) fn counters(s: System) -> Answer {
-    let seen = system::look::counters(s);
-    answered(seen.frames, seen.writes, flag(seen.off))
-}
+    pub(crate) fn pending_irq(&self) -> Answer {
+        answered(u64::from(moment::pending_irq(self.system)), 0, 0)
+    }
 
-pub(crate) fn colours(fb: &[u8; 32768], at: u32) -> Answer {
-    let c = panel::colour::at(fb, at);
-    answered(c.r as u64 * 65536 + c.g as u64 * 256 + c.b as u64, 0, 0)
-}
+    pub(crate) fn irq_wanted(&self) -> Answer {
+        answered(u64::from(moment::irq_wanted(self.system)), 0, 0)
+    }
 
-// Key A in the lowest bit.
-pub(crate) fn keys_held_answer(s: System) -> Answer {
-    let down = system::buttons::keys_held(s);
-    answered(
-        flag(down.a) | (flag(down.b) << 1) | (flag(down.c) << 2),
-        0,
-        0,
-    )
-}
+    pub(crate) fn counters(&self) -> Answer {
+        let seen = look::counters(self.system);
+        answered(seen.frames, seen.writes, u64::from(seen.off))
+    }
 
-fn block_in(
-    s: System,
-    ram: &[u8; 65536],
-    sram: &[u8; 65536],
-    gpio: &[u8; 4096],
-    addr: u32,
-    buf: &mut [u8],
-) -> Answer {
-    let whole = system::look::read_block(s, ram, sram, gpio, addr, buf);
-    answered(flag(whole), digest(buf), 0)
-}
+    // The red, green and blue of a pixel.
+    pub(crate) fn colours(&self, at: u32) -> Answer {
+        let c = panel::colour::at(&self.memories.fb, at);
+        let word = u64::from(c.r) << 16 | u64::from(c.g) << 8 | u64::from(c.b);
+        answered(word, 0, 0)
+    }
 
-pub(crate) fn block(
-    s: System,
-    ram: &[u8; 65536],
-    sram: &[u8; 65536],
-    gpio: &[u8; 4096],
-    addr: u32,
-    count: u64,
-) -> Answer {
-    let mut buf = [0u8; 65536];
-    let n = lent(count % 65537, &buf);
-    block_in(s, ram, sram, gpio, addr, &mut buf[..n])
-}
+    // Key A in the lowest bit.
+    pub(crate) fn keys_held(&self) -> Answer {
+        let down = buttons::keys_held(self.system);
+        let held = u64::from(down.a) | u64::from(down.b) << 1 | u64::from(down.c) << 2;
+        answered(held, 0, 0)
+    }
 
-pub(crate) fn poke(
-    ram: &mut [u8; 65536],
-    sram: &mut [u8; 65536],
-    gpio: &mut [u8; 4096],
-    addr: u32,
-    value: u64,
-) {
-    let bytes = [
-        (value % 0x100) as u8,
-        (value / 0x100 % 0x100) as u8,
-        (value / 0x1_0000 % 0x100) as u8,
-        (value / 0x100_0000 % 0x100) as u8,
-    ];
-    block::poke(ram, sram, gpio, addr, &bytes);
-}
+    pub(crate) fn peek8(&self, at: u32) -> Answer {
+        let m = &self.memories;
+        let byte = look::peek8(self.system, &m.ram, &m.sram, &m.gpio, at);
+        answered(u64::from(byte), 0, 0)
+    }
 
-pub(crate) fn digest_of(
-    ram: &[u8; 65536],
-    sram: &[u8; 65536],
-    gpio: &[u8; 4096],
-    fb: &[u8; 32768],
-    memory: u32,
-) -> Answer {
-    match memory % 4 {
-        0 => answered(digest(ram), 0, 0),
-        1 => answered(digest(sram), 0, 0),
-        2 => answered(digest(gpio), 0, 0),
-        _ => answered(digest(fb), 0, 0),
+    pub(crate) fn peek32(&self, at: u32) -> Answer {
+        let m = &self.memories;
+        let word = look::peek32(self.system, &m.ram, &m.sram, &m.gpio, at);
+        answered(u64::from(word), 0, 0)
+    }
+
+    // So many bytes from an address on, whether all of them could be read, and their digest.
+    pub(crate) fn block(&self, at: u32, count: u64) -> Answer {
+        let mut bytes = [0u8; 65536];
+        let n = lent(count % 65537, &bytes);
+        let buf = &mut bytes[..n];
+        let m = &self.memories;
+        let whole = look::read_block(self.system, &m.ram, &m.sram, &m.gpio, at, buf);
+        answered(u64::from(whole), digest(buf), 0)
     }
 }

@@ -1,12 +1,12 @@
 // Answers a list of steps for the whole bus: see README.md beside src/.
 #![tactic(auto)]
 
-mod answers;
 mod calls;
+mod desk;
+mod kind;
 mod look;
-mod step;
-mod talk;
+mod memories;
 
 fn main(rt: HostRuntime) {
-    talk::serve(&mut rt.stdin(), &mut rt.stdout());
+    lines::serve(&mut desk::fresh(), &mut rt.stdin(), &mut rt.stdout());
 }

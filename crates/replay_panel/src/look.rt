@@ -1,52 +1,47 @@
 // Looks at what no answer shows.
 ghost use Rattle.std.specs.Prelude.{◌≤◌};
 
-use crate::framebuffer::checksum;
+use crate::desk::Desk;
+use crate::pixels::checksum;
 use lines::{Answer, answered};
 use panel::Panel;
-use panel::args::{code, wide};
-use panel::glass::load;
+use panel::args::code;
 
 // Four numbers of 16 bits in one word, the first one highest.
-fn four(a: u16, b: u16, c: u16, d: u16) -> u64 {
-    a as u64 * 0x1_0000_0000_0000 + b as u64 * 0x1_0000_0000 + c as u64 * 0x1_0000 + d as u64
+fn four(numbers: [u16; 4]) -> u64 {
+    numbers
+        .iter()
+        .fold(0, |word: u64, &n| word << 16 | u64::from(n))
 }
 
 fn window_look(panel: Panel) -> Answer {
     let w = panel.window;
     let p = panel.pen;
-    answered(four(w.x0, w.x1, w.y0, w.y1), four(0, 0, p.x, p.y), p.frames)
-}
-
-fn command_look(panel: Panel) -> Answer {
-    let pen = panel.pen;
-    let half = pen.half;
-    let cmd = panel.cmd;
-    let args = panel.args;
-    let high = wide(args[0], args[1]);
-    let low = wide(args[2], args[3]);
     answered(
-        code(cmd) as u64,
-        code(half) as u64,
-        four(0, panel.count as u16, high, low),
+        four([w.x0, w.x1, w.y0, w.y1]),
+        four([0, 0, p.x, p.y]),
+        p.frames,
     )
 }
 
-fn pair(bytes: &[u8], at: usize) -> u16
-    requires { at ≤ 0x10_0000 }
-{
-    wide(load(bytes, at), load(bytes, at + 1))
+fn command_look(panel: Panel) -> Answer {
+    let args = panel.args;
+    let high = u16::from_be_bytes([args[0], args[1]]);
+    let low = u16::from_be_bytes([args[2], args[3]]);
+    answered(
+        u64::from(code(panel.cmd)),
+        u64::from(code(panel.pen.half)),
+        four([0, u16::from(panel.count), high, low]),
+    )
 }
 
 // Eight bytes, the first one highest; past the end 0.
 fn word(bytes: &[u8], at: usize) -> u64
     requires { at ≤ 0xF_0000 }
 {
-    four(
-        pair(bytes, at),
-        pair(bytes, at + 2),
-        pair(bytes, at + 4),
-        pair(bytes, at + 6),
+    (at..at + 8).fold(
+        0,
+        |word: u64, i| word << 8 | u64::from(bytes.get(i).copied().unwrap_or(0)),
     )
 }
 
@@ -56,18 +51,15 @@ fn bytes_look(bytes: &[u8], k: u64) -> Answer {
     answered(word(bytes, at), word(bytes, at + 8), word(bytes, at + 16))
 }
 
-pub(crate) fn look(
-    panel: Panel,
-    framebuffer: &[u8; 32768],
-    screen: &[u8; 49152],
-    at: u64,
-) -> Answer {
-    match at {
-        0 => window_look(panel),
-        1 => command_look(panel),
-        2 => answered(checksum(framebuffer), checksum(screen), 0),
-        0x1_0000..=0x1_0555 => bytes_look(framebuffer, at - 0x1_0000),
-        0x2_0000..=0x2_07FF => bytes_look(screen, at - 0x2_0000),
-        _ => answered(0, 0, 0),
+impl Desk {
+    pub(crate) fn look(&self, at: u64) -> Answer {
+        match at {
+            0 => window_look(self.panel),
+            1 => command_look(self.panel),
+            2 => answered(checksum(&self.framebuffer), checksum(&self.screen), 0),
+            0x1_0000..=0x1_0555 => bytes_look(&self.framebuffer, at - 0x1_0000),
+            0x2_0000..=0x2_07FF => bytes_look(&self.screen, at - 0x2_0000),
+            _ => answered(0, 0, 0),
+        }
     }
 }

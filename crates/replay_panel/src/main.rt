@@ -1,13 +1,12 @@
 // Answers a list of steps for the panel: see README.md beside src/.
 #![tactic(auto)]
 
-mod framebuffer;
+mod desk;
+mod kind;
 mod look;
+mod pixels;
 mod put;
-mod send;
-mod step;
-mod talk;
 
 fn main(rt: HostRuntime) {
-    talk::serve(&mut rt.stdin(), &mut rt.stdout());
+    lines::serve(&mut desk::fresh(), &mut rt.stdin(), &mut rt.stdout());
 }

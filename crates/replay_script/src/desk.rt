@@ -1,66 +1,90 @@
-// The script and the slice for its answers.
-ghost use Rattle.std.specs.Prelude.{◌≤◌};
+// What the steps work on: the memories, the script, and the slice for its answers.
+use crate::kind::Kind;
+use crate::memories;
+use crate::script::{Script, TooLong};
+use lines::{Answer, Machine, Memories, Step, answered, digest, lent, refused};
 
-use lines::{Answer, answered, digest, lent, refused};
+#[derive(Drop)]
+pub struct Desk {
+    memories: Memories,
+    script: Script,
+    out: [u8; 32768],
+}
 
 // The slice before a run, so that bytes that stay can be told from zeros.
-pub(crate) fn untouched() -> [u8; 32768] {
-    [0xA5u8; 32768]
+fn untouched() -> [u8; 32768] {
+    [0xA5; 32768]
 }
 
-// What passes the end of the script is dropped.
-fn put_bytes(script: &mut [u8], at: u32, value: u64) {
-    let mut rest = value;
-    let mut i = 0;
-    while i < 8 {
-        memory::store(script, at as usize + i, 1, (rest % 256) as u32);
-        rest = rest / 256;
-        i += 1;
+pub(crate) fn fresh() -> Desk {
+    Desk {
+        memories: Memories::default(),
+        script: Script::default(),
+        out: untouched(),
     }
 }
 
-// The eight bytes of a value, the lowest first, in a script of so many bytes.
-pub(crate) fn put(script: &mut [u8], length: u64, at: u32, value: u64) {
-    let n = lent(length, script);
-    put_bytes(&mut script[..n], at, value);
+// The number that bytes are, the lowest first.
+fn word(bytes: &[u8]) -> u64 {
+    bytes
+        .iter()
+        .rev()
+        .fold(0, |n: u64, &byte| n << 8 | u64::from(byte))
 }
 
-// The script of so many bytes, with so many bytes lent for its answers.
-pub(crate) fn run_script(
-    ram: &mut [u8; 65536],
-    sram: &mut [u8; 65536],
-    gpio: &mut [u8; 4096],
-    fb: &mut [u8; 32768],
-    script: &[u8],
-    length: u64,
-    out: &mut [u8],
-    room: u64,
-) -> Answer {
-    let n = lent(length, script);
-    let m = lent(room, out);
-    let refusal = runner::loops::run_script(ram, sram, gpio, fb, &script[..n], &mut out[..m]);
-    let count = memory::load(out, 0, 4);
-    answered(refusal as u64, count as u64, digest(out))
-}
-
-// The number that eight bytes are, the lowest first.
-fn word(out: &[u8; 32768], at: usize) -> u64
-    requires { at ≤ 32768 }
-{
-    let low = memory::load(out, at, 4);
-    let high = memory::load(out, at + 4, 4);
-    high as u64 * 0x1_0000_0000 + low as u64
-}
-
-pub(crate) fn answer_at(out: &[u8; 32768], index: u32) -> Answer {
-    let at = 4 + map::ANSWER_BYTES * index as usize;
-    if at + map::ANSWER_BYTES > 32768 {
-        return refused(1);
+impl Desk {
+    // A new script, where there is room for it.
+    fn lay(&mut self, length: u64) -> Answer {
+        match self.script.lay(length) {
+            Ok(()) => {
+                self.out = untouched();
+                answered(0, 0, 0)
+            }
+            Err(TooLong) => refused(1),
+        }
     }
-    Answer {
-        refusal: out[at],
-        a: word(out, at + 1),
-        b: word(out, at + 9),
-        c: word(out, at + 17),
+
+    // The script, with so many bytes lent for its answers.
+    fn run(&mut self, room: u64) -> Answer {
+        let out = &mut self.out[..];
+        let m = lent(room, out);
+        let refusal = memories::run(&mut self.memories, self.script.bytes(), &mut out[..m]);
+        let count = word(&self.out[..4]);
+        answered(u64::from(refusal), count, digest(&self.out))
+    }
+
+    fn answer_at(&self, index: u32) -> Answer {
+        let at = 4 + map::ANSWER_BYTES * index as usize;
+        match self.out.get(at..at + map::ANSWER_BYTES) {
+            Some(bytes) => Answer {
+                refusal: bytes[0],
+                a: word(&bytes[1..9]),
+                b: word(&bytes[9..17]),
+                c: word(&bytes[17..]),
+            },
+            None => refused(1),
+        }
+    }
+}
+
+impl Machine for Desk {
+    // An unknown kind ends the list.
+    fn step(&mut self, asked: Step) -> Option<Answer> {
+        let kind = Kind::try_from(asked.kind).ok()?;
+        let at = (asked.address % 0x1_0000_0000) as u32;
+        Some(match kind {
+            Kind::Lay => self.lay(asked.value),
+            Kind::Put => {
+                self.script.put(at as usize, asked.value);
+                answered(0, 0, 0)
+            }
+            Kind::Fill => {
+                memories::fill(&mut self.memories, at);
+                answered(0, 0, 0)
+            }
+            Kind::Run => self.run(asked.value),
+            Kind::Answer => self.answer_at(at),
+            Kind::Show => memories::show(&self.memories, at),
+        })
     }
 }

@@ -2,10 +2,10 @@
 #![tactic(auto)]
 
 mod desk;
+mod kind;
 mod memories;
-mod step;
-mod talk;
+mod script;
 
 fn main(rt: HostRuntime) {
-    talk::serve(&mut rt.stdin(), &mut rt.stdout());
+    lines::serve(&mut desk::fresh(), &mut rt.stdin(), &mut rt.stdout());
 }

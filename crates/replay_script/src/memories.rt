@@ -1,5 +1,5 @@
 // The four memories as a whole.
-use lines::{Answer, answered, digest, refused};
+use lines::{Answer, Memories, answered, digest, refused};
 
 // Byte i of a memory that a seed fills: the low byte of (31 * i + seed) / 8, to which only the lowest eleven bits of
 // the sum count.
@@ -11,42 +11,39 @@ fn filler(seed: u32, i: usize) -> u8 {
 }
 
 fn fill_one(memory: &mut [u8], seed: u32) {
-    let mut i = 0;
-    while i < memory.len() {
-        memory[i] = filler(seed, i);
-        i += 1;
+    for (i, byte) in memory.iter_mut().enumerate() {
+        *byte = filler(seed, i);
     }
 }
 
-pub(crate) fn fill(
-    ram: &mut [u8; 65536],
-    sram: &mut [u8; 65536],
-    gpio: &mut [u8; 4096],
-    fb: &mut [u8; 32768],
-    seed: u32,
-) {
-    fill_one(ram, seed);
-    fill_one(sram, seed);
-    fill_one(gpio, seed);
-    fill_one(fb, seed);
+pub(crate) fn fill(memories: &mut Memories, seed: u32) {
+    fill_one(&mut memories.ram, seed);
+    fill_one(&mut memories.sram, seed);
+    fill_one(&mut memories.gpio, seed);
+    fill_one(&mut memories.fb, seed);
+}
+
+pub(crate) fn run(memories: &mut Memories, script: &[u8], out: &mut [u8]) -> u32 {
+    map::status(runner::loops::run_script(
+        &mut memories.ram,
+        &mut memories.sram,
+        &mut memories.gpio,
+        &mut memories.fb,
+        script,
+        out,
+    ))
 }
 
 fn shown(memory: &[u8]) -> Answer {
     answered(digest(memory), memory.len() as u64, 0)
 }
 
-pub(crate) fn show(
-    ram: &[u8; 65536],
-    sram: &[u8; 65536],
-    gpio: &[u8; 4096],
-    fb: &[u8; 32768],
-    number: u32,
-) -> Answer {
+pub(crate) fn show(memories: &Memories, number: u32) -> Answer {
     match number {
-        0 => shown(ram),
-        1 => shown(sram),
-        2 => shown(gpio),
-        3 => shown(fb),
+        0 => shown(&memories.ram),
+        1 => shown(&memories.sram),
+        2 => shown(&memories.gpio),
+        3 => shown(&memories.fb),
         _ => refused(1),
     }
 }

@@ -2,16 +2,14 @@
 #![tactic(auto)]
 
 mod advance;
+mod desk;
+mod kind;
 mod look;
-mod machine;
-mod numbers;
 mod place;
 mod put;
 mod read;
-mod step;
-mod talk;
 mod write;
 
 fn main(rt: HostRuntime) {
-    talk::serve(&mut rt.stdin(), &mut rt.stdout());
+    lines::serve(&mut desk::fresh(), &mut rt.stdin(), &mut rt.stdout());
 }

@@ -1,45 +1,51 @@
 // Reads of register words.
 ghost use Rattle.std.specs.Prelude.{◌<◌};
 
-use crate::machine::{Machine, timer_of, word_of};
-use crate::place::place;
-use timer::Timer;
+use crate::desk::Desk;
+use crate::place::{CLOCK, HOURS, MINUTES, RTC_OUT, RTC_READY, SECONDS, place};
 
-// A timer has eight words: control at 0, reload at 2, compare at 3, counter at 4.
-fn timer_word(t: Timer, words: &[u32; 62], time: f64, i: usize) -> u32
-    requires { i < 48 }
-{
-    let n = i / 8;
-    let stored = word_of(words, i);
-    if i % 8 == 0 {
-        return timer::read_ctrl(t, stored);
+impl Desk {
+    // A timer has eight words: control at 0, reload at 2, compare at 3, counter at 4.
+    fn timer_word(&self, i: usize) -> u32
+        requires { i < 48 }
+    {
+        let n = i / 8;
+        let stored = self.words[i];
+        match i % 8 {
+            0 => timer::read_ctrl(self.timers[n], stored),
+            4 => timer::counter(
+                self.timers[n],
+                self.time.now,
+                self.words[CLOCK],
+                self.words[8 * n],
+                self.words[8 * n + 2],
+                stored,
+            ),
+            _ => stored,
+        }
     }
-    if i % 8 == 4 {
-        let control = word_of(words, 8 * n);
-        let reload = word_of(words, 8 * n + 2);
-        return timer::counter(t, time, word_of(words, 61), control, reload, stored);
-    }
-    stored
-}
 
-// An address that no device here has reads 0. The time of day is not stored, and the RTC chip's bus is always ready.
-pub(crate) fn read(machine: Machine, words: &[u32; 62], at: u32) -> u64 {
-    let i = place(at);
-    let time = machine.time;
-    if i < 48 {
-        let t = timer_of(machine.bank, i / 8);
-        return timer_word(t, words, time.now, i) as u64;
+    // The time of day is not stored, and the RTC chip's bus is always ready.
+    fn word(&self, i: usize) -> u64
+        requires { i < 62 }
+    {
+        let game = self.time.game;
+        match i {
+            0..48 => u64::from(self.timer_word(i)),
+            SECONDS => clock::day::tod_read(self.irq, game, 0),
+            MINUTES => clock::day::tod_read(self.irq, game, 1),
+            HOURS => clock::day::tod_read(self.irq, game, 2),
+            RTC_READY => 1,
+            RTC_OUT => u64::from(self.rtc.latch.out),
+            _ => u64::from(self.words[i]),
+        }
     }
-    let irq = machine.irq;
-    let rtc = machine.rtc;
-    let latch = rtc.latch;
-    match i {
-        48 => clock::day::tod_read(irq, time.game, 0),
-        49 => clock::day::tod_read(irq, time.game, 1),
-        50 => clock::day::tod_read(irq, time.game, 2),
-        56 => 1,
-        57 => latch.out as u64,
-        62 => 0,
-        _ => word_of(words, i % 62) as u64,
+
+    // An address that no device here has reads 0.
+    pub(crate) fn read(&self, at: u32) -> u64 {
+        match place(at) {
+            Some(i) => self.word(i),
+            None => 0,
+        }
     }
 }

@@ -36,27 +36,32 @@ pub record CellsSoFar (s : List ℕ) (at : ℕ) (l₀ : List ℕ) (from i : ℕ)
   pub is : l ≡ cells_read s at l₀ from i
   pub place : next ≡ at + cells_long from i
 
-pub cells_start : (s : List ℕ) (at : ℕ) (l : List ℕ) (from : ℕ) → CellsSoFar s at l from 0 l at
+pub cells_start : (s : List ℕ) (at : ℕ) (l : List ℕ) (from i : ℕ) → i ≡ 0 → CellsSoFar s at l from i l at
 unfolding cells_read cells_long
-cells_start s at l from = record { is = refl; place = omega arith }
+cells_start s at l from i e = rw e (record { is = refl; place = omega arith })
 
+-- the next is the place p of the list
 module _ {s : List ℕ} {at : ℕ} {l₀ : List ℕ} {from i : ℕ} {l : List ℕ} {next : ℕ}
-    (so_far : CellsSoFar s at l₀ from i l next) where
-  pub cells_room : {w m : ℕ} → w ≡ width_at (from + i) → (n : ℕ) → i < n → at + cells_long from n ≤ m → next + w ≤ m
-  cells_room e n below fits =
+    (so_far : CellsSoFar s at l₀ from i l next) {p : ℕ} (there : p ≡ from + i) where
+  pub cells_room : {w m : ℕ} → w ≡ width_at p → (n : ℕ) → i < n → at + cells_long from n ≤ m → next + w ≤ m
+  cells_room here_wide n below fits =
+      let e = here_wide ∙ ap (λ (k : ℕ). width_at k) there in
       let more = long_more from i n below in
       let here = so_far.place in
       omega arith
 
-  pub cells_on : {w v : ℕ} → w ≡ width_at (from + i) → v ≡ number s next w
-      → CellsSoFar s at l₀ from (i + 1) (set l (from + i) v) (next + w)
+  pub cells_on : {w v k : ℕ} → w ≡ width_at p → v ≡ number s next w → k ≡ i + 1
+      → CellsSoFar s at l₀ from k (set l p v) (next + w)
   unfolding cells_read
-  cells_on {w} {v} e f =
+  cells_on {w} {v} {k} wide f later =
+      let e : w ≡ width_at (from + i) = wide ∙ ap (λ (j : ℕ). width_at j) there in
       record {
-        is = rw (add-one i, f, e, so_far.place, so_far.is);
-        place = let on = long_on from i in let here = so_far.place in omega arith;
+        is = rw (later, add-one i, f, e, so_far.place, so_far.is, there);
+        place = rw later (let on = long_on from i in let here = so_far.place in omega arith);
       }
 
+module _ {s : List ℕ} {at : ℕ} {l₀ : List ℕ} {from i : ℕ} {l : List ℕ} {next : ℕ}
+    (so_far : CellsSoFar s at l₀ from i l next) where
   pub cells_all : (n : ℕ) → i ≤ n → n ≤ i → l ≡ cells_read s at l₀ from n
   cells_all n most least =
       let same : i ≡ n = omega arith in
@@ -67,16 +72,20 @@ pub record FloatsSoFar (s : List ℕ) (at : ℕ) (f₀ : List Float) (from i : �
   pub is : f ≡ floats_read s at f₀ from i
   pub place : next ≡ at + 8 * i
 
-pub floats_start : (s : List ℕ) (at : ℕ) (f : List Float) (from : ℕ) → FloatsSoFar s at f from 0 f at
+pub floats_start : (s : List ℕ) (at : ℕ) (f : List Float) (from i : ℕ) → i ≡ 0 → FloatsSoFar s at f from i f at
 unfolding floats_read
-floats_start s at f from = record { is = refl; place = omega arith }
+floats_start s at f from i e = rw e (record { is = refl; place = omega arith })
 
 module _ {s : List ℕ} {at : ℕ} {f₀ : List Float} {from i : ℕ} {f : List Float} {next : ℕ}
     (so_far : FloatsSoFar s at f₀ from i f next) where
-  pub floats_on : {x : Float} → x ≡ float_at s next → FloatsSoFar s at f₀ from (i + 1) (set f (from + i) x) (next + 8)
+  pub floats_on : {p : ℕ} → p ≡ from + i → {x : Float} → x ≡ float_at s next → {k : ℕ} → k ≡ i + 1
+      → FloatsSoFar s at f₀ from k (set f p x) (next + 8)
   unfolding floats_read
-  floats_on {x} e =
-      record { is = rw (add-one i, e, so_far.place, so_far.is); place = let here = so_far.place in omega arith }
+  floats_on there e later =
+      record {
+        is = rw (later, add-one i, e, so_far.place, so_far.is, there);
+        place = let here = so_far.place in omega (arith, later);
+      }
 
   pub floats_all : (n : ℕ) → i ≤ n → n ≤ i → f ≡ floats_read s at f₀ from n
   floats_all n most least =

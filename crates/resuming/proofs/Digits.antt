@@ -1,94 +1,76 @@
--- The loop over the bytes of a number that is read, from the highest down.
-use Prim.Native.Nat.{ℕ, zero, suc, ◌+◌, ◌-◌, ◌*◌, ◌^◌, ◌≤◌, ◌<◌}
-use mathlib.Core.Path.{◌≡◌, refl, sym, subst, ◌∙◌}
-use mathlib.Core.List.{List}
-use native.Mathlib.Omega.{arith}
-use lib.ListN.{get_or}
+-- A number as the library reads it: of eight bytes, those past its width are 0.
+use Rattle.std.proofs.Common.{ℕ, zero, suc, ◌+◌, ◌-◌, ◌≤◌, ◌<◌, ◌≡◌, refl, ap, ◌∙◌, List, ◌∷◌, ◌++◌, [], length, get_or}
+use Rattle.std.proofs.Common.{take, drop, replicate, w64, arith, length-drop, zero-add}
+use Rattle.std.proofs.Math.Nat.{add-sub_cancel_left}
+use Rattle.std.specs.Int.{from_le_bytes}
+use Rattle.std.proofs.lemmas.List.{get_or-take, get_or-drop, get_or-append_right, length-take-le}
+use lib.ListN.{get_or-append}
+use borrow.Rule.Slice.PartMut.{mid_of}
 use Rattle.session.specs.Fields.{number, span}
 
--- ---- how many numbers there are
+-- what the library reads is the number of the eight bytes
+eight_read : (m : List ℕ) → from_le_bytes w64 m ≡ number m 0 8
+unfolding number
+eight_read m = omega arith
 
-pub span_some : (n : ℕ) → 1 ≤ span n
-unfolding span
-span_some zero = omega arith
-span_some (suc n) = let some = span_some n in omega arith
+-- what is past the width counts for nothing
+none_read : (m : List ℕ) (at n : ℕ) → ((k : ℕ) → at ≤ k → get_or m k 0 ≡ 0) → number m at n ≡ 0
+unfolding number
+none_read m at zero h = refl
+none_read m at (suc n) h =
+    omega (arith, h at (omega arith), none_read m (at + 1) n (λ k later. h k (omega (arith, later))))
 
-pub span_grows : (n m : ℕ) → span n ≤ span (n + m)
-unfolding span
-span_grows zero m = let z : 0 + m ≡ m = omega arith in rw z (span_some m)
-span_grows (suc n) m =
-    let less = span_grows n m in
-    let e : suc n + m ≡ suc (n + m) = omega arith in
-    rw e (omega arith)
+same_read : (m s : List ℕ) (i at width n : ℕ) → ((k : ℕ) → k < width → get_or m (i + k) 0 ≡ get_or s (at + k) 0)
+    → ((k : ℕ) → i + width ≤ k → get_or m k 0 ≡ 0)
+    → number m i (width + n) ≡ number s at width
+unfolding number
+same_read m s i at zero n same rest =
+    ap (λ (k : ℕ). number m i k) (omega arith) ∙ none_read m i n (λ k later. rest k (omega (arith, later)))
+same_read m s i at (suc width) n same rest =
+    let here : get_or m i 0 ≡ get_or s at 0
+    = ap (λ (k : ℕ). get_or m k 0) (omega arith) ∙ same 0 (omega arith) ∙ ap (λ (k : ℕ). get_or s k 0) (omega arith) in
+    let later : number m (i + 1) (width + n) ≡ number s (at + 1) width
+    = same_read m s (i + 1) (at + 1) width n
+    (λ k below. ap (λ (j : ℕ). get_or m j 0) (omega arith) ∙ same (k + 1) (omega (arith, below))
+    ∙ ap (λ (j : ℕ). get_or s j 0) (omega arith))
+    (λ k past. rest k (omega (arith, past))) in
+    let e : suc width + n ≡ suc (width + n) = omega arith in
+    rw e (omega (arith, here, later))
 
-eight : span 8 ≡ 2 ^ 64
-unfolding span
-eight = refl
-
-pub span_most : (n : ℕ) → n ≤ 8 → span n ≤ 2 ^ 64
-span_most n h =
-    let less = span_grows n (8 - n) in
-    let e : n + (8 - n) ≡ 8 = omega arith in
-    subst (λ (k : ℕ). span n ≤ k) eight (subst (λ (k : ℕ). span n ≤ span k) e less)
-
--- ---- read: the bytes from place `left` on are the number so far
-
-module _ (s : List ℕ) (at left width : ℕ) (more : suc left ≤ width) where
-  number_more : number s (at + left) (width - left)
-      ≡ get_or s (at + left) 0 + 256 * number s (at + suc left) (width - suc left)
-  unfolding number
-  number_more =
-      let e : width - left ≡ suc (width - suc left) = omega arith in
-      let f : at + left + 1 ≡ at + suc left = omega arith in
-      rw (e, f)
-
-  span_more : span (width - left) ≡ 256 * span (width - suc left)
-  unfolding span
-  span_more = let e : width - left ≡ suc (width - suc left) = omega arith in rw e
-
--- the bytes from a place on, of which there are `width` in all, as a number. Shut, so that a proof finds its parts
-pub record Upper (s : List ℕ) (at width left value : ℕ) : Type 0 where
-  pub is : value ≡ number s (at + left) (width - left)
-  pub small : value < span (width - left)
-
-pub upper_none : (s : List ℕ) (at width : ℕ) → Upper s at width width 0
+small_read : (s : List ℕ) → ((i : ℕ) → get_or s i 0 < 256) → (at n : ℕ) → number s at n < span n
 unfolding number span
-upper_none s at width =
-    let e : width - width ≡ 0 = omega arith in
-    record { is = rw e; small = rw e (omega arith) }
+small_read s bytes at zero = omega arith
+small_read s bytes at (suc n) = omega (arith, bytes at, small_read s bytes (at + 1) n)
 
-module _ {s : List ℕ} {at width left value : ℕ} (u : Upper s at width left value) (some : 0 < left)
-    (within : left ≤ width) where
-  before : suc (left - 1) ≡ left
-  before = omega arith
+zeros : (n k : ℕ) → ◌≡◌ {A = ℕ} (get_or (replicate n 0) k 0) 0
+zeros zero k = refl
+zeros (suc n) zero = refl
+zeros (suc n) (suc k) = zeros n k
 
-  small_before : value < span (width - suc (left - 1))
-  small_before = subst (λ (k : ℕ). value < span (width - k)) (sym before) u.small
+abbrev nothing : List ℕ
+nothing = 0 ∷ (0 ∷ (0 ∷ (0 ∷ (0 ∷ (0 ∷ (0 ∷ (0 ∷ [])))))))
 
-  span_before : span (width - (left - 1)) ≡ 256 * span (width - suc (left - 1))
-  span_before = span_more s at (left - 1) width (omega arith)
+nothing_there : (k : ℕ) → get_or nothing k 0 ≡ 0
+nothing_there k = zeros 8 k
 
-  -- one byte more, the one before
-  pub upper_more : (byte : ℕ) → byte ≡ get_or s (at + (left - 1)) 0 → byte < 256
-      → Upper s at width (left - 1) (value * 256 + byte)
-  upper_more byte e small =
-      let here = subst (λ (k : ℕ). value ≡ number s (at + k) (width - k)) (sym before) u.is in
-      let n = number_more s at (left - 1) width (omega arith) in
-      let below = small_before in
-      let p = span_before in
-      record { is = omega (arith, here, n, e); small = omega (arith, below, p, small) }
-
-  -- it does not pass the end of a word
-  pub upper_fits : width ≤ 8 → (byte : ℕ) → byte < 256 → value * 256 + byte < 2 ^ 64
-  upper_fits most byte small =
-      let p = span_before in
-      let below = small_before in
-      let top = span_most (width - (left - 1)) (omega arith) in
-      omega (arith, p, below, top, small)
-
-pub upper_whole : {s : List ℕ} {at width left value : ℕ} → Upper s at width left value → left ≤ 0
-    → (value ≡ number s at width) × (value < span width)
-upper_whole {s} {at} {width} {left} {value} u none =
-    let z : at + left ≡ at = omega arith in
-    let w : width - left ≡ width = omega arith in
-    (u.is ∙ rw (z, w), subst (λ (k : ℕ). value < span k) w u.small)
+pub read_is : (s ys : List ℕ) (at width : ℕ) {r : ℕ} → ((i : ℕ) → get_or s i 0 < 256) → at + width ≤ length s
+    → width ≤ 8
+    → ys ≡ mid_of at (at + width - at) s
+    → r ≡ from_le_bytes w64 (ys ++ drop width nothing)
+    → (r ≡ number s at width) × (r < span width)
+read_is s ys at width {r} bytes fits few e f =
+    let m = ys ++ drop width nothing in
+    let part : ys ≡ take width (drop at s) = e ∙ ap (λ (n : ℕ). take n (drop at s)) (add-sub_cancel_left at width) in
+    let long : length ys ≡ width
+    = ap length part ∙ length-take-le width (drop at s) (rw length-drop (omega (arith, fits))) in
+    let front : (k : ℕ) → k < width → get_or m (0 + k) 0 ≡ get_or s (at + k) 0
+    = λ k below. ap (λ (j : ℕ). get_or m j 0) (zero-add k)
+    ∙ get_or-append ys (drop width nothing) 0 k (omega (arith, long, below))
+    ∙ ap (λ (l : List ℕ). get_or l k 0) part ∙ get_or-take width (drop at s) k 0 below ∙ get_or-drop at s k 0 in
+    let rest : (k : ℕ) → 0 + width ≤ k → get_or m k 0 ≡ 0
+    = λ k past. get_or-append_right ys (drop width nothing) width k 0 long (omega (arith, past))
+    ∙ get_or-drop width nothing (k - width) 0 ∙ nothing_there (width + (k - width)) in
+    let is : r ≡ number s at width
+    = f ∙ eight_read m ∙ ap (λ (k : ℕ). number m 0 k) (omega (arith, few))
+    ∙ same_read m s 0 at width (8 - width) front rest in
+    (is, omega (arith, is, small_read s bytes at width))

@@ -4,3 +4,4 @@ pub mod Tables
 pub mod Cells
 pub mod Deciding
 pub mod Entire
+pub mod Alls

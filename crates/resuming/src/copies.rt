@@ -7,10 +7,6 @@ pub(crate) fn copy_in(bytes: &mut [u8], s: &[u8], at: usize)
     requires { at + length bytes.old ≤ length s.now }
     ensures { bytes.new ≡ part s.now at (length bytes.old) }
 {
-    let n = bytes.len();
-    let mut i: usize = 0;
-    while i < n {
-        bytes[i] = s[at + i];
-        i += 1;
-    }
+    let end = at + bytes.len();
+    bytes.copy_from_slice(&s[at..end]);
 }

@@ -1,5 +1,8 @@
 // Whether the bytes of a session are good. Nothing is lent here but the bytes.
 ghost use Rattle.std.specs.Prelude.{◌≡◌, ◌≤◌, length};
+ghost use Rattle.std.specs.List.{list_all};
+ghost use Rattle.std.specs.Float.Ieee.{le};
+ghost use Rattle.whole.specs.Limits.{good_time};
 ghost use Rattle.session.specs.Layout.{size_of};
 ghost use Rattle.session.specs.Good.{come, good_cells, good_floats, in_order, in_step, good_bank};
 ghost use Rattle.session.specs.Good.{good_counts, good_lengths, good_flash, good_tables, good_body, good_session};
@@ -8,7 +11,7 @@ use crate::numbers::count;
 use crate::places::{CLOCKS, FLASH, KEYS, PANEL, PRESSES, SOUND, WORDS_AT, flags_at, ram_at};
 use session::places::{LEAST, size};
 use state::{CELLS, Cells, FLOATS, Floats};
-use whole::limits::{finite, good_game, good_time};
+use whole::limits::{finite, good_game, good_time, good_turbo};
 
 fn come(cells: &Cells, i: usize) -> bool
     requires { i ≤ 3 }
@@ -25,23 +28,31 @@ fn good_cells(cells: &Cells) -> bool
             & (cells[50] % 32 == 0))
 }
 
+fn good_times(times: &[f64]) -> bool
+    ensures { result ≡ list_all (λ t. good_time t) times.now }
+{
+    times.iter().all(|&time| good_time(time))
+}
+
 fn good_floats(f: &Floats) -> bool
     ensures { result ≡ good_floats f.now }
 {
-    (good_time(f[0]) & (good_game(f[1]) & whole::limits::good_turbo(f[2])))
-        & (((good_time(f[3]) & (good_time(f[4]) & good_time(f[5])))
-            & (good_time(f[6]) & (good_time(f[7]) & good_time(f[8]))))
+    (good_time(f[0]) & (good_game(f[1]) & good_turbo(f[2])))
+        & (good_times(&f[3..9])
             & ((good_game(f[9]) & good_game(f[10]))
-                & ((finite(f[11]) & finite(f[12]))
-                    & (good_time(f[13]) & (good_time(f[14]) & good_time(f[15]))))))
+                & ((finite(f[11]) & finite(f[12])) & good_times(&f[13..16]))))
+}
+
+fn none_after(times: &[f64], now: f64) -> bool
+    ensures { result ≡ list_all (λ t. le t now) times.now }
+{
+    times.iter().all(|&time| time <= now)
 }
 
 fn in_order(f: &Floats) -> bool
     ensures { result ≡ in_order f.now }
 {
-    (((f[3] <= f[0]) & ((f[4] <= f[0]) & (f[5] <= f[0])))
-        & ((f[6] <= f[0]) & ((f[7] <= f[0]) & (f[8] <= f[0]))))
-        & ((f[9] <= f[1]) & (f[10] <= f[1]))
+    none_after(&f[3..9], f[0]) & none_after(&f[9..11], f[1])
 }
 
 fn in_step(cells: &Cells, f: &Floats) -> bool

@@ -2,30 +2,20 @@
 ghost use Rattle.std.specs.Prelude.{◌≡◌, ◌+◌, ◌≤◌, ◌<◌, length};
 ghost use Rattle.session.specs.Fields.{number, span};
 
-fn wide(b: u8) -> u64
-    ensures { (result ≡ b) × (result < 256) }
-{
-    b as u64
-}
-
 pub(crate) fn number(s: &[u8], at: usize, width: usize) -> u64
     requires { (at + width ≤ length s.now) × (width ≤ 8) }
     ensures { (result ≡ number s.now at width) × (result < span width) }
 {
-    let mut value: u64 = 0;
-    let mut left = width;
-    while left > 0 {
-        left -= 1;
-        value = value * 256 + wide(s[at + left]);
-    }
-    value
+    let mut bytes = [0; 8];
+    bytes[..width].copy_from_slice(&s[at..at + width]);
+    u64::from_le_bytes(bytes)
 }
 
 pub(crate) fn byte(s: &[u8], at: usize) -> u8
     requires { at + 1 ≤ length s.now }
     ensures { result ≡ number s.now at 1 }
 {
-    number(s, at, 1) as u8
+    s[at]
 }
 
 pub(crate) fn four(s: &[u8], at: usize) -> u32
@@ -40,5 +30,5 @@ pub(crate) fn count(s: &[u8], at: usize) -> usize
     requires { at + 4 ≤ length s.now }
     ensures { result ≡ number s.now at 4 }
 {
-    number(s, at, 4) as usize
+    four(s, at) as usize
 }

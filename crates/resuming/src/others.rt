@@ -3,7 +3,7 @@
 ghost use Rattle.std.specs.Prelude.{◌≡◌, ◌+◌, ◌*◌, ◌^◌, ◌≤◌, ◌<◌, length};
 ghost use Rattle.memory.specs.Places.{place_of};
 ghost use Rattle.system.specs.Refusals.{is_register};
-ghost use Rattle.session.specs.Read.{slots_in, place_in, places_in};
+ghost use Rattle.session.specs.Read.{slots_in, places_in};
 ghost use Rattle.session.specs.Good.{other_word, last_at, good_other, good_others};
 
 use crate::numbers::{four, number};
@@ -14,11 +14,8 @@ fn is_register(addr: u32) -> bool
     ensures { result ≡ is_register (place_of addr) }
 {
     match memory::locate(addr) {
-        Place::Ram(_) => false,
-        Place::Sram(_) => false,
-        Place::Gpio(_) => false,
         Place::Register => true,
-        Place::Stray => false,
+        Place::Ram(_) | Place::Sram(_) | Place::Gpio(_) | Place::Stray => false,
     }
 }
 
@@ -52,50 +49,35 @@ pub(crate) fn good_others(s: &[u8], n: usize) -> bool
     requires { (366 + 8 * n ≤ length s.now) × (n ≤ 256) }
     ensures { result ≡ good_others s.now n }
 {
-    let mut good = true;
-    let mut i: usize = 0;
-    while i < n {
+    for i in 0..n {
         let at = OTHERS_AT + 8 * i;
-        good = good_other(last_at(s, i), number(s, at, 4), number(s, at + 4, 4)) & good;
-        i += 1;
+        if !good_other(last_at(s, i), number(s, at, 4), number(s, at + 4, 4)) {
+            return false;
+        }
     }
-    good
+    true
 }
 
 pub(crate) fn read_slots(s: &[u8], slots: &mut [u32; 76])
     requires { 366 ≤ length s.now }
     ensures { slots.new ≡ slots_in s.now }
 {
-    session::sized::slots_long(slots);
-    let mut i: usize = 0;
-    while i < 76 {
+    for i in 0..76 {
         slots[i] = four(s, WORDS_AT + 4 + 4 * i);
-        i += 1;
     }
 }
 
-// What place i of the table holds: the row that stands as far from the end, and 0 past the last. Rows begin at `from`.
-fn place(s: &[u8], from: usize, n: usize, i: usize) -> u32
-    requires { (from + 8 * n ≤ length s.now + 4) × (n ≤ 256) }
-    ensures { result ≡ place_in s.now from n i }
-{
-    if i < n {
-        return four(s, from + 8 * (n - 1 - i));
-    }
-    0
-}
-
+// A place holds the row that stands as far from the end; those past the last row hold 0.
 pub(crate) fn read_others(s: &[u8], n: usize, addresses: &mut [u32; 256], values: &mut [u32; 256])
     requires { (366 + 8 * n ≤ length s.now) × (n ≤ 256) }
     ensures { (addresses.new ≡ places_in s.now 366 n)
         × (values.new ≡ places_in s.now 370 n) }
 {
-    session::sized::words_long(addresses);
-    session::sized::words_long(values);
-    let mut i: usize = 0;
-    while i < 256 {
-        addresses[i] = place(s, OTHERS_AT, n, i);
-        values[i] = place(s, OTHERS_AT + 4, n, i);
-        i += 1;
+    *addresses = [0; 256];
+    *values = [0; 256];
+    for i in 0..n {
+        let row = OTHERS_AT + 8 * (n - 1 - i);
+        addresses[i] = four(s, row);
+        values[i] = four(s, row + 4);
     }
 }

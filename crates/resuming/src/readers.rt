@@ -57,8 +57,6 @@ pub(crate) fn read_pages(s: &[u8], n: usize, rtc: &mut [u8; 256], page: &mut [u8
         × (page.new ≡ part s.now (flash_at n + 24) 256) }
 {
     let p = flags_at(n);
-    session::sized::bytes_long(rtc);
-    session::sized::bytes_long(page);
     copy_in(rtc, s, p + CLOCKS + 76);
     copy_in(page, s, p + FLASH + 24);
 }

@@ -1,6 +1,7 @@
-// Runs of the bank's words read, cells, each of its width, and floats; and the ranges of cells.
-ghost use Rattle.std.specs.Prelude.{◌≡◌, ◌+◌, ◌*◌, ◌≤◌, ◌<◌, leb, length};
-ghost use Rattle.session.specs.Layout.{most_at, cells_long};
+// Runs of the bank's words read, cells, each of its width, and floats; and the ranges of cells. One function for both
+// runs would take the width of each and a closure, and be no plainer.
+ghost use Rattle.std.specs.Prelude.{◌≡◌, ◌+◌, ◌*◌, ◌≤◌, ◌<◌, length};
+ghost use Rattle.session.specs.Layout.{cells_long};
 ghost use Rattle.session.specs.Read.{cells_read, floats_read};
 ghost use Rattle.session.specs.Good.{in_ranges};
 
@@ -63,24 +64,15 @@ const MOSTS: [u64; 51] = [
     255,
 ];
 
-fn in_range(value: u64, i: usize) -> bool
-    requires { i < 51 }
-    ensures { result ≡ leb value (most_at i) }
-{
-    value <= MOSTS[i]
-}
-
 pub(crate) fn read_cells(s: &[u8], at: usize, cells: &mut Cells, from: usize, n: usize)
     requires { (at + cells_long from n ≤ length s.now) × (from + n ≤ 51) }
     ensures { cells.new ≡ cells_read s.now at cells.old from n }
 {
     let mut next = at;
-    let mut i: usize = 0;
-    while i < n {
-        let w = width(from + i);
-        cells[from + i] = number(s, next, w);
+    for i in from..from + n {
+        let w = width(i);
+        cells[i] = number(s, next, w);
         next += w;
-        i += 1;
     }
 }
 
@@ -89,22 +81,17 @@ pub(crate) fn read_floats(s: &[u8], at: usize, floats: &mut Floats, from: usize,
     ensures { floats.new ≡ floats_read s.now at floats.old from n }
 {
     let mut next = at;
-    let mut i: usize = 0;
-    while i < n {
-        floats[from + i] = whole::limits::float_of(number(s, next, 8));
+    for i in from..from + n {
+        floats[i] = whole::limits::float_of(number(s, next, 8));
         next += 8;
-        i += 1;
     }
 }
 
 pub(crate) fn in_ranges(cells: &Cells) -> bool
     ensures { result ≡ in_ranges cells.now }
 {
-    let mut good = true;
-    let mut i: usize = 0;
-    while i < 51 {
-        good = in_range(cells[i], i) & good;
-        i += 1;
-    }
-    good
+    cells
+        .iter()
+        .zip(MOSTS.iter())
+        .all(|(cell, most)| cell <= most)
 }

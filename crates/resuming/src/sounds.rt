@@ -1,6 +1,6 @@
 // Sound events that wait, judged and read, oldest first: a time, a frequency and a duty.
 ghost use Rattle.std.specs.Prelude.{◌≡◌, ◌+◌, ◌*◌, ◌≤◌, length};
-ghost use Rattle.session.specs.Read.{column_at, column_in};
+ghost use Rattle.session.specs.Read.{column_in};
 ghost use Rattle.session.specs.Good.{good_event, good_events};
 
 use crate::numbers::number;
@@ -16,39 +16,26 @@ pub(crate) fn good_events(s: &[u8], from: usize, e: usize) -> bool
     requires { (from + 24 * e ≤ length s.now) × (e ≤ 256) }
     ensures { result ≡ good_events s.now from e }
 {
-    let mut good = true;
-    let mut i: usize = 0;
-    while i < e {
+    for i in 0..e {
         let at = from + 24 * i;
         let time = whole::limits::float_of(number(s, at, 8));
         let frequency = whole::limits::float_of(number(s, at + 8, 8));
         let duty = whole::limits::float_of(number(s, at + 16, 8));
-        good = good_event(time, frequency, duty) & good;
-        i += 1;
+        if !good_event(time, frequency, duty) {
+            return false;
+        }
     }
-    good
+    true
 }
 
-// Of e rows from a place on, the i-th number of a column; 0.0 past the last.
-fn column(s: &[u8], from: usize, e: usize, i: usize) -> f64
-    requires { (from + 24 * e ≤ length s.now + 16) × (e ≤ 256) }
-    ensures { result ≡ column_at s.now from e i }
-{
-    if i < e {
-        return whole::limits::float_of(number(s, from + 24 * i, 8));
-    }
-    0.0
-}
-
+// Of e rows from a place on, the numbers of a column; places past the last row hold 0.0.
 fn read_column(s: &[u8], from: usize, e: usize, l: &mut [f64; 256])
     requires { (from + 24 * e ≤ length s.now + 16) × (e ≤ 256) }
     ensures { l.new ≡ column_in s.now from e }
 {
-    session::sized::events_long(l);
-    let mut i: usize = 0;
-    while i < 256 {
-        l[i] = column(s, from, e, i);
-        i += 1;
+    *l = [0.0; 256];
+    for i in 0..e {
+        l[i] = whole::limits::float_of(number(s, from + 24 * i, 8));
     }
 }
 

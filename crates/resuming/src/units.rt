@@ -9,12 +9,8 @@ ghost use Rattle.session.specs.Good.{good_session};
 ghost use Rattle.session.specs.Session.{machine_in, resume_of, Words};
 
 use crate::places::ram_at;
-use script::bad_memory;
+use script::{BAD_MEMORY, DONE, bad_memory};
 use state::{Cells, Floats};
-
-const DONE: u32 = map::DONE as u32;
-
-const BAD_MEMORY: u32 = map::BAD_MEMORY as u32;
 
 const BAD_SAVE: u32 = map::BAD_SAVE as u32;
 
@@ -60,8 +56,7 @@ fn read(
 }
 
 // Reads a session into the unit, or refuses it and changes nothing.
-#[unsafe(no_mangle)]
-pub extern "C" fn tg18_lent_resume(
+pub fn tg18_lent_resume(
     slots: &mut [u32; 76],
     addresses: &mut [u32; 256],
     values: &mut [u32; 256],

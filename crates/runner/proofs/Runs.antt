@@ -111,6 +111,10 @@ module _ (s : List ℕ) where
       assoc true b c = refl
       assoc false b c = refl
 
+  -- none has been looked at
+  pub all_kinds : (at' n' : ℕ) {at n : ℕ} → at ≡ at' → n ≡ n' → (true && kinds_from s at n) ≡ kinds_from s at' n'
+  all_kinds at' n' a b = rw (a, b)
+
   pub no_kinds : (good : Bool) (at n : ℕ) {w : Bool} → n ≤ 0 → (good && kinds_from s at n) ≡ w → good ≡ w
   unfolding kinds_from
   no_kinds good at n h e = let z : n ≡ 0 = omega arith in sym (right good) ∙ (rw z at e)
@@ -133,16 +137,11 @@ kinds_at s at (suc n) (suc j) k h =
     rw z (kinds_at s (at + step_bytes) n j (both (kind_in (loaded s at 1)) (kinds_from s (at + step_bytes) n) k).1 h')
 
 -- so no step's kind is another
-pub kind_known : (s : List ℕ) (p k left from : ℕ) {e : Entry} → kinds_from s (behind_presses p) k ≡ true → 0 < left
-    → left ≤ k
-    → from + step_bytes * left ≡ behind_presses p + step_bytes * k → e ≡ step_from s from
+pub kind_known : (s : List ℕ) (p k i : ℕ) {e : Entry} → kinds_from s (behind_presses p) k ≡ true → i < k
+    → e ≡ step_from s (behind_presses p + step_bytes * i)
     → kind_in e.kind ≡ true
 unfolding step_from
-kind_known s p k left from h l m i e =
-    let j : k - left < k = omega arith in
-    let o : from ≡ behind_presses p + step_bytes * (k - left) = omega arith in
-    let g : kind_in (loaded s from 1) ≡ true = rw o (kinds_at s (behind_presses p) k (k - left) h j) in
-    rw e g
+kind_known s p k i known h e = rw e (kinds_at s (behind_presses p) k i known h)
 
 -- ---- 10 BadScript
 
@@ -241,53 +240,33 @@ module _ (s : List ℕ) (p : ℕ) where
   unfolding after_entries entries_from
   run_next n n' i i' at t z y e f = rw (z, y, f, e)
 
-  module _ (left from at : ℕ) (t : RunState) {e : Entry} {t' : RunState} (h : 0 < left) where
-    pub press_next : (n : ℕ) → left ≤ p → p ≤ n → from + press_bytes * left ≡ 4 + press_bytes * p
-        → e ≡ press_from s from → t' ≡ after_entry t at e
-        → after_entries t' (at + answer_bytes) (entries_from s p (n - (p - (left - 1))) (p - (left - 1))) ≡
-        after_entries
-        t at
-        (entries_from s p (n - (p - left)) (p - left))
-    press_next n l m f e g =
-        let i : p - left < p = omega arith in
-        let o : from ≡ 4 + press_bytes * (p - left) = omega arith in
-        let z : n - (p - left) ≡ suc (n - (p - (left - 1))) = omega arith in
-        let y : p - (left - 1) ≡ p - left + 1 = omega arith in
-        run_next _ _ (p - left) _ at t z y (entry_press (p - left) from i o e) g
+  -- entry i was a press
+  pub press_next : (n i at : ℕ) (t : RunState) {e : Entry} {t' : RunState} {at' : ℕ} → i < p → p ≤ n
+      → e ≡ press_from s (4 + press_bytes * i) → t' ≡ after_entry t at e → at' ≡ at + answer_bytes
+      → after_entries t' at' (entries_from s p (n - (i + 1)) (i + 1)) ≡ after_entries t at (entries_from s p (n - i) i)
+  press_next n i at t h m e g behind =
+      let z : n - i ≡ suc (n - (i + 1)) = omega arith in
+      rw behind (run_next _ _ i _ at t z refl (entry_press i _ h refl e) g)
 
-    pub step_next : (k : ℕ) → left ≤ k → from + step_bytes * left ≡ behind_presses p + step_bytes * k
-        → e ≡ step_from s from → t' ≡ after_entry t at e
-        → after_entries t' (at + answer_bytes) (entries_from s p (left - 1) (p + (k - (left - 1)))) ≡ after_entries t at
-        (entries_from s
-        p left (p + (k - left)))
-    step_next k l f e g =
-        let i : p ≤ p + (k - left) = omega arith in
-        let o : from ≡ behind_presses p + step_bytes * (p + (k - left) - p) = omega arith in
-        let z : left ≡ suc (left - 1) = omega arith in
-        let y : p + (k - (left - 1)) ≡ p + (k - left) + 1 = omega arith in
-        run_next _ _ (p + (k - left)) _ at t z y (entry_step (p + (k - left)) from i o e) g
+  -- the i-th step of k
+  pub step_next : (k i at : ℕ) (t : RunState) {e : Entry} {t' : RunState} {at' : ℕ} → i < k
+      → e ≡ step_from s (behind_presses p + step_bytes * i) → t' ≡ after_entry t at e → at' ≡ at + answer_bytes
+      → after_entries t' at' (entries_from s p (k - (i + 1)) (p + (i + 1)))
+      ≡ after_entries t at (entries_from s p (k - i) (p + i))
+  step_next k i at t h e g behind =
+      let o : behind_presses p + step_bytes * i ≡ behind_presses p + step_bytes * (p + i - p) = omega arith in
+      let z : k - i ≡ suc (k - (i + 1)) = omega arith in
+      let y : p + (i + 1) ≡ p + i + 1 = omega arith in
+      rw behind (run_next _ _ (p + i) _ at t z y (entry_step (p + i) _ (omega arith) o e) g)
 
-  pub press_start : (n : ℕ) (t : RunState)
-      → after_entries t 4 (entries_from s p (n - (p - p)) (p - p)) ≡ after_entries t 4 (entries_from s p n 0)
-  press_start n t = let z : p - p ≡ 0 = omega arith in let y : n - 0 ≡ n = omega arith in rw (z, y)
+  pub same_run : (t : RunState) {at at' n n' i i' : ℕ} → at ≡ at' → n ≡ n' → i ≡ i'
+      → after_entries t at (entries_from s p n i) ≡ after_entries t at' (entries_from s p n' i')
+  same_run t a b c = rw (a, b, c)
 
-  pub press_end : (n left at : ℕ) (t : RunState) {u : RunState} → left ≤ 0 → at + answer_bytes * left ≡ 4 + answer_bytes
-      * p
-      → after_entries t at (entries_from s p (n - (p - left)) (p - left)) ≡ u
-      → after_entries t (4 + answer_bytes * p) (entries_from s p (n - p) p) ≡ u
-  press_end n left at t h i e = let z : p - left ≡ p = omega arith in let y : at ≡ 4 + answer_bytes * p = omega arith
-      in rw (z, y) at e
-
-  pub step_start : (k at : ℕ) (t : RunState)
-      → after_entries t at (entries_from s p k (p + (k - k))) ≡ after_entries t at (entries_from s p k p)
-  step_start k at t = let z : p + (k - k) ≡ p = omega arith in rw z
-
-  pub step_end : (left at i : ℕ) (t : RunState) {u : RunState} → left ≤ 0 → after_entries t at (entries_from s p left i)
-      ≡ u → t ≡ u
+  pub none_left : (t : RunState) (at n i : ℕ) {u : RunState} → n ≡ 0 → after_entries t at (entries_from s p n i) ≡ u
+      → t ≡ u
   unfolding after_entries entries_from
-  step_end left at i t h e = let z : left ≡ 0 = omega arith in let y : after_entries t at (entries_from s p 0 i) ≡ _ =
-      rw z at
-      e in y
+  none_left t at n i e f = rw e at f
 
   -- the presses, and then the steps
   pub both_run : (k : ℕ) (u : RunState) {t v : RunState} → v ≡ after_entries u (4 + answer_bytes * p)

@@ -26,7 +26,7 @@ fn load_wide(script: &[u8], at: usize) -> u64
 {
     let low = memory::load(script, at, 4);
     let high = memory::load(script, at + 4, 4);
-    low as u64 + high as u64 * 0x1_0000_0000
+    u64::from(low) + u64::from(high) * 0x1_0000_0000
 }
 
 pub(crate) fn presses(script: &[u8]) -> usize
@@ -47,10 +47,8 @@ fn known_kinds() -> [bool; 256]
     ensures { Kinds result }
 {
     let mut table = [false; 256];
-    let mut k: usize = 1;
-    while k <= LAST_KIND {
+    for k in 1..LAST_KIND + 1 {
         table[k] = true;
-        k += 1;
     }
     table
 }
@@ -60,7 +58,7 @@ fn kind_at(table: &[bool; 256], script: &[u8], at: usize) -> bool
     requires { at + 1 ≤ length script.now }
     ensures { Kinds table.now → result ≡ kind_in (loaded script.now at 1) }
 {
-    table[script[at] as usize]
+    table[usize::from(script[at])]
 }
 
 // The same of four steps, with no branch.
@@ -81,13 +79,9 @@ fn few_kinds(table: &[bool; 256], script: &[u8], from: usize, n: usize) -> bool
     requires { from + step_bytes * n ≤ length script.now }
     ensures { Kinds table.now → result ≡ kinds_from script.now from n }
 {
-    let mut at = from;
-    let mut left = n;
     let mut good = true;
-    while left > 0 {
-        good = good & kind_at(table, script, at);
-        at += STEP_BYTES;
-        left -= 1;
+    for i in 0..n {
+        good &= kind_at(table, script, from + STEP_BYTES * i);
     }
     good
 }
@@ -102,8 +96,9 @@ fn kinds(script: &[u8], from: usize, n: usize) -> bool
     let mut at = from;
     let mut left = n;
     let mut good = true;
+    // No `for`: over the fours a step of memory takes 0.7 instructions more (counted), of some 47 in all.
     while left >= 4 {
-        good = good & four_kinds(&table, script, at);
+        good &= four_kinds(&table, script, at);
         at += STEP_BYTES * 4;
         left -= 4;
     }

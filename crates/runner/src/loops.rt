@@ -1,6 +1,8 @@
 // The runner: a loop over the presses and one over the steps, in which each acts on the state where it stands. The
-// places in script and output move on with them.
+// places in script and output move on with them: worked out from an entry's number they cost 3.5 instructions a step
+// more (counted).
 ghost use Rattle.std.specs.Prelude.{◌≡◌, true, List, ℕ, ◌+◌, ◌-◌, ◌*◌, ◌≤◌, Float, length};
+ghost use Rattle.map.specs.Refusals.{number_of};
 ghost use Rattle.state.specs.Bank.{parts_in};
 ghost use Rattle.state.specs.Packed.{StaysPacked, Answered};
 ghost use Rattle.system.specs.Bank.{machine_of};
@@ -11,9 +13,11 @@ ghost use Rattle.runner.specs.Script.{after_entries, continued, continued_of, en
 
 use crate::format::{PRESS_BYTES, STEP_BYTES, bad_script, press_at, presses, step_at, steps};
 use entries::act::act;
-use entries::replies::{ANSWER_BYTES, lay, refused};
+use entries::replies::{ANSWER_BYTES, lay, plain};
+use map::Refusal;
 use state::{CELLS, Cells, FLOATS, Floats};
 use system::wipe::reset;
+use whole::limits::Bits;
 
 // The p presses of a script, of n entries in all; whatever the machine holds that no press reaches.
 fn run_presses(
@@ -43,17 +47,15 @@ fn run_presses(
         (entries_from script.now p n 0))
         × StaysPacked cells.old floats.now cells.new floats.now }
 {
-    let mut from: usize = 4;
-    let mut to: usize = 4;
-    let mut left = p;
-    while left > 0 {
+    let mut from = 4;
+    let mut to = 4;
+    for _i in 0..p {
         let e = press_at(script, from);
-        let n = time::buttons::press_bits(starts, codes, cells, floats, e.address, e.value);
+        let pressed = time::buttons::press(starts, codes, cells, floats, e.address, Bits(e.value));
         let end = to + ANSWER_BYTES;
-        lay(&mut out[..end], to, refused(n));
+        lay(&mut out[..end], to, plain(pressed));
         from += PRESS_BYTES;
         to = end;
-        left -= 1;
     }
 }
 
@@ -101,8 +103,7 @@ fn run_entries(
     run_presses(starts, codes, cells, floats, script, p, out);
     let mut from = 8 + PRESS_BYTES * p;
     let mut to = 4 + ANSWER_BYTES * p;
-    let mut left = k;
-    while left > 0 {
+    for _i in 0..k {
         let e = step_at(script, from);
         let end = to + ANSWER_BYTES;
         act(
@@ -128,14 +129,8 @@ fn run_entries(
         );
         from += STEP_BYTES;
         to = end;
-        left -= 1;
     }
 }
-
-// A script's refusals, as an entry for C answers them.
-const BAD_SCRIPT: u32 = map::BAD_SCRIPT as u32;
-
-const OUT_TOO_SHORT: u32 = map::OUT_TOO_SHORT as u32;
 
 // Runs a script from where the state stands, over memories of any length: what lies past the end of one reads as 0 and
 // is not stored.
@@ -158,8 +153,8 @@ pub fn continue_script(
     fb: &mut [u8],
     script: &[u8],
     out: &mut [u8],
-) -> u32
-    ensures { (continued result
+) -> Result<(), Refusal>
+    ensures { (continued (number_of result)
         (machine_of slots.new addresses.new values.new rtc.new page.new
         onsets.new frequencies.new duties.new starts.new codes.new
         (parts_in cells.new floats.new)
@@ -171,15 +166,15 @@ pub fn continue_script(
         (parts_in cells.old floats.old)
         ram.old sram.old gpio.old fb.old)
         script.now out.old)
-        × Answered result cells.old floats.old cells.new floats.new }
+        × Answered (number_of result) cells.old floats.old cells.new floats.new }
 {
     if bad_script(script) {
-        return BAD_SCRIPT;
+        return Err(Refusal::BadScript);
     }
     let p = presses(script);
     let k = steps(script, p);
     if out.len() < 4 + ANSWER_BYTES * (p + k) {
-        return OUT_TOO_SHORT;
+        return Err(Refusal::OutTooShort);
     }
     memory::store(out, 0, 4, (p + k) as u32);
     run_entries(
@@ -204,7 +199,7 @@ pub fn continue_script(
         k,
         out,
     );
-    0
+    Ok(())
 }
 
 // The same from the fresh state, with arrays of its own for the state.
@@ -215,8 +210,8 @@ pub fn run_script(
     fb: &mut [u8],
     script: &[u8],
     out: &mut [u8],
-) -> u32
-    ensures { ended result ram.new sram.new gpio.new fb.new
+) -> Result<(), Refusal>
+    ensures { ended (number_of result) ram.new sram.new gpio.new fb.new
         out.new
         ≡ run_of ram.old sram.old gpio.old fb.old script.now
         out.old }

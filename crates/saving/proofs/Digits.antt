@@ -1,44 +1,38 @@
--- The loop over the bytes of a number that is written, from the lowest up.
-use Prim.Native.Nat.{ℕ, suc, ◌+◌, ◌-◌, ◌/◌, ◌%◌, ◌≤◌, ◌<◌}
-use mathlib.Core.Path.{◌≡◌, sym, ap, ◌∙◌}
-use mathlib.Core.List.{List}
-use native.Mathlib.Omega.{arith}
-use lib.ListN.{set}
-use lib.Seq.{sets}
+-- The bytes of a number as the library has them.
+use Rattle.std.proofs.Common.{ℕ, zero, suc, ◌/◌, ◌%◌, ◌^◌, ◌≤◌, ◌≡◌, refl, sym, ap, ◌∙◌}
+use Rattle.std.proofs.Common.{List, ◌∷◌, take, w32, w64, arith}
+use Rattle.std.proofs.Math.Nat.{div-one, div-div-eq-div-mul, pow-suc}
+use Rattle.std.specs.Int.{byte_at, bytes_low_first, to_le_bytes}
 use Rattle.memory.specs.Bytes.{bytes_of}
-use Rattle.saving.specs.Inner.{Laid}
-use Rattle.session.proofs.Digits.{length_bytes}
 
--- what is left to write from byte i on
+byte_here : (i v : ℕ) → byte_at i v ≡ v / 256 ^ i % 256
+byte_here zero v = ap (λ (n : ℕ). n % 256) (sym (div-one v))
+byte_here (suc i) v = refl
 
-unfoldable pub left_put : List ℕ → ℕ → ℕ → ℕ → ℕ → List ℕ
-left_put l at width i v = sets l (at + i) (bytes_of (width - i) v)
+next_up : (i v : ℕ) → v / 256 ^ suc i ≡ v / 256 ^ i / 256
+next_up i v = ap (λ (n : ℕ). v / n) (pow-suc 256 i) ∙ sym (div-div-eq-div-mul v (256 ^ i) 256)
 
-pub put_start : (l : List ℕ) (at width v : ℕ) → left_put l at width 0 v ≡ sets l at (bytes_of width v)
-unfolding left_put
-put_start l at width v =
-    let z : at + 0 ≡ at = omega arith in
-    let w : width - 0 ≡ width = omega arith in
-    rw (z, w)
+low_bytes : (i k v : ℕ) → bytes_low_first i k v ≡ bytes_of k (v / 256 ^ i)
+unfolding bytes_of
+low_bytes i zero v = refl
+low_bytes i (suc k) v =
+    ap (λ (b : ℕ). b ∷ bytes_low_first (suc i) k v) (byte_here i v)
+    ∙ ap (λ (bs : List ℕ). (v / 256 ^ i % 256) ∷ bs) (low_bytes (suc i) k v)
+    ∙ ap (λ (n : ℕ). (v / 256 ^ i % 256) ∷ bytes_of k n) (next_up i v)
 
-pub put_on : (l : List ℕ) (at width i v : ℕ) → i < width
-    → left_put (set l (at + i) (v % 256)) at width (i + 1) (v / 256) ≡ left_put l at width i v
-unfolding left_put bytes_of
-put_on l at width i v h =
-    let e : width - i ≡ suc (width - (i + 1)) = omega arith in
-    let f : at + (i + 1) ≡ suc (at + i) = omega arith in
-    rw (e, f)
+from_lowest : (k v : ℕ) → bytes_low_first 0 k v ≡ bytes_of k v
+from_lowest k v = low_bytes 0 k v ∙ ap (λ (n : ℕ). bytes_of k n) (div-one v)
 
-pub put_end : (l : List ℕ) (at width i v : ℕ) → width ≤ i → left_put l at width i v ≡ l
-unfolding left_put bytes_of
-put_end l at width i v h = let e : width - i ≡ 0 = omega arith in rw e
+fewer : (w i k v : ℕ) → w ≤ k → take w (bytes_low_first i k v) ≡ bytes_low_first i w v
+fewer zero i k v h = refl
+fewer (suc w) i zero v h = absurd (omega arith)
+fewer (suc w) i (suc k) v h = ap (λ (bs : List ℕ). byte_at i v ∷ bs) (fewer w (suc i) k v (omega arith))
 
--- the whole of it
-pub put_laid : (l l₁ : List ℕ) (at width v i rest : ℕ) → left_put l₁ at width i rest ≡ left_put l at width 0 v →
-    width ≤ i
-    → Laid l l₁ at (at + width) (bytes_of width v)
-put_laid l l₁ at width v i rest e done =
-    record {
-      laid = sym (put_end l₁ at width i rest done) ∙ e ∙ put_start l at width v;
-      behind = ap (λ (k : ℕ). at + k) (sym (length_bytes width v));
-    }
+pub four_bytes : (v : ℕ) → to_le_bytes w32 v ≡ bytes_of 4 v
+four_bytes v = from_lowest 4 v
+
+pub eight_bytes : (v : ℕ) → to_le_bytes w64 v ≡ bytes_of 8 v
+eight_bytes v = from_lowest 8 v
+
+pub few_bytes : (w v : ℕ) → w ≤ 8 → take w (to_le_bytes w64 v) ≡ bytes_of w v
+few_bytes w v h = fewer w 0 8 v h ∙ from_lowest w v

@@ -56,11 +56,12 @@ pub zero_room : (x m : ℕ) → x ≤ m → 0 + x ≤ m
 zero_room x m h = omega arith
 
 -- a section begins with its count
-pub head_room : (n : ℕ) (bytes : List ℕ) (m at : ℕ) → at + length (bytes_of 4 n ++ bytes) ≤ m → at + 4 ≤ m
+pub head_room : (n : ℕ) (bytes : List ℕ) (m at : ℕ) → at + length (bytes_of 4 n ++ bytes) ≤ m
+    → (at + 4 ≤ m) × (4 ≤ 8)
 head_room n bytes m at fits =
     let e = length-append (bytes_of 4 n) bytes in
     let f = length_bytes 4 n in
-    omega arith
+    (omega arith, omega arith)
 
 -- ---- rows
 
@@ -107,10 +108,20 @@ module _ (f : ℕ → List ℕ) {l l₁ : List ℕ} {at b i : ℕ} (before : Lai
       let same : i ≡ n = omega arith in
       subst (λ (k : ℕ). Laid l l₁ at b (rows_of f k)) same before
 
-  -- where the next row has a known length
-  pub rows_here : (c : ℕ) → length (f i) ≡ c → (n : ℕ) → i < n → at + length (rows_of f n) ≤ length l → b + c ≤
-      length l₁
-  rows_here c size n below fits = let e = rows_room n below fits in omega arith
+-- ---- rows of a loop that counts them in another way
+
+pub rows_start : (f : ℕ → List ℕ) (l : List ℕ) (at i : ℕ) → i ≡ 0 → Laid l l at at (rows_of f i)
+unfolding rows_of
+rows_start f l at i e = rw e (none_laid l at)
+
+module _ (f : ℕ → List ℕ) {l l₁ : List ℕ} {at b i : ℕ} (before : Laid l l₁ at b (rows_of f i)) {ys : List ℕ}
+    (same : ys ≡ f i) where
+  pub rows_next : {l₂ : List ℕ} {c : ℕ} (k : ℕ) → k ≡ i + 1 → Laid l₁ l₂ b c ys → Laid l l₂ at c (rows_of f k)
+  rows_next {l₂} {c} k e next =
+      subst (λ (j : ℕ). Laid l l₂ at c (rows_of f j)) (sym e) (rows_then f before (laid_as next same))
+
+  pub rows_space : (n : ℕ) → i < n → at + length (rows_of f n) ≤ length l → b + length ys ≤ length l₁
+  rows_space n below fits = let e = rows_room f before n below fits in omega (arith, ap length same)
 
 pub bytes_as : {w v : ℕ} (v' : ℕ) → w ≡ v → bytes_of w v' ≡ bytes_of v v'
 bytes_as v' e = ap (λ (k : ℕ). bytes_of k v') e

@@ -10,14 +10,7 @@ use crate::numbers::put_four;
 pub(crate) fn used(values: &[u32; 256]) -> usize
     ensures { (result ≡ used_of values.now) × (result ≤ 256) }
 {
-    let mut i: usize = 0;
-    while i < 256 {
-        if values[i] == 0 {
-            return i;
-        }
-        i += 1;
-    }
-    i
+    values.iter().position(|&value| value == 0).unwrap_or(256)
 }
 
 pub(crate) fn lay_slots(out: &mut [u8], at: usize, slots: &[u32; 76]) -> usize
@@ -25,10 +18,8 @@ pub(crate) fn lay_slots(out: &mut [u8], at: usize, slots: &[u32; 76]) -> usize
     ensures { Laid out.old out.new at result (slot_bytes slots.now) }
 {
     let mut next = at;
-    let mut i: usize = 0;
-    while i < 76 {
-        next = put_four(out, next, slots[i]);
-        i += 1;
+    for word in slots {
+        next = put_four(out, next, *word);
     }
     next
 }
@@ -54,11 +45,8 @@ pub(crate) fn lay_others(
         (other_bytes addresses.now values.now n) }
 {
     let mut next = at;
-    let mut i: usize = 0;
-    while i < n {
-        let place = n - 1 - i;
-        next = lay_other(out, next, addresses[place], values[place]);
-        i += 1;
+    for i in (0..n).rev() {
+        next = lay_other(out, next, addresses[i], values[i]);
     }
     next
 }

@@ -1,6 +1,5 @@
 // Presses that wait, written: a key, and a time.
 ghost use Rattle.std.specs.Prelude.{◌≡◌, ◌+◌, ◌≤◌, length};
-ghost use Rattle.whole.specs.Forms.{bit};
 ghost use Rattle.keys.specs.Script.{waiting_in};
 ghost use Rattle.session.specs.Sections.{press_row, press_if, press_bytes, presses_section};
 ghost use Rattle.saving.specs.Inner.{Laid};
@@ -8,33 +7,21 @@ ghost use Rattle.saving.specs.Inner.{Laid};
 use crate::numbers::{put, put_float};
 use keys::presses::waits;
 
-fn one(on: bool) -> usize
-    ensures { (result ≡ bit on) × (result ≤ 1) }
-{
-    if on {
-        return 1;
-    }
-    0
-}
-
 pub(crate) fn count(starts: &[f64; 64], time: f64, n: usize) -> usize
     requires { n ≤ 64 }
     ensures { (result ≡ waiting_in starts.now time n) × (result ≤ n) }
 {
-    let mut count: usize = 0;
-    let mut i: usize = 0;
-    while i < n {
-        count += one(waits(starts[i], time));
-        i += 1;
-    }
-    count
+    starts[..n]
+        .iter()
+        .filter(|&&start| waits(start, time))
+        .count()
 }
 
 fn lay_press(out: &mut [u8], at: usize, code: u8, start: f64) -> usize
     requires { at + length (press_row code start) ≤ length out.old }
     ensures { Laid out.old out.new at result (press_row code start) }
 {
-    let next = put(out, at, 1, code as u64);
+    let next = put(out, at, 1, u64::from(code));
     put_float(out, next, start)
 }
 
@@ -62,10 +49,8 @@ fn lay_presses(
         (press_bytes starts.now codes.now time n) }
 {
     let mut next = at;
-    let mut i: usize = 0;
-    while i < n {
+    for i in 0..n {
         next = lay_if(out, next, codes[i], starts[i], time);
-        i += 1;
     }
     next
 }

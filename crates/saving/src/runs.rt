@@ -1,4 +1,5 @@
-// Runs of the bank's words written: cells, each of its width, and floats.
+// Runs of the bank's words written: cells, each of its width, and floats. One function for both would take the width of
+// each and a closure, and be no plainer.
 ghost use Rattle.std.specs.Prelude.{◌+◌, ◌≤◌, length};
 ghost use Rattle.session.specs.Sections.{cell_bytes, float_bytes};
 ghost use Rattle.saving.specs.Inner.{Laid};
@@ -12,10 +13,8 @@ pub(crate) fn lay_cells(out: &mut [u8], at: usize, cells: &Cells, from: usize, n
     ensures { Laid out.old out.new at result (cell_bytes cells.now from n) }
 {
     let mut next = at;
-    let mut i: usize = 0;
-    while i < n {
-        next = put(out, next, width(from + i), cells[from + i]);
-        i += 1;
+    for i in from..from + n {
+        next = put(out, next, width(i), cells[i]);
     }
     next
 }
@@ -25,10 +24,8 @@ pub(crate) fn lay_floats(out: &mut [u8], at: usize, floats: &Floats, from: usize
     ensures { Laid out.old out.new at result (float_bytes floats.now from n) }
 {
     let mut next = at;
-    let mut i: usize = 0;
-    while i < n {
-        next = put_float(out, next, floats[from + i]);
-        i += 1;
+    for float in &floats[from..from + n] {
+        next = put_float(out, next, *float);
     }
     next
 }

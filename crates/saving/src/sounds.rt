@@ -12,10 +12,7 @@ use timer::{Event, Ring};
 pub(crate) fn held(ring: Ring) -> usize
     ensures { (result ≡ held_of ring) × (result ≤ 256) }
 {
-    if ring.count < 256 {
-        return ring.count;
-    }
-    256
+    ring.count.min(256)
 }
 
 fn lay_event(out: &mut [u8], at: usize, e: Event) -> usize
@@ -37,7 +34,7 @@ fn event(
     ensures { result ≡ event_of (queue_of onsets.now frequencies.now duties.now ring)
         i }
 {
-    let at = (ring.head as usize + i % 256) % 256;
+    let at = (usize::from(ring.head) + i % 256) % 256;
     Event {
         time: onsets[at],
         frequency: frequencies[at],
@@ -61,10 +58,8 @@ fn lay_events(
         (event_bytes (queue_of onsets.now frequencies.now duties.now ring) n) }
 {
     let mut next = at;
-    let mut i: usize = 0;
-    while i < n {
+    for i in 0..n {
         next = lay_event(out, next, event(onsets, frequencies, duties, ring, i));
-        i += 1;
     }
     next
 }

@@ -11,14 +11,10 @@ ghost use Rattle.session.specs.Layout.{size_of};
 ghost use Rattle.session.specs.Session.{saved, save_of};
 ghost use Rattle.saving.specs.Inner.{layout};
 
-use script::bad_memory;
+use script::{BAD_MEMORY, DONE, bad_memory};
 use session::places::size;
 use state::{CELLS, Cells, FLOATS, Floats, Parts};
 use timer::Ring;
-
-const DONE: u32 = map::DONE as u32;
-
-const BAD_MEMORY: u32 = map::BAD_MEMORY as u32;
 
 const SAVE_TOO_SHORT: u32 = map::SAVE_TOO_SHORT as u32;
 
@@ -96,8 +92,6 @@ fn lay_parts(
         (queue_of onsets.now frequencies.now duties.now parts.ring) e ram.now sram.now gpio.now
         fb.now) }
 {
-    session::sized::bytes_long(rtc);
-    session::sized::bytes_long(page);
     let time = parts.devices.clocks.times.now;
     let ring = parts.ring;
     let mut cells: Cells = [0; CELLS];
@@ -131,8 +125,7 @@ fn lay_parts(
 }
 
 // Writes the session, and how many bytes it has.
-#[unsafe(no_mangle)]
-pub extern "C" fn tg18_lent_save(
+pub fn tg18_lent_save(
     slots: &[u32; 76],
     addresses: &[u32; 256],
     values: &[u32; 256],

@@ -15,11 +15,13 @@ pub fn bad_memory(ram: &[u8], sram: &[u8], gpio: &[u8], fb: &[u8]) -> bool
             | ((gpio.len() != map::GPIO_SIZE) | (fb.len() != map::FRAMEBUFFER_SIZE)))
 }
 
-const BAD_MEMORY: u32 = map::BAD_MEMORY as u32;
+// 01's numbers as hosts get them: done, and 7.
+pub const DONE: u32 = map::DONE as u32;
+
+pub const BAD_MEMORY: u32 = map::BAD_MEMORY as u32;
 
 // Runs a script over the lent memories as they come, and says by 01's number whether it was refused as a whole.
-#[unsafe(no_mangle)]
-pub extern "C" fn tg18_run_script(
+pub fn tg18_run_script(
     ram: &mut [u8],
     sram: &mut [u8],
     gpio: &mut [u8],
@@ -35,5 +37,5 @@ pub extern "C" fn tg18_run_script(
     if bad_memory(ram, sram, gpio, framebuffer) {
         return BAD_MEMORY;
     }
-    runner::loops::run_script(ram, sram, gpio, framebuffer, script, out)
+    map::status(runner::loops::run_script(ram, sram, gpio, framebuffer, script, out))
 }

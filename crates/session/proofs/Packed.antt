@@ -9,8 +9,8 @@ use lib.Ieee.{Float}
 use lib.ListN.{length, get_or, set}
 use lib.Seq.{get_or-set_other}
 use borrow.Author.Tests.{ltb-false, leb-true}
+use Rattle.std.specs.Prelude.{None, Some}
 use Rattle.whole.specs.Forms.{bit}
-use Rattle.panel.specs.declared.MaybeByte.TheVariants.{Nothing, Byte}
 use Rattle.state.specs.Bank.{flag_in, mode_in, maybe_in, chip_in, panel_in, times_in, timer_in, irq_in, latch_in}
 use Rattle.state.specs.Bank.{tone_in, ring_in}
 use Rattle.state.specs.Bank.{keys_in, parts_in}
@@ -43,7 +43,7 @@ maybe : (v : ℕ) → v ≤ 256 → maybe_number (maybe_in v) ≡ v
 unfolding maybe_in maybe_number
 maybe v h = by (ltb v 256) refl
   where
-    by : (b : Bool) → ltb v 256 ≡ b → maybe_number (cond b (Byte v) Nothing) ≡ v
+    by : (b : Bool) → ltb v 256 ≡ b → maybe_number (cond b (Some v) None) ≡ v
     by true e = refl
     by false e = let least = ltb-false v 256 e in omega arith
 

@@ -5,4 +5,3 @@
 #![tactic(auto)]
 
 pub mod places;
-pub mod sized;

@@ -16,7 +16,7 @@ pub const LEAST: usize = 1093 + MEMORIES;
 pub fn size(n: u16, k: u8, e: u16) -> usize
     ensures { result ≡ size_of n k e }
 {
-    LEAST + 8 * (n as usize) + 9 * (k as usize) + 24 * (e as usize)
+    LEAST + 8 * usize::from(n) + 9 * usize::from(k) + 24 * usize::from(e)
 }
 
 // 0 where a cell is not saved: the flash's mode, the timers' counts, the ring and the number of presses.
@@ -30,7 +30,7 @@ pub fn width(i: usize) -> usize
     ensures { (result ≡ width_at i) × (result ≤ 8) }
 {
     if i < 51 {
-        return WIDTHS[i] as usize;
+        return usize::from(WIDTHS[i]);
     }
     0
 }

@@ -6,6 +6,7 @@ use mathlib.Core.List.{List}
 use lib.ListN.{length, get_or, replicate}
 use lib.Ieee.{Float, binary64, of_bits}
 use Rattle.state.specs.declared.Parts.{Parts}
+use Rattle.state.specs.Each.{through}
 use Rattle.state.specs.Parts.{none, flash_put, panel_put, times_put, timer_put, irq_put, vsync_put, converting_put}
 use Rattle.state.specs.Parts.{latch_put, tone_put, off_put, ring_put, keys_put}
 use Rattle.state.specs.Bank.{cell_count, float_count, mode_in, maybe_in, chip_in, panel_in, times_in, timer_in, irq_in}
@@ -53,20 +54,15 @@ zeros_packed = record { cells = refl; floats = refl }
 
 -- all parts put, one behind the other
 module _ (l : List ℕ) (f : List Float) (x : Parts) (six : length x.devices.clocks.timers ≡ 6) where
-  pub all_put : {a b c d e g h i j k m n o p q r s : Parts} → a ≡ flash_put (parts_in l f) x.devices.flash
+  pub all_put : {a b c j k m n o p q r s : Parts} → a ≡ flash_put (parts_in l f) x.devices.flash
       → b ≡ panel_put a x.devices.panel → c ≡ times_put b x.devices.clocks.times
-      → d ≡ timer_put c 0 (get_or x.devices.clocks.timers 0 none)
-      → e ≡ timer_put d 1 (get_or x.devices.clocks.timers 1 none)
-      → g ≡ timer_put e 2 (get_or x.devices.clocks.timers 2 none)
-      → h ≡ timer_put g 3 (get_or x.devices.clocks.timers 3 none)
-      → i ≡ timer_put h 4 (get_or x.devices.clocks.timers 4 none)
-      → j ≡ timer_put i 5 (get_or x.devices.clocks.timers 5 none)
+      → j ≡ through (λ n y. timer_put y n (get_or x.devices.clocks.timers n none)) 0 6 c
       → k ≡ irq_put j x.devices.clocks.irq → m ≡ vsync_put k x.devices.clocks.vsync
       → n ≡ converting_put m x.devices.clocks.converting
       → o ≡ latch_put n x.devices.latch → p ≡ tone_put o x.devices.tone → q ≡ off_put p x.devices.off
       → r ≡ ring_put q x.ring → s ≡ keys_put r x.keys → s ≡ x
   unfolding spread
-  all_put aa bb cc' dd ee gg hh ii jj kk mm nn oo pp qq rr ss =
+  all_put aa bb cc' jj kk mm nn oo pp qq rr ss =
       rw (
         ss,
         rr,
@@ -77,11 +73,6 @@ module _ (l : List ℕ) (f : List Float) (x : Parts) (six : length x.devices.clo
         mm,
         kk,
         jj,
-        ii,
-        hh,
-        gg,
-        ee,
-        dd,
         cc',
         bb,
         aa,

@@ -1,14 +1,13 @@
 -- The bank: every scalar of the state in two lists, the cells (whole numbers) and the floats; and the parts that they
 -- make. A number is named by its place in its list; any numbers make a state.
-use Rattle.std.specs.Prelude.{ℕ, ◌+◌, ◌%◌, ◌^◌, Bool, not, cond, List, [], ◌∷◌, get_or, eqb, ltb, Float}
+use Rattle.std.specs.Prelude.{ℕ, ◌+◌, ◌%◌, ◌^◌, Bool, not, cond, List, [], ◌∷◌, get_or, eqb, ltb, Float, None, Some}
 use Rattle.std.specs.Float.{nan}
 use Rattle.map.specs.Numbers.{TIMER_COUNT}
 use Rattle.state.specs.Each.{list_of}
 use Rattle.flash.specs.declared.Mode.{Mode}
 use Rattle.flash.specs.declared.Mode.TheVariants.{Rust, Strict}
 use Rattle.flash.specs.declared.Chip.{Chip}
-use Rattle.panel.specs.declared.MaybeByte.{MaybeByte}
-use Rattle.panel.specs.declared.MaybeByte.TheVariants.{Nothing, Byte}
+use Rattle.panel.specs.Lcd.{MaybeByte}
 use Rattle.panel.specs.declared.Panel.{Panel}
 use Rattle.clock.specs.declared.Times.{Times}
 use Rattle.clock.specs.declared.Latch.{Latch}
@@ -40,7 +39,7 @@ mode_in n = cond (eqb n 0) Rust Strict
 
 -- a byte below 256; else none
 unfoldable pub maybe_in : ℕ → MaybeByte
-maybe_in n = cond (ltb n 256) (Byte n) Nothing
+maybe_in n = cond (ltb n 256) (Some n) None
 
 -- ---- the devices
 

@@ -2,15 +2,14 @@
 -- its parts is packed: a flag is 0 or 1, a number lies within its width, a byte that may be absent is at most 256.
 -- Every call leaves a packed bank packed, so that the later parts say every later word.
 use Rattle.std.specs.Prelude.{ℕ, ◌+◌, ◌≡◌, ◌≢◌, List, [], ◌∷◌, ◌++◌, length, get_or, set, take, drop, ltb, Bool}
-use Rattle.std.specs.Prelude.{cond, Float}
+use Rattle.std.specs.Prelude.{cond, Float, None, Some}
 use Rattle.map.specs.Numbers.{TIMER_COUNT}
 use Rattle.whole.specs.Forms.{bit}
 use Rattle.flash.specs.declared.Mode.{Mode}
 use Rattle.flash.specs.declared.Mode.TheVariants.{Rust, Strict}
 use Rattle.flash.specs.declared.Chip.{Chip}
 use Rattle.flash.specs.declared.Trans.{Trans}
-use Rattle.panel.specs.declared.MaybeByte.{MaybeByte}
-use Rattle.panel.specs.declared.MaybeByte.TheVariants.{Nothing, Byte}
+use Rattle.panel.specs.Lcd.{MaybeByte}
 use Rattle.panel.specs.declared.Panel.{Panel}
 use Rattle.panel.specs.declared.Pen.{Pen}
 use Rattle.clock.specs.declared.Times.{Times}
@@ -28,8 +27,8 @@ mode_number Rust = 0
 mode_number Strict = 1
 
 unfoldable pub maybe_number : MaybeByte → ℕ
-maybe_number Nothing = 256
-maybe_number (Byte b) = b
+maybe_number None = 256
+maybe_number (Some b) = b
 
 -- ---- the words of each part, in the order of their places
 

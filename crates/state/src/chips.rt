@@ -2,27 +2,18 @@
 ghost use Rattle.std.specs.Prelude.{◌≡◌};
 ghost use Rattle.state.specs.Parts.{flash_put, sent_put};
 ghost use Rattle.state.specs.Bank.{mode_in, chip_in};
-ghost use Rattle.state.specs.Packed.{mode_number, chip_cells, sent_cells, laid_at, CellsPut};
+ghost use Rattle.state.specs.Packed.{chip_cells, sent_cells, laid_at, CellsPut};
 
 use crate::Cells;
-use crate::numbers::{byte, index};
+use crate::numbers::byte;
 use crate::places::{A1, A2, A3, CMD, CS, LONG, MODE, POS, RX, WEL, WRITES};
 use flash::{Chip, Mode, Trans};
-use whole::forms::flag;
 
+// No From: neither type is this crate's, and crate flash knows nothing of a bank.
 fn mode_of(n: u64) -> Mode
     ensures { result ≡ mode_in n }
 {
     if n == 0 { Mode::Rust } else { Mode::Strict }
-}
-
-fn mode_number(mode: Mode) -> u64
-    ensures { result ≡ mode_number mode }
-{
-    match mode {
-        Mode::Rust => 0,
-        Mode::Strict => 1,
-    }
 }
 
 pub fn chip_of(cells: &Cells) -> Chip
@@ -34,7 +25,7 @@ pub fn chip_of(cells: &Cells) -> Chip
         a1: byte(cells[A1]),
         a2: byte(cells[A2]),
         a3: byte(cells[A3]),
-        pos: index(cells[POS]),
+        pos: cells[POS] as usize,
         long: cells[LONG] != 0,
     };
     Chip {
@@ -52,25 +43,22 @@ pub fn put_sent(cells: &mut Cells, rx: u8, tx: Trans)
     ensures { CellsPut cells.old cells.new
         (laid_at cells.old 4 (sent_cells rx tx)) (λ x. sent_put x rx tx) }
 {
-    crate::sized::cells_long(cells);
     cells[RX] = rx as u64;
     cells[CMD] = tx.cmd as u64;
     cells[A1] = tx.a1 as u64;
     cells[A2] = tx.a2 as u64;
     cells[A3] = tx.a3 as u64;
     cells[POS] = tx.pos as u64;
-    cells[LONG] = flag(tx.long);
+    cells[LONG] = u64::from(tx.long);
 }
 
 pub fn put_chip(cells: &mut Cells, chip: Chip)
     ensures { CellsPut cells.old cells.new
         (laid_at cells.old 0 (chip_cells chip)) (λ x. flash_put x chip) }
 {
-    crate::sized::cells_long(cells);
-    let mode = chip.mode;
-    cells[MODE] = mode_number(mode);
-    cells[CS] = flag(chip.cs);
-    cells[WEL] = flag(chip.wel);
+    cells[MODE] = chip.mode as u64;
+    cells[CS] = u64::from(chip.cs);
+    cells[WEL] = u64::from(chip.wel);
     cells[WRITES] = chip.writes;
     put_sent(cells, chip.rx, chip.tx);
 }

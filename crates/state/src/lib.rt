@@ -11,7 +11,6 @@ mod numbers;
 pub mod panels;
 mod places;
 pub mod rests;
-mod sized;
 pub mod wholes;
 
 use clock::{Latch, RtcIrq, Times};

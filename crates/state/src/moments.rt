@@ -10,8 +10,9 @@ use crate::places::{
 };
 use crate::{Cells, Clocks, Floats};
 use clock::{RtcIrq, Times};
+use std::array;
 use timer::Timer;
-use whole::forms::{flag, low};
+use whole::forms::low;
 
 pub fn times_of(floats: &Floats) -> Times
     ensures { result ≡ times_in floats.now }
@@ -27,7 +28,6 @@ pub fn put_times(floats: &mut Floats, times: Times)
     ensures { FloatsPut floats.old floats.new
         (laid_at floats.old 0 (times_floats times)) (λ x. times_put x times) }
 {
-    crate::sized::floats_long(floats);
     floats[NOW] = times.now;
     floats[GAME] = times.game;
     floats[TURBO] = times.turbo;
@@ -37,7 +37,6 @@ pub fn put_turbo(floats: &mut Floats, turbo: f64)
     ensures { FloatsPut floats.old floats.new (set floats.old 2 turbo)
         (λ x. turbo_put x turbo) }
 {
-    crate::sized::floats_long(floats);
     floats[TURBO] = turbo;
 }
 
@@ -74,9 +73,7 @@ pub fn put_timer(cells: &mut Cells, floats: &mut Floats, n: usize, timer: Timer)
         (timer_cells cells.old n timer) (timer_floats floats.old n timer) (timer_put (parts_in
         cells.old floats.old) n timer) }
 {
-    crate::sized::cells_long(cells);
-    crate::sized::floats_long(floats);
-    let on = flag(timer.pending);
+    let on = u64::from(timer.pending);
     if n < map::TIMER_COUNT {
         floats[START + n] = timer.start;
         cells[SEEN + n] = timer.seen;
@@ -87,13 +84,7 @@ pub fn put_timer(cells: &mut Cells, floats: &mut Floats, n: usize, timer: Timer)
 fn timers_of(cells: &Cells, floats: &Floats) -> [Timer; 6]
     ensures { result ≡ timers_in cells.now floats.now }
 {
-    let a = timer_of(cells, floats, 0);
-    let b = timer_of(cells, floats, 1);
-    let c = timer_of(cells, floats, 2);
-    let d = timer_of(cells, floats, 3);
-    let e = timer_of(cells, floats, 4);
-    let f = timer_of(cells, floats, 5);
-    [a, b, c, d, e, f]
+    array::from_fn(|n| timer_of(cells, floats, n))
 }
 
 pub fn irq_of(cells: &Cells, floats: &Floats) -> RtcIrq
@@ -111,8 +102,6 @@ pub fn put_irq(cells: &mut Cells, floats: &mut Floats, irq: RtcIrq)
         (laid_at cells.old 37 (irq.fired ∷ irq.base ∷ [])) (set floats.old 9 irq.set)
         (irq_put (parts_in cells.old floats.old) irq) }
 {
-    crate::sized::cells_long(cells);
-    crate::sized::floats_long(floats);
     cells[FIRED] = irq.fired;
     cells[DAY] = irq.base as u64;
     floats[DAY_SET] = irq.set;
@@ -128,7 +117,6 @@ pub fn put_vsync(cells: &mut Cells, n: u64)
     ensures { CellsPut cells.old cells.new (set cells.old 39 n)
         (λ x. vsync_put x n) }
 {
-    crate::sized::cells_long(cells);
     cells[VSYNC] = n;
 }
 
@@ -142,8 +130,7 @@ pub fn put_converting(cells: &mut Cells, on: bool)
     ensures { CellsPut cells.old cells.new (set cells.old 40 (bit on))
         (λ x. converting_put x on) }
 {
-    crate::sized::cells_long(cells);
-    cells[CONVERTING] = flag(on);
+    cells[CONVERTING] = u64::from(on);
 }
 
 pub fn clocks_of(cells: &Cells, floats: &Floats) -> Clocks

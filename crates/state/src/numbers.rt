@@ -1,4 +1,4 @@
-// A cell as another kind of number.
+// A cell as a number of fewer bits. std has no conversion that drops the rest.
 ghost use Rattle.std.specs.Prelude.{◌≡◌, ◌%◌};
 
 pub(crate) fn byte(n: u64) -> u8
@@ -11,10 +11,4 @@ pub(crate) fn half(n: u64) -> u16
     ensures { result ≡ n % 65536 }
 {
     (n % 65536) as u16
-}
-
-pub(crate) fn index(n: u64) -> usize
-    ensures { result ≡ n }
-{
-    n as usize
 }

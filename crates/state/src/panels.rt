@@ -7,33 +7,27 @@ ghost use Rattle.state.specs.Packed.{maybe_number, panel_cells, pen_cells, laid_
 use crate::Cells;
 use crate::numbers::{byte, half};
 use crate::places::{ARG0, ARG1, ARG2, ARG3, ARGS, FRAMES, HALF, ORDER, X, X0, X1, Y, Y0, Y1};
-use panel::{MaybeByte, Panel, Pen, Window};
+use panel::{Panel, Pen, Window};
 
-fn maybe_of(n: u64) -> MaybeByte
+fn maybe_of(n: u64) -> Option<u8>
     ensures { result ≡ maybe_in n }
 {
     if n < 256 {
-        return MaybeByte::Byte(n as u8);
+        return Some(n as u8);
     }
-    MaybeByte::Nothing
+    None
 }
 
-fn maybe_number(maybe: MaybeByte) -> u64
+fn maybe_number(maybe: Option<u8>) -> u64
     ensures { (result ≡ maybe_number maybe) × (maybe_in result ≡ maybe) }
 {
     match maybe {
-        MaybeByte::Nothing => 256,
-        MaybeByte::Byte(b) => b as u64,
+        None => 256,
+        Some(b) => b as u64,
     }
 }
 
-fn wide(b: u8) -> u64
-    ensures { (result ≡ b) × (result < 256) }
-{
-    b as u64
-}
-
-pub fn order_of(cells: &Cells) -> MaybeByte
+pub fn order_of(cells: &Cells) -> Option<u8>
     ensures { result ≡ (panel_in cells.now).cmd }
 {
     maybe_of(cells[ORDER])
@@ -88,7 +82,6 @@ pub fn put_pen(cells: &mut Cells, pen: Pen)
     ensures { CellsPut cells.old cells.new
         (laid_at cells.old 21 (pen_cells pen)) (λ x. pen_put x pen) }
 {
-    crate::sized::cells_long(cells);
     let half_byte = pen.half;
     cells[X] = pen.x as u64;
     cells[Y] = pen.y as u64;
@@ -100,16 +93,14 @@ pub fn put_panel(cells: &mut Cells, panel: Panel)
     ensures { CellsPut cells.old cells.new
         (laid_at cells.old 11 (panel_cells panel)) (λ x. panel_put x panel) }
 {
-    crate::sized::cells_long(cells);
     let cmd = panel.cmd;
     let args = panel.args;
-    crate::sized::four_long(args);
     let window = panel.window;
     cells[ORDER] = maybe_number(cmd);
-    cells[ARG0] = wide(args[0]);
-    cells[ARG1] = wide(args[1]);
-    cells[ARG2] = wide(args[2]);
-    cells[ARG3] = wide(args[3]);
+    cells[ARG0] = u64::from(args[0]);
+    cells[ARG1] = u64::from(args[1]);
+    cells[ARG2] = u64::from(args[2]);
+    cells[ARG3] = u64::from(args[3]);
     cells[ARGS] = panel.count as u64;
     cells[X0] = window.x0 as u64;
     cells[X1] = window.x1 as u64;

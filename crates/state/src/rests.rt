@@ -6,7 +6,7 @@ ghost use Rattle.state.specs.Parts.{applied_put};
 ghost use Rattle.state.specs.Bank.{latch_in, tone_in, devices_in, ring_in, keys_in, parts_in};
 ghost use Rattle.state.specs.Packed.{key_cells, live_cells, hold_floats, laid_at, Put, CellsPut, FloatsPut};
 
-use crate::numbers::{byte, index};
+use crate::numbers::byte;
 use crate::places::{
     APPLIED, DUTY, FREQUENCY, HEAD, HOLD_A, HOLD_B, HOLD_C, LATCHED, LATCHED_AT, LIVE_A, LIVE_B,
     LIVE_C, OFF, OUT, PRESSES, WAITING,
@@ -15,7 +15,7 @@ use crate::{Cells, Floats};
 use clock::Latch;
 use keys::{Held, Holds, Keys};
 use timer::{Ring, Tone};
-use whole::forms::{flag, low};
+use whole::forms::low;
 
 pub fn latch_of(cells: &Cells, floats: &Floats) -> Latch
     ensures { result ≡ latch_in cells.now floats.now }
@@ -32,8 +32,6 @@ pub fn put_latch(cells: &mut Cells, floats: &mut Floats, latch: Latch)
         (laid_at cells.old 41 (latch.base ∷ latch.out ∷ [])) (set floats.old 10
         latch.since) (latch_put (parts_in cells.old floats.old) latch) }
 {
-    crate::sized::cells_long(cells);
-    crate::sized::floats_long(floats);
     cells[LATCHED] = latch.base;
     cells[OUT] = latch.out as u64;
     floats[LATCHED_AT] = latch.since;
@@ -52,7 +50,6 @@ pub fn put_tone(floats: &mut Floats, tone: Tone)
     ensures { FloatsPut floats.old floats.new
         (laid_at floats.old 11 (tone.frequency ∷ tone.duty ∷ [])) (λ x. tone_put x tone) }
 {
-    crate::sized::floats_long(floats);
     floats[FREQUENCY] = tone.frequency;
     floats[DUTY] = tone.duty;
 }
@@ -67,8 +64,7 @@ pub fn put_off(cells: &mut Cells, off: bool)
     ensures { CellsPut cells.old cells.new (set cells.old 43 (bit off))
         (λ x. off_put x off) }
 {
-    crate::sized::cells_long(cells);
-    cells[OFF] = flag(off);
+    cells[OFF] = u64::from(off);
 }
 
 pub fn ring_of(cells: &Cells) -> Ring
@@ -76,7 +72,7 @@ pub fn ring_of(cells: &Cells) -> Ring
 {
     Ring {
         head: byte(cells[HEAD]),
-        count: index(cells[WAITING]),
+        count: cells[WAITING] as usize,
     }
 }
 
@@ -84,7 +80,6 @@ pub fn put_ring(cells: &mut Cells, ring: Ring)
     ensures { CellsPut cells.old cells.new
         (laid_at cells.old 44 (ring.head ∷ ring.count ∷ [])) (λ x. ring_put x ring) }
 {
-    crate::sized::cells_long(cells);
     cells[HEAD] = ring.head as u64;
     cells[WAITING] = ring.count as u64;
 }
@@ -103,7 +98,7 @@ pub fn keys_of(cells: &Cells, floats: &Floats) -> Keys
         c: floats[HOLD_C],
     };
     Keys {
-        count: index(cells[PRESSES]),
+        count: cells[PRESSES] as usize,
         live,
         holds,
         applied: low(cells[APPLIED]),
@@ -116,14 +111,12 @@ pub fn put_keys(cells: &mut Cells, floats: &mut Floats, keys: Keys)
         (laid_at floats.old 13 (keys.holds.a ∷ keys.holds.b ∷ keys.holds.c ∷ []))
         (keys_put (parts_in cells.old floats.old) keys) }
 {
-    crate::sized::cells_long(cells);
-    crate::sized::floats_long(floats);
     let live = keys.live;
     let holds = keys.holds;
     cells[PRESSES] = keys.count as u64;
-    cells[LIVE_A] = flag(live.a);
-    cells[LIVE_B] = flag(live.b);
-    cells[LIVE_C] = flag(live.c);
+    cells[LIVE_A] = u64::from(live.a);
+    cells[LIVE_B] = u64::from(live.b);
+    cells[LIVE_C] = u64::from(live.c);
     cells[APPLIED] = keys.applied as u64;
     floats[HOLD_A] = holds.a;
     floats[HOLD_B] = holds.b;
@@ -134,7 +127,6 @@ pub fn put_count(cells: &mut Cells, n: usize)
     ensures { CellsPut cells.old cells.new (set cells.old 46 n)
         (λ x. count_put x n) }
 {
-    crate::sized::cells_long(cells);
     cells[PRESSES] = n as u64;
 }
 
@@ -143,8 +135,7 @@ pub fn put_live(cells: &mut Cells, key: usize, down: bool)
     ensures { CellsPut cells.old cells.new (live_cells cells.old key down)
         (λ x. live_put x key down) }
 {
-    crate::sized::cells_long(cells);
-    let on = flag(down);
+    let on = u64::from(down);
     if key < 3 {
         cells[LIVE_A + key] = on;
     }
@@ -154,7 +145,6 @@ pub fn put_hold(floats: &mut Floats, key: usize, until: f64)
     ensures { FloatsPut floats.old floats.new (hold_floats floats.old key until)
         (λ x. hold_put x key until) }
 {
-    crate::sized::floats_long(floats);
     if key < 3 {
         floats[HOLD_A + key] = until;
     }
@@ -164,7 +154,6 @@ pub fn put_applied(cells: &mut Cells, applied: u32)
     ensures { CellsPut cells.old cells.new (set cells.old 50 applied)
         (λ x. applied_put x applied) }
 {
-    crate::sized::cells_long(cells);
     cells[APPLIED] = applied as u64;
 }
 

@@ -41,16 +41,12 @@ pub fn put_parts(cells: &mut Cells, floats: &mut Floats, x: Parts)
     let d = x.devices;
     let c = d.clocks;
     let timers = c.timers;
-    crate::sized::six_long(timers);
     crate::chips::put_chip(cells, d.flash);
     crate::panels::put_panel(cells, d.panel);
     crate::moments::put_times(floats, c.times);
-    crate::moments::put_timer(cells, floats, 0, timers[0]);
-    crate::moments::put_timer(cells, floats, 1, timers[1]);
-    crate::moments::put_timer(cells, floats, 2, timers[2]);
-    crate::moments::put_timer(cells, floats, 3, timers[3]);
-    crate::moments::put_timer(cells, floats, 4, timers[4]);
-    crate::moments::put_timer(cells, floats, 5, timers[5]);
+    for n in 0..map::TIMER_COUNT {
+        crate::moments::put_timer(cells, floats, n, timers[n]);
+    }
     crate::moments::put_irq(cells, floats, c.irq);
     crate::moments::put_vsync(cells, c.vsync);
     crate::moments::put_converting(cells, c.converting);

@@ -8,7 +8,7 @@ use Rattle.flash.specs.Flash.{made_in}
 use Rattle.flash.specs.declared.Mode.{Mode}
 use Rattle.flash.specs.declared.Chip.{Chip}
 use Rattle.flash.specs.declared.SpiFlash.{SpiFlash}
-use Rattle.steps.specs.Text.{text_of, last_line}
+use Rattle.steps.specs.Text.{text_of}
 use Rattle.steps.specs.Machine.{World, WorldOutput, Printed, world, with_output, says, chosen, sent, obeyed, fed}
 use Rattle.steps.specs.Machine.{printed, joined, after_bytes, finished, closed, erased_array, new_session, fresh}
 use Rattle.steps.specs.Inner.{Reaches}
@@ -66,17 +66,6 @@ reaches_more {w} {v} {u} h k =
       input = h.input ++ k.input;
       stands = k.stands ∙ rw h.stands (sym (ap (λ (p : Printed). p.world) (bytes_append w h.input k.input)));
     }
-
--- ---- the end of the input
-pub closes_bad : (t : WorldOutput) {a : List ℕ} → a ≡ text_of t.output → t.world.session.over ≡ true
-    → printed a t.world ≡ closed t
-closes_bad t e o = rw (o, append-nil, e)
-
-pub closes_well : (t : WorldOutput) {a : List ℕ} → a ≡ text_of t.output
-    ++ last_line t.world.session.chip.wel t.world.session.chip.writes t.world.array
-    → t.world.session.over ≡ false
-    → printed a t.world ≡ closed t
-closes_well t e o = rw (o, e)
 
 -- a run from a fresh chip
 pub run_end : (e : Mode) (chip : Chip) (page array : List ℕ) (s : Session) {v u : World} {a : List ℕ}

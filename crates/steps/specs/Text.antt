@@ -1,6 +1,6 @@
 -- What is printed, as bytes.
-use Rattle.std.specs.Prelude.{◌≡◌, ℕ, zero, suc, ◌+◌, ◌/◌, ◌%◌, Bool, true, false, List, [], ◌∷◌, ◌++◌, length}
-use Rattle.std.specs.Prelude.{take, ◌==◌, nat_lt}
+use Rattle.std.specs.Prelude.{ℕ, zero, suc, ◌+◌, ◌/◌, ◌%◌, Bool, true, false, List, [], ◌∷◌, ◌++◌}
+use Rattle.std.specs.Prelude.{◌==◌, nat_lt}
 use Rattle.io.specs.Digits.{hex_digit_ascii}
 use Rattle.flash.specs.Pick.{pick}
 use Rattle.steps.specs.declared.Output.{Output}
@@ -46,8 +46,3 @@ flag false = 0
 unfoldable pub last_line : Bool → ℕ → List ℕ → List ℕ
 last_line wel writes array =
     101 ∷ 110 ∷ 100 ∷ (field (flag wel) ++ (field writes ++ (field (count_programmed array) ++ (10 ∷ []))))
-
--- text was put at a place of a slice, r is the place after it, and what stood before it stayed
-pub record Put (before : List ℕ) (at : ℕ) (text after : List ℕ) (r : ℕ) : Type 0 where
-  pub next : r ≡ at + length text
-  pub content : take r after ≡ take at before ++ text

@@ -1,7 +1,7 @@
 // A session with a flash: one step a line, as program flashsteps takes them.
 //
-// The input is taken byte by byte, so a line of any length takes no room. The page and the array are lent, as crate
-// flash has them.
+// The input is taken byte by byte, so a line of any length takes no room. The page and the array are lent apart from
+// the session, as crate flash has them: `feed` and `finish`, which docs/PROMISES.md names, take them so.
 #![tactic(auto)]
 
 mod parse;
@@ -25,7 +25,8 @@ pub enum Line {
     Longer,
 }
 
-// What a whole line says.
+// What a whole line says. (Other is no None: `and_then Other` of specs/Lines.antt holds it, which docs/PROMISES.md
+// names.)
 #[derive(Drop)]
 pub enum Step {
     Select,
@@ -34,7 +35,8 @@ pub enum Step {
     Other,
 }
 
-// What is to be printed: nothing, a transfer's answer, or the number of a line that is none of the three.
+// What is to be printed: nothing, a transfer's answer, or the number of a line that is none of the three. (Three cases
+// of one kind: an Option of the other two would be matched in two steps, here and in `text_of` of specs/Text.antt.)
 #[derive(Drop)]
 pub enum Output {
     Nothing,
@@ -58,12 +60,12 @@ pub struct Fed {
 }
 
 // One byte of the input.
+#[tactic(auto, unfolding(crate::specs::Machine::fed))]
 pub fn feed(session: Session, page: &mut [u8; 256], array: &mut [u8], byte: u8) -> Fed
     ensures { world_output result page.new array.new ≡ fed
         (world session page.old array.old) byte }
 {
-    let over = session.over;
-    if over {
+    if session.over {
         return quiet(session);
     }
     if byte == b'\n' {
@@ -73,17 +75,12 @@ pub fn feed(session: Session, page: &mut [u8; 256], array: &mut [u8], byte: u8) 
 }
 
 // The end of the input. Its last line may lack the newline.
+#[tactic(auto, unfolding(crate::specs::Machine::finished))]
 pub fn finish(session: Session, page: &mut [u8; 256], array: &mut [u8]) -> Fed
     ensures { world_output result page.new array.new ≡ finished
         (world session page.old array.old) }
 {
-    let over = session.over;
-    let line = session.line;
-    if over {
-        return quiet(session);
-    }
-    let none = is_empty(line);
-    if none {
+    if session.over || is_empty(session.line) {
         return quiet(session);
     }
     end_line(session, page, array)
@@ -102,13 +99,9 @@ fn quiet(session: Session) -> Fed
 fn longer(session: Session, byte: u8) -> Session
     ensures { result ≡ with_line session (grown session.line byte) }
 {
-    let chip = session.chip;
-    let line = session.line;
     Session {
-        chip,
-        line: grow(line, byte),
-        number: session.number,
-        over: session.over,
+        line: grow(session.line, byte),
+        ..session
     }
 }
 
@@ -118,7 +111,7 @@ fn next_line(chip: Chip, number: u64) -> Session
     Session {
         chip,
         line: Line::Empty,
-        number: std::num::wrapping_add_u64(number, 1),
+        number: number.wrapping_add(1),
         over: false,
     }
 }
@@ -127,36 +120,36 @@ fn next_line(chip: Chip, number: u64) -> Session
 fn reject(session: Session) -> Fed
     ensures { result ≡ fed_with (session_over session) (Output.Bad session.number) }
 {
-    let mut last = session;
-    last.over = true;
     Fed {
-        session: last,
+        session: Session {
+            over: true,
+            ..session
+        },
         output: Output::Bad(session.number),
     }
 }
 
 // A select or a deselect.
+#[tactic(auto, unfolding(crate::specs::Machine::chosen))]
 fn choose(session: Session, page: &mut [u8; 256], array: &mut [u8], on: bool) -> Fed
     ensures { world_output result page.new array.new ≡ chosen
         (world session page.old array.old) on }
 {
-    let chip = session.chip;
-    let reply = flash::select(chip, page, array, on);
-    let next = reply.chip;
-    quiet(next_line(next, session.number))
+    let chip = flash::select(session.chip, page, array, on).unwrap_or(session.chip);
+    quiet(next_line(chip, session.number))
 }
 
 // A transfer. The flash refuses an array of another size and answers 0, and so does the session.
+#[tactic(auto, unfolding(crate::specs::Machine::sent))]
 fn send(session: Session, page: &mut [u8; 256], array: &[u8], byte: u8) -> Fed
     ensures { world_output result page.new array.now ≡ sent
         (world session page.old array.now) byte }
 {
-    let chip = session.chip;
-    let reply = flash::transfer(chip, page, array, byte);
-    let next = reply.chip;
+    let refused = (0, session.chip);
+    let (answer, chip) = flash::transfer(session.chip, page, array, byte).unwrap_or(refused);
     Fed {
-        session: next_line(next, session.number),
-        output: Output::Answer(reply.answer),
+        session: next_line(chip, session.number),
+        output: Output::Answer(answer),
     }
 }
 
@@ -165,9 +158,7 @@ fn end_line(session: Session, page: &mut [u8; 256], array: &mut [u8]) -> Fed
     ensures { world_output result page.new array.new ≡ line_done
         (world session page.old array.old) }
 {
-    let line = session.line;
-    let step = step_of(line);
-    match step {
+    match step_of(session.line) {
         Step::Select => choose(session, page, array, true),
         Step::Deselect => choose(session, page, array, false),
         Step::Byte(byte) => send(session, page, array, byte),

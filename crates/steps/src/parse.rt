@@ -1,5 +1,6 @@
 // What a line says.
-ghost use Rattle.std.specs.Prelude.{◌≡◌};
+ghost use Rattle.std.specs.Prelude.{◌≡◌, ◌<◌, IfSome};
+ghost use Rattle.std.specs.Option.{unwrap_or};
 ghost use Rattle.steps.specs.Rule.{digit_of, sign_of, pair_of};
 ghost use Rattle.steps.specs.Machine.{grown, says, is_empty};
 
@@ -8,12 +9,7 @@ use crate::{Line, Step};
 pub(crate) fn is_empty(line: Line) -> bool
     ensures { result ≡ is_empty line }
 {
-    match line {
-        Line::Empty => true,
-        Line::One(_) => false,
-        Line::Two(_, _) => false,
-        Line::Longer => false,
-    }
+    matches!(line, Line::Empty)
 }
 
 // The line with one byte more, which is no newline.
@@ -23,8 +19,7 @@ pub(crate) fn grow(line: Line, byte: u8) -> Line
     match line {
         Line::Empty => Line::One(byte),
         Line::One(first) => Line::Two(first, byte),
-        Line::Two(_, _) => Line::Longer,
-        Line::Longer => Line::Longer,
+        Line::Two(_, _) | Line::Longer => Line::Longer,
     }
 }
 
@@ -39,6 +34,7 @@ pub(crate) fn step_of(line: Line) -> Step
     }
 }
 
+#[tactic(auto, unfolding(crate::specs::Rule::sign_of))]
 fn sign(byte: u8) -> Step
     ensures { result ≡ sign_of byte }
 {
@@ -49,27 +45,25 @@ fn sign(byte: u8) -> Step
     }
 }
 
+#[tactic(auto, unfolding(crate::specs::Rule::pair_of))]
 fn pair(first: u8, second: u8) -> Step
     ensures { result ≡ pair_of first second }
 {
-    let high = digit(first);
-    let low = digit(second);
-    if 16 <= high {
-        return Step::Other;
+    match (digit(first), digit(second)) {
+        (Some(high), Some(low)) => Step::Byte(high * 16 + low),
+        _ => Step::Other,
     }
-    if 16 <= low {
-        return Step::Other;
-    }
-    Step::Byte(high * 16 + low)
 }
 
-// The value of a lowercase hex digit, and 16 where the byte is none.
-fn digit(byte: u8) -> u8
-    ensures { result ≡ digit_of byte }
+// The value of a lowercase hex digit. (Crate lines has such digits too, in a format where any other byte counts as 0.)
+#[tactic(auto, unfolding(crate::specs::Rule::digit_of))]
+fn digit(byte: u8) -> Option<u8>
+    ensures below { IfSome result (λ d. d < 16) }
+    ensures value { unwrap_or result 16 ≡ digit_of byte }
 {
     match byte {
-        b'0'..=b'9' => byte - b'0',
-        b'a'..=b'f' => byte - b'a' + 10,
-        _ => 16,
+        b'0'..=b'9' => Some(byte - b'0'),
+        b'a'..=b'f' => Some(byte - b'a' + 10),
+        _ => None,
     }
 }

@@ -1,143 +1,97 @@
 // The session with a partner, which a reader and a writer stand for.
-ghost use Rattle.std.specs.Prelude.{◌≡◌, ◌+◌, ◌*◌, ◌≤◌, length, take};
-ghost use Rattle.io.specs.Counts.{IsPrefixLen};
-ghost use Rattle.steps.specs.Machine.{world, printed, after_bytes, finished, closed, erased_array, new_session};
-ghost use Rattle.steps.specs.Inner.{Reaches};
+ghost use Rattle.std.specs.Prelude.{◌≡◌, ◌+◌, ◌*◌, ◌≤◌, [], length};
+ghost use Rattle.steps.specs.Machine.{printed, after_bytes, finished, closed, erased_array, new_session};
+ghost use Rattle.steps.specs.Inner.{world_of, Reaches};
 ghost use Rattle.steps.specs.Machine.{RunEnd};
 
-use crate::text::{last_line, spell};
+use crate::text::{ROOM, Text, last_line, spell};
 use crate::{Line, Session, feed, finish};
 use flash::{Chip, Mode};
 use std::io::{Read, Write};
 
-// The session after some bytes, and where their answers end in the lent slice.
+// What a turn of the conversation came to.
+#[derive(Clone, Copy, PartialEq, Eq)]
+enum Turn {
+    // There may be more to read.
+    More,
+    // The input has ended, or the session is over.
+    End,
+    // An answer could not be written.
+    Lost,
+}
+
+// A session, with the page and the array that its chip works on.
 #[derive(Drop)]
-struct Turned {
+struct Desk {
     session: Session,
-    put: usize,
+    page: [u8; 256],
+    array: [u8; 65536],
 }
 
-// The session after a read, whether there may be more to read, and whether an answer could not be written.
-#[derive(Drop)]
-struct Round {
-    session: Session,
-    more: bool,
-    lost: bool,
-}
-
-// All bytes of a chunk. A byte says at most 3 bytes, but for a bad line, which is the last that is said and has at most
-// 25; 25 more are asked for, so that there is room before it is known what a byte says.
-fn turn(
-    session: Session,
-    page: &mut [u8; 256],
-    array: &mut [u8],
-    chunk: &[u8],
-    out: &mut [u8],
-) -> Turned
-    requires { 3 * length chunk.now + 50 ≤ length out.old }
-    ensures prefix_len { IsPrefixLen result.put out.new }
-    ensures array_after { printed (take result.put out.new)
-        (world result.session page.new array.new) ≡ after_bytes
-        (world session page.old array.old) chunk.now }
-{
-    let mut s = session;
-    let mut put = 0;
-    for i in 0..chunk.len() {
-        let fed = feed(s, page, array, chunk[i]);
-        let output = fed.output;
-        put = spell(out, put, output);
-        s = fed.session;
+impl Desk {
+    // All bytes of a chunk. A byte says at most 3 bytes, but for a bad line, which is the last that is said and has at
+    // most 25; 25 more are asked for, so that there is room before it is known what a byte says.
+    fn answer(&mut self, chunk: &[u8], out: &mut Text)
+        requires room { 3 * length chunk.now + 50 ≤ ROOM }
+        requires empty { out.old.items ≡ [] }
+        ensures { printed out.new.items (world_of self.new) ≡ after_bytes (world_of self.old) chunk.now }
+    {
+        for &byte in chunk {
+            let fed = feed(self.session, &mut self.page, &mut self.array, byte);
+            self.session = fed.session;
+            spell(out, fed.output);
+        }
     }
-    Turned { session: s, put }
-}
 
-// Takes what is there, with one read, and writes every answer to it before the next read: a partner that waits for an
-// answer has it, where the writer keeps nothing back, as standard output does. A read that fails is the end of the
-// input, since a bad line alone ends a session without its last line. What 4,096 bytes can say fits into `out`.
-fn listen<R: Read, W: Write>(
-    input: &mut R,
-    output: &mut W,
-    session: Session,
-    page: &mut [u8; 256],
-    array: &mut [u8],
-) -> Round
-    ensures { Reaches (world session page.old array.old)
-        (world result.session page.new array.new) }
-{
-    let mut chunk = [0u8; 4096];
-    let mut out = [0u8; 12352];
-    let n = input.read(&mut chunk).unwrap_or(0);
-    if n == 0 {
-        return Round {
-            session,
-            more: false,
-            lost: false,
-        };
+    // Takes what is there, with one read, and writes every answer to it before the next read: a partner that waits for
+    // an answer has it, where the writer keeps nothing back, as standard output does. A read that fails is the end of
+    // the input, since a bad line alone ends a session without its last line. What 4,096 bytes can say has room.
+    fn listen<R: Read, W: Write>(&mut self, input: &mut R, output: &mut W) -> Turn
+        ensures { Reaches (world_of self.old) (world_of self.new) }
+    {
+        let mut chunk = [0u8; 4096];
+        let n = input.read(&mut chunk).unwrap_or(0);
+        if n == 0 {
+            return Turn::End;
+        }
+        let mut out = Text::new();
+        self.answer(&chunk[..n], &mut out);
+        match output.write_all(out.as_slice()) {
+            Err(_) => Turn::Lost,
+            Ok(()) if self.session.over => Turn::End,
+            Ok(()) => Turn::More,
+        }
     }
-    let turned = turn(session, page, array, &chunk[..n], &mut out);
-    let put = turned.put;
-    let s = turned.session;
-    let written = output.write_all(&out[..put]).is_ok();
-    Round {
-        session: s,
-        more: written & !s.over,
-        lost: !written,
+
+    // Nothing says that the input ends, so the turns are counted, up to a number that no run uses up.
+    fn converse<R: Read, W: Write>(&mut self, input: &mut R, output: &mut W) -> Turn
+        ensures { Reaches (world_of self.old) (world_of self.new) }
+    {
+        for _ in 0..u64::MAX {
+            let turn = self.listen(input, output);
+            if turn != Turn::More {
+                return turn;
+            }
+        }
+        Turn::More
+    }
+
+    // The end of the input: what a line without its newline says, at most 25 bytes, and the last line, at most 67,
+    // where no line was bad.
+    fn close(&mut self, out: &mut Text)
+        requires { out.old.items ≡ [] }
+        ensures { printed out.new.items (world_of self.new) ≡ closed (finished (world_of self.old)) }
+    {
+        let fed = finish(self.session, &mut self.page, &mut self.array);
+        self.session = fed.session;
+        spell(out, fed.output);
+        if !self.session.over {
+            last_line(out, self.session.chip, &self.array);
+        }
     }
 }
 
-// Nothing says that the input ends, so the turns are counted down from a number that no run uses up.
-fn converse<R: Read, W: Write>(
-    input: &mut R,
-    output: &mut W,
-    session: Session,
-    page: &mut [u8; 256],
-    array: &mut [u8],
-) -> Round
-    ensures { Reaches (world session page.old array.old)
-        (world result.session page.new array.new) }
-{
-    let mut s = session;
-    let mut more = true;
-    let mut lost = false;
-    let mut turns = u64::MAX;
-    while turns > 0 && more {
-        let r = listen(input, output, s, page, array);
-        s = r.session;
-        more = r.more;
-        lost = r.lost;
-        turns -= 1;
-    }
-    Round {
-        session: s,
-        more,
-        lost,
-    }
-}
-
-// The end of the input: what a line without its newline says, at most 25 bytes, and the last line, at most 67, where no
-// line was bad.
-fn close(session: Session, page: &mut [u8; 256], array: &mut [u8], out: &mut [u8]) -> Turned
-    requires { 92 ≤ length out.old }
-    ensures prefix_len { IsPrefixLen result.put out.new }
-    ensures array_after { printed (take result.put out.new)
-        (world result.session page.new array.new) ≡ closed
-        (finished (world session page.old array.old)) }
-{
-    let fed = finish(session, page, array);
-    let output = fed.output;
-    let s = fed.session;
-    let chip = s.chip;
-    let put = spell(out, 0, output);
-    if s.over {
-        return Turned { session: s, put };
-    }
-    let whole = last_line(out, put, chip, array);
-    Turned {
-        session: s,
-        put: whole,
-    }
-}
-
+#[tactic(auto, unfolding(crate::specs::Machine::erased_array))]
 fn erase() -> [u8; 65536]
     ensures array { result ≡ erased_array }
     ensures size { 65536 ≡ length result }
@@ -164,15 +118,17 @@ pub fn serve<R: Read, W: Write>(mode: Mode, input: &mut R, output: &mut W) -> Se
     ensures { RunEnd mode result }
 {
     let mut page = [0u8; 256];
-    let mut array = erase();
-    let mut out = [0u8; 128];
     let chip = flash::made(mode, &mut page);
-    let talked = converse(input, output, begin(chip), &mut page, &mut array);
-    let s = talked.session;
-    let last = close(s, &mut page, &mut array, &mut out);
-    let put = last.put;
-    if !talked.lost {
-        let _ = output.write_all(&out[..put]);
+    let mut desk = Desk {
+        session: begin(chip),
+        page,
+        array: erase(),
+    };
+    let turn = desk.converse(input, output);
+    let mut out = Text::new();
+    desk.close(&mut out);
+    if turn != Turn::Lost {
+        let _ = output.write_all(out.as_slice());
     }
-    last.session
+    desk.session
 }

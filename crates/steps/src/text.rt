@@ -1,112 +1,85 @@
-// What is printed, put into a lent slice.
-ghost use Rattle.std.specs.Prelude.{◌≡◌, ◌+◌, ◌<◌, ◌≤◌, [], ◌∷◌, length, ◌==◌};
-ghost use Rattle.flash.specs.Pick.{pick};
-ghost use Rattle.io.specs.Digits.{hex_digit_ascii as Digits·glyph};
-ghost use Rattle.steps.specs.Text.{Put, field as Text·field, hex_line, bad_line, text_of, count_programmed};
-ghost use Rattle.steps.specs.Text.{flag as Text·flag, last_line};
+// What is printed, put at the end of a text.
+ghost use Rattle.std.specs.Prelude.{◌≡◌, ◌+◌, ◌≤◌, length};
+ghost use Rattle.arrayvec.specs.ArrayVec.{array_vec_len, Extends};
+ghost use Rattle.steps.specs.Text.{field as Text·field, hex_line, bad_line, text_of, count_programmed, last_line};
 
 use crate::Output;
+use arrayvec::ArrayVec;
 use flash::Chip;
 
-fn put(out: &mut [u8], at: usize, byte: u8) -> usize
-    requires { at < length out.old }
-    ensures { Put out.old at (byte ∷ []) out.new result }
-{
-    out[at] = byte;
-    at + 1
-}
+// What the bytes of one read can say has room, and so has what the end of the input says.
+pub(crate) const ROOM: usize = 12352;
 
-fn append(out: &mut [u8], at: usize, text: &[u8]) -> usize
-    requires { at + length text.now ≤ length out.old }
-    ensures { Put out.old at text.now out.new result }
-{
-    let mut next = at;
-    for i in 0..text.len() {
-        next = put(out, next, text[i]);
-    }
-    next
-}
+pub(crate) type Text = ArrayVec<u8, ROOM>;
 
-fn glyph(digit: u8) -> u8
-    requires { digit < 16 }
-    ensures { result ≡ Digits·glyph digit }
+fn append(out: &mut Text, text: &[u8])
+    requires { array_vec_len out.old + length text.now ≤ ROOM }
+    ensures { Extends out.old text.now out.new }
 {
-    if digit < 10 { 48 + digit } else { 87 + digit }
+    let _ = out.try_extend_from_slice(text);
 }
 
 // A space and the number.
-fn field(out: &mut [u8], at: usize, n: u64) -> usize
-    requires { at + 21 ≤ length out.old }
-    ensures { Put out.old at (Text·field n) out.new result }
+fn field(out: &mut Text, n: u64)
+    requires { array_vec_len out.old + 21 ≤ ROOM }
+    ensures text { Extends out.old (Text·field n) out.new }
+    ensures long { array_vec_len out.new ≤ array_vec_len out.old + 21 }
 {
     let mut digits = [0u8; 20];
     let k = io::decimal(n, &mut digits);
-    let next = put(out, at, b' ');
-    append(out, next, &digits[..k])
+    out.push(b' ');
+    append(out, &digits[..k]);
 }
 
-fn hex_line(out: &mut [u8], at: usize, byte: u8) -> usize
-    requires { at + 3 ≤ length out.old }
-    ensures { Put out.old at (hex_line byte) out.new result }
+fn hex_line(out: &mut Text, byte: u8)
+    requires { array_vec_len out.old + 3 ≤ ROOM }
+    ensures { Extends out.old (hex_line byte) out.new }
 {
-    let high = put(out, at, glyph(byte / 16));
-    let low = put(out, high, glyph(byte % 16));
-    put(out, low, b'\n')
+    let mut digits = [0u8; 16];
+    let _ = io::hex(u64::from(byte), 2, &mut digits);
+    append(out, &digits[..2]);
+    out.push(b'\n');
 }
 
-fn bad_line(out: &mut [u8], at: usize, number: u64) -> usize
-    requires { at + 25 ≤ length out.old }
-    ensures { Put out.old at (bad_line number) out.new result }
+#[tactic(auto, unfolding(crate::specs::Text::bad_line))]
+fn bad_line(out: &mut Text, number: u64)
+    requires { array_vec_len out.old + 25 ≤ ROOM }
+    ensures text { Extends out.old (bad_line number) out.new }
+    ensures long { array_vec_len out.new ≤ array_vec_len out.old + 25 }
 {
-    let word = append(out, at, b"bad");
-    let whole = field(out, word, number);
-    put(out, whole, b'\n')
+    append(out, b"bad");
+    field(out, number);
+    out.push(b'\n');
 }
 
-pub(crate) fn spell(out: &mut [u8], at: usize, output: Output) -> usize
-    requires { at + 25 ≤ length out.old }
-    ensures { Put out.old at (text_of output) out.new result }
+pub(crate) fn spell(out: &mut Text, output: Output)
+    requires { array_vec_len out.old + 25 ≤ ROOM }
+    ensures text { Extends out.old (text_of output) out.new }
+    ensures long { array_vec_len out.new ≤ array_vec_len out.old + 25 }
 {
     match output {
-        Output::Nothing => at,
-        Output::Answer(byte) => hex_line(out, at, byte),
-        Output::Bad(number) => bad_line(out, at, number),
+        Output::Nothing => {}
+        Output::Answer(byte) => hex_line(out, byte),
+        Output::Bad(number) => bad_line(out, number),
     }
-}
-
-// What a byte adds to the count.
-fn weight(byte: u8) -> usize
-    ensures { result ≡ pick (byte == 255) 0 1 }
-{
-    if byte == 0xFF { 0 } else { 1 }
 }
 
 // How many bytes are not FF.
+#[tactic(auto, using(crate::proofs::Texts::counted))]
 fn count(array: &[u8]) -> usize
     ensures { result ≡ count_programmed array.now }
 {
-    let mut n = 0;
-    for i in 0..array.len() {
-        n = n + weight(array[i]);
-    }
-    n
+    array.iter().filter(|byte| **byte != 0xFF).count()
 }
 
-fn flag(on: bool) -> u64
-    ensures { result ≡ Text·flag on }
+#[tactic(auto, unfolding(crate::specs::Text::last_line))]
+pub(crate) fn last_line(out: &mut Text, chip: Chip, array: &[u8])
+    requires { array_vec_len out.old + 67 ≤ ROOM }
+    ensures { Extends out.old (last_line chip.wel chip.writes array.now) out.new }
 {
-    if on { 1 } else { 0 }
-}
-
-pub(crate) fn last_line(out: &mut [u8], at: usize, chip: Chip, array: &[u8]) -> usize
-    requires { at + 67 ≤ length out.old }
-    ensures { Put out.old at (last_line chip.wel chip.writes array.now)
-        out.new result }
-{
-    let n = count(array);
-    let word = append(out, at, b"end");
-    let wel = field(out, word, flag(chip.wel));
-    let writes = field(out, wel, chip.writes);
-    let whole = field(out, writes, n as u64);
-    put(out, whole, b'\n')
+    append(out, b"end");
+    field(out, u64::from(chip.wel));
+    field(out, chip.writes);
+    field(out, count(array) as u64);
+    out.push(b'\n');
 }

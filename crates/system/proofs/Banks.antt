@@ -5,6 +5,7 @@ use mathlib.Core.Bool.{Bool, false}
 use mathlib.Core.List.{List}
 use lib.Ieee.{Float}
 use lib.ListN.{length, replicate}
+use Rattle.std.specs.Prelude.{Err, Ok}
 use Rattle.registers.specs.declared.Registers.{Registers}
 use Rattle.registers.specs.Words.{fresh_registers}
 use Rattle.flash.specs.declared.Chip.{Chip}
@@ -15,8 +16,7 @@ use Rattle.flash.specs.Flash.{made_in}
 use Rattle.panel.specs.declared.Panel.{Panel}
 use Rattle.panel.specs.Lcd.{fresh_panel}
 use Rattle.clock.specs.declared.Rtc.{Rtc}
-use Rattle.clock.specs.declared.Paced.{Paced}
-use Rattle.clock.specs.declared.Paced.TheVariants.{By, BadTurbo}
+use Rattle.clock.specs.Times.{Paced}
 use Rattle.clock.specs.Times.{paced_of}
 use Rattle.clock.specs.Rtc.{fresh_rtc}
 use Rattle.timer.specs.declared.Event.{Event}
@@ -39,14 +39,14 @@ use Rattle.state.specs.Bank.{ring_in, keys_in}
 use Rattle.state.specs.Packed.{mode_number, maybe_number, chip_cells, panel_cells, clock_cells, key_cells, times_floats}
 use Rattle.state.specs.Packed.{cells_of, floats_of, Packed}
 use Rattle.time.specs.Clocks.{clock_in, fresh_clocks}
-use Rattle.time.specs.declared.NextTime.{NextTime}
+use Rattle.time.specs.Next.{NextTime}
 use Rattle.time.specs.Advance as move
 use Rattle.time.specs.Irq as irq
 use Rattle.time.specs.Next as next
 use Rattle.time.specs.Bank.{MovedBank, moved_bank, moves_of, Asked, asked, paced_put, keys_asked, Pressed, pressed}
 use Rattle.time.specs.Bank.{pressed_of, Took, took, took_of}
-use Rattle.bus.specs.declared.Got.{Got}
-use Rattle.bus.specs.declared.WriteAnswer.{WriteAnswer}
+use Rattle.bus.specs.Answers.{Got}
+use Rattle.bus.specs.Answers.{WriteAnswer}
 use Rattle.bus.specs.World.{world}
 use Rattle.bus.specs.Bank.{out_of}
 use Rattle.bus.specs.Sounds.{noted}
@@ -55,8 +55,8 @@ use Rattle.bus.specs.Read.{ReadOut, got}
 use Rattle.bus.specs.Write as write
 use Rattle.bus.specs.Write.{Noted, noted_write}
 use Rattle.system.specs.declared.System.{System}
-use Rattle.system.specs.declared.Read.{Read}
-use Rattle.system.specs.declared.Taken.{Taken}
+use Rattle.system.specs.Calls.{Read}
+use Rattle.system.specs.Calls.{Taken}
 use Rattle.system.specs.System.{Machine, machine, left, system_of, presses, with_slots, with_presses, with_queue}
 use Rattle.system.specs.System.{with_world, fresh_devices, fresh_system}
 use Rattle.system.specs.Calls.{changed, reading, read_of, write_of, moved, advance_of, next_of, pending_of, wanted_of}
@@ -141,8 +141,8 @@ turbo_done s to {x} {y} {n} i h =
   where
     by_pace : (p : Paced) → changed (paced_put (parts_of s) p).refusal (with_parts s (paced_put (parts_of s) p).parts) ≡
         pacing s p
-    by_pace (By t) = refl
-    by_pace BadTurbo = refl
+    by_pace (Ok t) = refl
+    by_pace (Err r) = refl
 
 pub take_done : (s : System) {a f u : List Float} {x y : Parts} {n : ℕ} {e : Event} → x ≡ parts_of s
     → took a f u (asked y n) e ≡ took_of x

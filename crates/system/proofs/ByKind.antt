@@ -3,8 +3,8 @@ use Prim.Native.Nat.{ℕ}
 use mathlib.Core.Path.{◌≡◌, refl}
 use mathlib.Core.List.{List}
 use lib.ListN.{length}
-use Rattle.clock.specs.declared.Paced.{Paced}
-use Rattle.clock.specs.declared.Paced.TheVariants.{By, BadTurbo}
+use Rattle.std.specs.Prelude.{Err, Ok}
+use Rattle.clock.specs.Times.{Paced}
 use Rattle.clock.specs.Times.{paced_of}
 use Rattle.block.specs.Block.{plain, laid_of}
 use Rattle.system.specs.System.{Machine, with_times}
@@ -20,8 +20,8 @@ use Rattle.system.specs.Carried.{board_in, screen_in, Kind, writes, lays, wipes,
 by_pace : (m : Machine) (P : Machine → Type 0) → ((x : Machine) → board_in x ≡ board_in m → screen_in x ≡ screen_in
     m → P x)
     → (p : Paced) → P (with_system m (pacing m.system p).system)
-by_pace m P f (By t) = f (with_system m (with_times m.system t)) refl refl
-by_pace m P f BadTurbo = f m refl refl
+by_pace m P f (Ok t) = f (with_system m (with_times m.system t)) refl refl
+by_pace m P f (Err r) = f m refl refl
 
 -- an operation that is no write, no poke and no wipe leaves flash and panel as they were
 pub by_kind : (m : Machine) (P : Kind → Machine → Type 0) → ((x : Machine) → board_in x ≡ board_in m

@@ -16,7 +16,7 @@ unfolding step write_of fresh_system writing.write_of writing.reg_written writin
     words.word_at words.put_word words.spot_of words.other_spot words.put_present words.put_absent words.end_from
     words.end_of
     words.removed_to words.inserted_to words.removed words.inserted words.place words.halving words.halved words.own_at
-    words.own_with ports.slot_of ports.own_words ports.words_from ports.named_words ports.named_rows ports.port_at
+    words.own_with ports.slot_of ports.own_words ports.words_from ports.named_rows ports.port_at
     ports.day_word ports.port_of ports.index words.unstored words.fresh_registers access.good_size access.merged_of
     access.written_of access.mask_of access.span_of access.shifted places.place_of places.in_registers places.within
 judged = (refl, (refl, (refl, (refl, tt))))

@@ -5,6 +5,7 @@ use mathlib.Core.Bool.{Bool}
 use mathlib.Core.List.{List}
 use lib.ListN.{length, replicate}
 use lib.Ieee.{Float, of_bits}
+use Rattle.std.specs.Prelude.{Err, Ok}
 use Rattle.whole.proofs.Words.{either}
 use Rattle.registers.specs.declared.Registers.{Registers}
 use Rattle.registers.specs.declared.View.{View}
@@ -30,10 +31,8 @@ use Rattle.timer.specs.Sound.{silence}
 use Rattle.timer.proofs.Tidy.{empty_canonical, take_canonical}
 use Rattle.timer.proofs.Finite.{empty_events, take_events}
 use Rattle.panel.proofs.Limits as panel_limits
-use Rattle.clock.specs.declared.Moved.{Moved}
-use Rattle.clock.specs.declared.Moved.TheVariants.{To, BadTime}
-use Rattle.clock.specs.declared.Paced.{Paced}
-use Rattle.clock.specs.declared.Paced.TheVariants.{By, BadTurbo}
+use Rattle.clock.specs.Times.{Moved}
+use Rattle.clock.specs.Times.{Paced}
 use Rattle.clock.specs.Times.{moved_of, paced_of}
 use Rattle.clock.proofs.TimeLimits.{paces_within}
 use Rattle.clock.proofs.RtcLimits.{fresh_latched, later_latched}
@@ -220,7 +219,7 @@ module _ (m : Machine) (w : WithinLimits m) where
     where
       by : (p : Paced) → paced_of m.system.devices.clocks.times to ≡ p
           → WithinLimits (with_system m (pacing m.system p).system)
-      by (By t) e = record {
+      by (Ok t) e = record {
         registers = w.registers;
         others = w.others;
         clocks = time_limits.turbo_within m.system.devices.clocks w.clocks t to e;
@@ -232,22 +231,22 @@ module _ (m : Machine) (w : WithinLimits m) where
         panel = w.panel;
         flash = w.flash;
       }
-      by BadTurbo e = w
+      by (Err r) e = w
 
 -- ---- time goes on
 
 module _ (slots gpio : List ℕ) (starts : List Float) (codes : List ℕ) (c : Clocks) (k : Keys) (clock : ℕ) where
   moved_length : (x : Moved) → length (move.by_move slots gpio starts codes c k clock x).slots ≡ length slots
   unfolding move.by_move move.moved_to move.devices_of move.synced_of move.converted_in move.ticked_in
-  moved_length (To t) = own_length _ _ _ ∙ own_length _ _ _ ∙ own_length _ _ _ ∙ own_length _ _ _
-  moved_length BadTime = refl
+  moved_length (Ok t) = own_length _ _ _ ∙ own_length _ _ _ ∙ own_length _ _ _ ∙ own_length _ _ _
+  moved_length (Err r) = refl
 
   moved_keys : (x : Moved) → keys.Within (buttons starts codes k)
       → keys.Within (buttons starts codes (keys.with_applied k
       (move.by_move slots gpio starts codes c k clock x).applied))
   unfolding move.by_move move.moved_to
-  moved_keys (To t) w = keys_limits.sync_within (buttons starts codes k) gpio (held_of starts codes k t.now) w
-  moved_keys BadTime w = w
+  moved_keys (Ok t) w = keys_limits.sync_within (buttons starts codes k) gpio (held_of starts codes k t.now) w
+  moved_keys (Err r) w = w
 
 pub advance_limits : (m : Machine) (to : Float) → WithinLimits m
     → WithinLimits (machine (advance_of m.system m.sram m.gpio to).changed.system m.ram m.sram

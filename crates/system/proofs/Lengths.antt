@@ -7,6 +7,7 @@ use lib.Bits.{bit_and}
 use lib.Dec.{eqb}
 use lib.Ieee.{Float}
 use lib.ListN.{length, take, drop, length-append, length-replicate, take-append-drop}
+use Rattle.std.specs.Prelude.{Err, None, Ok, Some}
 use Rattle.map.specs.Numbers.{FLASH_SIZE, LCD_DATA, LCD_DMA}
 use Rattle.whole.specs.Words.{has}
 use Rattle.whole.proofs.Words.{either}
@@ -20,16 +21,14 @@ use Rattle.flash.specs.declared.Chip.{Chip}
 use Rattle.flash.specs.Steps.{cs, byte}
 use Rattle.flash.specs.Run as flash
 use Rattle.flash.proofs.Long.{step_long}
-use Rattle.panel.specs.declared.MaybeByte.{MaybeByte}
-use Rattle.panel.specs.declared.MaybeByte.TheVariants as maybe
+use Rattle.panel.specs.Lcd.{MaybeByte}
 use Rattle.panel.specs.declared.Panel.{Panel}
 use Rattle.panel.specs.declared.Pen.{Pen}
 use Rattle.panel.specs.Lcd.{inked_by, inked, code_of, painted}
 use Rattle.panel.specs.Entries.{Screen}
 use Rattle.panel.specs.Runs.{screen_after_command}
 use Rattle.panel.proofs.Touch.{put_length}
-use Rattle.clock.specs.declared.Moved.{Moved}
-use Rattle.clock.specs.declared.Moved.TheVariants.{To, BadTime}
+use Rattle.clock.specs.Times.{Moved}
 use Rattle.clock.specs.Times.{moved_of}
 use Rattle.keys.specs.declared.Held.{Held}
 use Rattle.keys.specs.Lines.{Lines, wanted, sync_of}
@@ -72,8 +71,8 @@ module _ (c : Chip) (page ram : List ℕ) where
 -- ---- the pixels
 
 ink_length : (h : MaybeByte) (fb : List ℕ) (p : Pen) (b : ℕ) → length (inked_by h fb p b) ≡ length fb
-ink_length maybe.Nothing fb p b = refl
-ink_length (maybe.Byte h) fb p b = put_length fb p.x p.y h b
+ink_length None fb p b = refl
+ink_length (Some h) fb p b = put_length fb p.x p.y h b
 
 paint_length : (p : Panel) (fb : List ℕ) (b : ℕ) → length (painted p fb b) ≡ length fb
 unfolding painted inked
@@ -158,8 +157,8 @@ advance_length m to = by (moved_of m.system.devices.clocks.times to)
     by : (x : Moved) → length (move.by_move m.system.registers.slots m.gpio m.system.presses.starts
         m.system.presses.codes
         m.system.devices.clocks m.system.keys (clock_in m.sram) x).gpio ≡ length m.gpio
-    by (To t) = sync_length m.gpio _ _
-    by BadTime = refl
+    by (Ok t) = sync_length m.gpio _ _
+    by (Err r) = refl
 
 -- ---- a poke
 

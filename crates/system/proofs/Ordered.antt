@@ -4,7 +4,9 @@ use mathlib.Core.Path.{◌≡◌, refl, sym, ap, ◌∙◌}
 use mathlib.Core.Bool.{Bool, true, false, cond, not, ◌||◌}
 use lib.Dec.{eqb, leb}
 use lib.Ieee.{Float, binary64, of_bits, lt}
-use Rattle.map.specs.Numbers.{BAD_SIZE}
+use Rattle.std.specs.Prelude.{Err, Ok}
+use Rattle.map.specs.declared.refusals.Refusal.TheVariants.{BadTime, BadTurbo}
+use Rattle.map.specs.Numbers.{BAD_SIZE, DONE, BAD_TIME, BAD_KEY, NO_EVENT}
 use Rattle.whole.specs.Limits.{good_time, good_turbo}
 use Rattle.memory.specs.declared.Place.{Place}
 use Rattle.memory.specs.declared.Place.TheVariants.{Ram, Sram, Gpio, Register, Stray}
@@ -12,21 +14,15 @@ use Rattle.memory.specs.Places.{place_of}
 use Rattle.memory.specs.Access.{good_size}
 use Rattle.timer.specs.declared.Event.{Event}
 use Rattle.timer.specs.declared.Queue.{Queue}
-use Rattle.timer.specs.declared.Refusal.TheVariants as events_refusal
-use Rattle.timer.specs.declared.Refusal.TheVariants.{NoEvent}
 use Rattle.timer.specs.Events as events
 use Rattle.timer.proofs.Waiting.{waiting_count}
 use Rattle.clock.specs.declared.Times.{Times}
-use Rattle.clock.specs.declared.Moved.TheVariants.{To, BadTime}
-use Rattle.clock.specs.declared.Paced.TheVariants.{By, BadTurbo}
 use Rattle.clock.specs.Times.{game_after, moved_of, paced_of}
 use Rattle.keys.specs.declared.Keys.{Keys}
-use Rattle.keys.specs.declared.Refusal.TheVariants as keys_refusal
-use Rattle.keys.specs.declared.Refusal.TheVariants.{Done, BadKey}
 use Rattle.keys.specs.Live as keys
 use Rattle.keys.proofs.Full.{keys_full_lem}
 use Rattle.state.specs.declared.Clocks.{Clocks}
-use Rattle.time.specs.declared.NextTime.{NextTime}
+use Rattle.time.specs.Next.{NextTime}
 use Rattle.time.specs.Advance as move
 use Rattle.time.specs.Next as next
 use Rattle.time.specs.Clocks.{clock_in}
@@ -68,7 +64,8 @@ module _ (m : Machine) where
       by : (good back high : Bool) (t : Times)
           → ◌≡◌ {A = ℕ} (move.by_move m.system.registers.slots m.gpio m.system.presses.starts
           m.system.presses.codes c m.system.keys
-          (clock_in m.sram) (cond good (cond back BadTime (cond high BadTime (To t))) BadTime)).refusal
+          (clock_in m.sram)
+          (cond good (cond back (Err BadTime) (cond high (Err BadTime) (Ok t))) (Err BadTime))).refusal
           (cond (not good || back || high) 1 0)
       by false back high t = refl
       by true true high t = refl
@@ -89,7 +86,7 @@ module _ (m : Machine) where
   unfolding step turbo_of paced_of refusal_of first_of given order
   turbo_order to = by (good_turbo to) _
     where
-      by : (b : Bool) (t : Times) → ◌≡◌ {A = ℕ} (pacing m.system (cond b (By t) BadTurbo)).refusal
+      by : (b : Bool) (t : Times) → ◌≡◌ {A = ℕ} (pacing m.system (cond b (Ok t) (Err BadTurbo))).refusal
           (cond (not b) 2 0)
       by true t = refl
       by false t = refl
@@ -99,7 +96,7 @@ module _ (m : Machine) where
   live_order key down = by (leb key 2) _
     where
       by : (b : Bool) (k : Keys) → ◌≡◌ {A = ℕ}
-          (cond b (keys.outcome Done k) (keys.outcome BadKey m.system.keys)).refusal (cond (not b) 8 0)
+          (cond b (keys.outcome DONE k) (keys.outcome BAD_KEY m.system.keys)).refusal (cond (not b) 8 0)
       by true k = refl
       by false k = refl
 
@@ -108,8 +105,8 @@ module _ (m : Machine) where
   hold_order key until = by (leb key 2) (good_time until) _
     where
       by : (a b : Bool) (k : Keys)
-          → ◌≡◌ {A = ℕ} (cond a (cond b (keys.outcome Done k) (keys.outcome keys_refusal.BadTime m.system.keys))
-          (keys.outcome BadKey m.system.keys)).refusal
+          → ◌≡◌ {A = ℕ} (cond a (cond b (keys.outcome DONE k) (keys.outcome BAD_TIME m.system.keys))
+          (keys.outcome BAD_KEY m.system.keys)).refusal
           (cond (not a) 8 (cond (not b) 1 0))
       by false b k = refl
       by true false k = refl
@@ -131,7 +128,7 @@ module _ (m : Machine) where
       (sym (waiting_count m.system.queue))
     where
       by : (b : Bool) (e : Event) (q : Queue)
-          → ◌≡◌ {A = ℕ} (cond b (events.take_outcome NoEvent events.nothing m.system.queue)
-          (events.take_outcome events_refusal.Done e q)).refusal (cond b 12 0)
+          → ◌≡◌ {A = ℕ} (cond b (events.take_outcome NO_EVENT events.nothing m.system.queue)
+          (events.take_outcome DONE e q)).refusal (cond b 12 0)
       by true e q = refl
       by false e q = refl

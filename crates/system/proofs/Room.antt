@@ -7,6 +7,8 @@ use native.Mathlib.Omega.{arith}
 use lib.Bits.{bit_and}
 use lib.Dec.{eqb, lit<}
 use borrow.Author.Tests.{eq-eqb, ne_eqb, eqb-true, eqb-false}
+use Rattle.std.specs.Prelude.{Err, None, Ok, Some}
+use Rattle.map.specs.declared.refusals.Refusal.TheVariants.{SoundFull}
 use Rattle.map.specs.Numbers.{DONE, SOUND_TIMER, SOUND_CONTROL, SOUND_RELOAD, SOUND_COMPARE}
 use Rattle.registers.specs.declared.Registers.{Registers}
 use Rattle.registers.specs.declared.Effect.{Effect}
@@ -14,7 +16,7 @@ use Rattle.registers.specs.declared.Effect.TheVariants.{TimerControl, DayField, 
 use Rattle.registers.specs.declared.Effect.TheVariants.{Power, SpiSend}
 use Rattle.registers.specs.declared.Port.{Port}
 use Rattle.registers.specs.declared.Port.TheVariants.{Select, Send, LcdControl, RtcCommand, Acts, Shows, Holds, Other}
-use Rattle.registers.specs.Ports.{named_rows, words_from, named_words, own_words, index, slot_of, slot_word, port_at}
+use Rattle.registers.specs.Ports.{named_rows, words_from, own_words, index, slot_of, slot_word, port_at}
 use Rattle.registers.specs.Ports.{day_word, port_of, timer_of}
 use Rattle.registers.specs.Words.{unstored, word_at, put_word}
 use Rattle.registers.specs.Within.{Tidy, non_zero, Full}
@@ -22,7 +24,6 @@ use Rattle.whole.proofs.Choice.{both, by_test, of_not}
 use Rattle.registers.proofs.Own.{slot_hit, by_slot}
 use Rattle.registers.proofs.Slots.{every, at_each, port_slot, port_none, port_own, has_slot, slot_no_day}
 use Rattle.registers.proofs.Count.{full_exactly}
-use Rattle.timer.specs.declared.Sounded.TheVariants.{Same, Change, SoundFull}
 use Rattle.timer.specs.Timers.{written_of}
 use Rattle.timer.specs.Sound.{differ_of, sounded_of}
 use Rattle.state.specs.declared.Devices.{Devices}
@@ -127,12 +128,12 @@ same_is false false h = refl
 all_followed : every (λ s. same (sound_word (slot_word s)) (on_effect followed_by (port_at s)
     (timer_of (slot_word s)))) 76 ≡
     true
-unfolding port_at own_words words_from named_words named_rows
+unfolding port_at own_words words_from named_rows
 all_followed = refl
 
 all_controls : every (λ s. same (eqb (slot_word s) SOUND_CONTROL)
     (on_effect control_by (port_at s) (timer_of (slot_word s)))) 76 ≡ true
-unfolding port_at own_words words_from named_words named_rows
+unfolding port_at own_words words_from named_rows
 all_controls = refl
 
 -- a test of words that passes none without a slot and is decided in each slot by the port
@@ -161,7 +162,7 @@ else : (word k : ℕ) → slot_of k < 76 → slot_of word ≡ 76 → eqb word k 
 else word k less none = ne_eqb word k (λ e. let z = ap slot_of e in omega arith)
 
 sound_port : (word : ℕ) → sound_word word ≡ on_effect followed_by (port_of word) (timer_of word)
-unfolding slot_of own_words words_from named_words named_rows index
+unfolding slot_of own_words words_from named_rows index
 sound_port =
     by_effect sound_word followed_by all_followed
     (λ word none. rw (
@@ -173,7 +174,7 @@ sound_port =
     (λ n. refl)
 
 control_port : (word : ℕ) → eqb word SOUND_CONTROL ≡ on_effect control_by (port_of word) (timer_of word)
-unfolding slot_of own_words words_from named_words named_rows index
+unfolding slot_of own_words words_from named_rows index
 control_port = by_effect (λ a. eqb a SOUND_CONTROL) control_by all_controls
     (λ word none. else word SOUND_CONTROL (lit< tt) none) (λ n. refl)
 
@@ -211,8 +212,8 @@ module _ (r : Registers) (d : Devices) (clock : ℕ) (full : Bool) (word new : �
   sound_order next v less follows e = rw (room_own r word new less, follows, e)
       (by (differ_of (tone_then r.slots clock word new) d.tone) full)
     where
-      by : (a b : Bool) → ◌≡◌ {A = ℕ} (sounding (cond a (cond b SoundFull (Change (tone_then r.slots clock word new)))
-          Same) r.slots d next word (stored_of word new)).wrote.refusal
+      by : (a b : Bool) → ◌≡◌ {A = ℕ} (sounding (cond a (cond b (Err SoundFull) (Ok (Some (tone_then r.slots clock
+          word new)))) (Ok None)) r.slots d next word (stored_of word new)).wrote.refusal
           (cond (a && b) 5 0)
       by true true = refl
       by true false = refl

@@ -6,6 +6,7 @@ use mathlib.Core.List.{List}
 use mathlib.Core.Logic.{◌≢◌, ◌⊎◌, inl, inr}
 use lib.Dec.{eqb, leb}
 use lib.Ieee.{Float}
+use Rattle.std.specs.Prelude.{Err, Ok}
 use Rattle.map.specs.Numbers.{DONE}
 use Rattle.whole.specs.Limits.{good_time}
 use Rattle.whole.proofs.Words.{either}
@@ -21,15 +22,13 @@ use Rattle.memory.specs.Places.{place_of}
 use Rattle.memory.specs.Access.{good_size, written_of}
 use Rattle.timer.specs.Events as events
 use Rattle.timer.specs.Events.{full_of, TakeOutcome}
-use Rattle.clock.specs.declared.Moved.{Moved}
-use Rattle.clock.specs.declared.Moved.TheVariants.{To, BadTime}
-use Rattle.clock.specs.declared.Paced.{Paced}
-use Rattle.clock.specs.declared.Paced.TheVariants.{By, BadTurbo}
+use Rattle.clock.specs.Times.{Moved}
+use Rattle.clock.specs.Times.{Paced}
 use Rattle.clock.specs.Times.{moved_of, paced_of}
 use Rattle.keys.specs.Live as keys
 use Rattle.keys.specs.Script as script
 use Rattle.keys.proofs.Cases.{press_each}
-use Rattle.time.specs.declared.NextTime.{NextTime}
+use Rattle.time.specs.Next.{NextTime}
 use Rattle.time.specs.Advance as move
 use Rattle.time.specs.Next as next
 use Rattle.state.specs.declared.Devices.{Devices}
@@ -77,7 +76,7 @@ SaidPlainly slots d x = x.wrote.refusal ≢ DONE → x ≡ own_out slots (answer
 module _ (slots : List ℕ) (d : Devices) (clock : ℕ) (full : Bool) where
   sound_plain : (next : Devices) (word v : ℕ) → SaidPlainly slots d (sound_written slots d next clock full word v)
   sound_plain next word v =
-      by_sound (SaidPlainly slots d) slots d clock full next word v (λ e h. refl) (λ e h. absurd (h refl))
+      by_sound (SaidPlainly slots d) slots d clock full next word v (λ r e h. refl) (λ e h. absurd (h refl))
       (λ tone e h. absurd (h refl))
 
   word_plain : (e : Effect) (word old new part : ℕ)
@@ -155,8 +154,8 @@ module _ (m : Machine) where
       by : (x : Moved) → Plainly m (by_move m
           (moving m.system (move.by_move m.system.registers.slots m.gpio m.system.presses.starts
           m.system.presses.codes m.system.devices.clocks m.system.keys (clock_in m.sram) x)))
-      by (To t) h = absurd (h refl)
-      by BadTime h = refl
+      by (Ok t) h = absurd (h refl)
+      by (Err r) h = refl
 
   next_plainly : Plainly m (step m next_event)
   unfolding step next_of next.next_of next.answered
@@ -168,8 +167,8 @@ module _ (m : Machine) where
   turbo_plainly to = by (paced_of m.system.devices.clocks.times to)
     where
       by : (p : Paced) → Plainly m (by_change m (pacing m.system p))
-      by (By t) h = absurd (h refl)
-      by BadTurbo h = refl
+      by (Ok t) h = absurd (h refl)
+      by (Err r) h = refl
 
   take_plainly : Plainly m (step m take_event)
   unfolding step take_of events.take_of

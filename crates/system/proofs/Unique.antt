@@ -3,7 +3,7 @@ use Prim.Native.Nat.{ℕ}
 use mathlib.Core.Path.{◌≡◌, ap}
 use mathlib.Core.List.{List}
 use Rattle.whole.proofs.Unique.{unique}
-use Rattle.system.specs.declared.Changed.{Changed}
+use Rattle.system.specs.Calls.{Changed}
 use Rattle.system.specs.declared.System.{System}
 use Rattle.system.specs.System.{Machine, machine, Left, left}
 use Rattle.system.specs.Calls.{Moved, moved}

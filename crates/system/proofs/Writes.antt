@@ -7,6 +7,8 @@ use native.Mathlib.Omega.{arith}
 use lib.ListN.{length, get_or}
 use lib.Bits.{bit_and}
 use lib.Dec.{eqb}
+use Rattle.std.specs.Prelude.{Err, None, Ok, Some}
+use Rattle.map.specs.declared.refusals.Refusal.TheVariants.{SoundFull}
 use Rattle.whole.specs.Words.{has}
 use Rattle.whole.proofs.Words.{either}
 use Rattle.map.specs.Numbers.{SOUND_CONTROL, SOUND_RELOAD, SOUND_COMPARE, LCD_DMA}
@@ -32,7 +34,6 @@ use Rattle.panel.specs.Within.{PanelWithin}
 use Rattle.panel.proofs.Limits.{later_within}
 use Rattle.timer.specs.declared.Tone.{Tone}
 use Rattle.timer.specs.declared.Queue.{Queue}
-use Rattle.timer.specs.declared.Sounded.TheVariants.{Same, Change, SoundFull}
 use Rattle.timer.specs.Canonical.{Canonical}
 use Rattle.timer.specs.Events.{full_of}
 use Rattle.timer.specs.Timers as timers
@@ -109,7 +110,7 @@ controlled_length r ram sram gpio t val =
 -- ---- the tone of a change is one that timer 4's words give, so its duty is held within 0.05 and 0.95
 
 pub changed_held : (slots : List ℕ) (state tone : Tone) (clock : ℕ) (full : Bool) (word v : ℕ) → clock < 2 ^ 32
-    → sound_of slots state clock full word v ≡ Change tone
+    → sound_of slots state clock full word v ≡ Ok (Some tone)
     → ToneWithin tone
 unfolding sound_of sounded_of
 changed_held slots state tone clock full word v h e = by (differ_of new state) full e
@@ -120,7 +121,7 @@ changed_held slots state tone clock full word v h e = by (differ_of new state) f
         (cond (eqb word SOUND_RELOAD) v (own_at slots SOUND_RELOAD))
         (cond (eqb word SOUND_COMPARE) v (own_at slots SOUND_COMPARE))
 
-    by : (a b : Bool) → cond a (cond b SoundFull (Change new)) Same ≡ Change tone → ToneWithin tone
+    by : (a b : Bool) → cond a (cond b (Err SoundFull) (Ok (Some new))) (Ok None) ≡ Ok (Some tone) → ToneWithin tone
     by true false e = let same : new ≡ tone = cc in subst ToneWithin same (tone_within clock _ _ _ h)
     by true true e = absurd (let z : ◌≡◌ {A = ℕ} 0 1 = cc in omega arith)
     by false b e = absurd (let z : ◌≡◌ {A = ℕ} 0 1 = cc in omega arith)
@@ -161,7 +162,7 @@ module _ (r : Registers) (rtc : List ℕ) (d : Devices) (w : BusWithin r rtc d) 
     sound_kept : (next : Devices) (word v : ℕ) → Kept (own_with r.slots word v) next
         → SaidKept (sound_written r.slots d next clock full word v)
     sound_kept next word v h =
-        by_sound SaidKept r.slots d clock full next word v (λ e. w) (λ e. h)
+        by_sound SaidKept r.slots d clock full next word v (λ n e. w) (λ e. h)
         (λ tone e. record {
           registers = h.registers;
           others = h.others;

@@ -1,16 +1,18 @@
 -- What each call answers and leaves, by the definitions of the crates below.
-use Rattle.std.specs.Prelude.{ℕ, Bool, List, Float, replicate}
-use Rattle.map.specs.Numbers.{DONE, BAD_TURBO}
-use Rattle.clock.specs.declared.Paced.{Paced}
-use Rattle.clock.specs.declared.Paced.TheVariants.{By, BadTurbo}
+use Rattle.std.specs.Prelude.{ℕ, Bool, List, Float, replicate, Err, Ok, Result}
+use Rattle.map.specs.declared.refusals.Refusal.{Refusal}
+use Rattle.map.specs.Refusals.{code_of, number_of, value_or}
+use Rattle.map.specs.Numbers.{DONE}
+use Rattle.clock.specs.Times.{Paced}
 use Rattle.clock.specs.Times.{paced_of}
 use Rattle.timer.specs.Events as events
-use Rattle.timer.specs.Events.{TakeOutcome}
+use Rattle.timer.specs.declared.Event.{Event}
+use Rattle.timer.specs.Events.{TakeOutcome, nothing}
 use Rattle.keys.specs.declared.Held.{Held}
 use Rattle.keys.specs.Live as live
 use Rattle.keys.specs.Script as script
 use Rattle.keys.specs.Within.{with_count, with_applied}
-use Rattle.time.specs.declared.NextTime.{NextTime}
+use Rattle.time.specs.Next.{NextTime}
 use Rattle.time.specs.Irq as irq
 use Rattle.time.specs.Advance as move
 use Rattle.time.specs.Next as next
@@ -20,13 +22,38 @@ use Rattle.time.specs.Clocks.{clock_in}
 use Rattle.bus.specs.Read as read
 use Rattle.bus.specs.Read.{ReadOut}
 use Rattle.system.specs.declared.System.{System}
-use Rattle.system.specs.declared.Changed.{Changed}
-use Rattle.system.specs.declared.Read.{Read}
-use Rattle.system.specs.declared.Taken.{Taken}
 use Rattle.system.specs.declared.Counters.{Counters}
 use Rattle.bus.specs.Sounds.{noted}
 use Rattle.system.specs.System.{Machine, machine, Left, left, presses, with_slots, with_clocks, with_times, with_keys}
 use Rattle.system.specs.System.{with_presses, with_queue, world_in, with_world, fresh_system}
+
+-- 01's number, and the later state
+pub record Changed : Type 0 where
+  pub refusal : ℕ
+  pub system : System
+
+-- with the word that was read
+pub record Read : Type 0 where
+  pub refusal : ℕ
+  pub value : ℕ
+  pub system : System
+
+-- with the event that was taken
+pub record Taken : Type 0 where
+  pub refusal : ℕ
+  pub event : Event
+  pub system : System
+
+-- what a call answers on the state s: where it refuses, s stays, beside the word 0 or an event of zeros
+abbrev pub changed_by : System → Result System Refusal → Changed
+changed_by s r = record { refusal = number_of r; system = value_or r s }
+
+abbrev pub read_by : System → Result (ℕ × System) Refusal → Read
+read_by s r = record { refusal = number_of r; value = (value_or r (0, s)).0; system = (value_or r (0, s)).1 }
+
+abbrev pub taken_by : System → Result (Event × System) Refusal → Taken
+taken_by s r =
+    record { refusal = number_of r; event = (value_or r (nothing, s)).0; system = (value_or r (nothing, s)).1 }
 
 abbrev pub changed : ℕ → System → Changed
 changed n s = record { refusal = n; system = s }
@@ -69,8 +96,8 @@ unfoldable pub next_of : System → List ℕ → NextTime
 next_of s sram = next.next_of s.registers.slots s.presses.starts s.devices.clocks s.keys (clock_in sram)
 
 abbrev pub pacing : System → Paced → Changed
-pacing s (By t) = changed DONE (with_times s t)
-pacing s BadTurbo = changed BAD_TURBO s
+pacing s (Ok t) = changed DONE (with_times s t)
+pacing s (Err r) = changed (code_of r) s
 
 unfoldable pub turbo_of : System → Float → Changed
 turbo_of s to = pacing s (paced_of s.devices.clocks.times to)

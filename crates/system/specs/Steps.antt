@@ -6,12 +6,12 @@ use Rattle.whole.specs.Forms.{bit}
 use Rattle.panel.specs.declared.Colours.{Colours}
 use Rattle.panel.specs.Colour.{pixel_at}
 use Rattle.keys.specs.declared.Held.{Held}
-use Rattle.time.specs.declared.NextTime.{NextTime}
+use Rattle.time.specs.Next.{NextTime}
 use Rattle.block.specs.Block.{Plain, plain, peek_of, peeked32, laid_of}
 use Rattle.system.specs.declared.System.{System}
-use Rattle.system.specs.declared.Changed.{Changed}
-use Rattle.system.specs.declared.Read.{Read}
-use Rattle.system.specs.declared.Taken.{Taken}
+use Rattle.system.specs.Calls.{Changed}
+use Rattle.system.specs.Calls.{Read}
+use Rattle.system.specs.Calls.{Taken}
 use Rattle.system.specs.declared.Counters.{Counters}
 use Rattle.system.specs.System.{Machine, machine, Left}
 use Rattle.system.specs.Normal.{normal}

@@ -1,33 +1,39 @@
 // Reads and writes on the bus.
 ghost use Rattle.std.specs.Prelude.{◌≡◌};
 ghost use Rattle.system.specs.System.{machine, left};
-ghost use Rattle.system.specs.Calls.{read_of, write_of};
+ghost use Rattle.map.specs.Refusals.{number_of, value_or};
+ghost use Rattle.system.specs.Calls.{read_by, read_of, write_of};
 
-use crate::parts::{parts_of, with_slots};
-use crate::{Changed, Read, System};
-use registers::Registers;
-use state::{CELLS, FLOATS};
-use timer::Queue;
+use crate::System;
+use crate::parts::{Bank, with_slots};
+use map::Refusal;
 
-pub fn read(s: System, ram: &[u8], sram: &[u8], gpio: &[u8], addr: u32, size: u32) -> Read
-    ensures { result ≡ read_of s ram.now sram.now gpio.now addr size }
+pub fn read(
+    s: System,
+    ram: &[u8],
+    sram: &[u8],
+    gpio: &[u8],
+    addr: u32,
+    size: u32,
+) -> Result<(u32, System), Refusal>
+    ensures { read_by s result ≡ read_of s ram.now sram.now gpio.now addr size }
 {
-    let registers = s.registers;
-    let mut slots = registers.slots;
-    let addresses = registers.addresses;
-    let values = registers.values;
-    let mut cells = [0; CELLS];
-    let mut floats = [0.0; FLOATS];
-    state::wholes::put_parts(&mut cells, &mut floats, parts_of(s));
-    let got = bus::read::read(
-        &mut slots, &addresses, &values, &cells, &floats, ram, sram, gpio, addr, size,
-    );
-    let system = with_slots(s, slots);
-    Read {
-        refusal: got.refusal,
-        value: got.value,
-        system,
-    }
+    let held = s.registers;
+    let mut slots = held.slots;
+    let bank = Bank::of(s);
+    let value = bus::read::read(
+        &mut slots,
+        &held.addresses,
+        &held.values,
+        &bank.cells,
+        &bank.floats,
+        ram,
+        sram,
+        gpio,
+        addr,
+        size,
+    )?;
+    Ok((value, with_slots(s, slots)))
 }
 
 pub fn write(
@@ -39,36 +45,28 @@ pub fn write(
     addr: u32,
     size: u32,
     value: u32,
-) -> Changed
-    ensures { left (machine result.system ram.new sram.new gpio.new
-        fb.new) result.refusal
+) -> Result<System, Refusal>
+    ensures { left (machine (value_or result s) ram.new sram.new gpio.new
+        fb.new) (number_of result)
         ≡ write_of (machine s ram.old sram.old gpio.old fb.old) addr size
         value }
 {
-    let registers = s.registers;
-    let mut slots = registers.slots;
-    let mut addresses = registers.addresses;
-    let mut values = registers.values;
+    let mut registers = s.registers;
     let mut rtc = s.rtc;
     let mut page = s.page;
-    let queue = s.queue;
-    let mut onsets = queue.onsets;
-    let mut frequencies = queue.frequencies;
-    let mut duties = queue.duties;
-    let mut cells = [0; CELLS];
-    let mut floats = [0.0; FLOATS];
-    state::wholes::put_parts(&mut cells, &mut floats, parts_of(s));
-    let answer = bus::write::write(
-        &mut slots,
-        &mut addresses,
-        &mut values,
+    let mut queue = s.queue;
+    let mut bank = Bank::of(s);
+    bus::write::write(
+        &mut registers.slots,
+        &mut registers.addresses,
+        &mut registers.values,
         &mut rtc,
         &mut page,
-        &mut onsets,
-        &mut frequencies,
-        &mut duties,
-        &mut cells,
-        &mut floats,
+        &mut queue.onsets,
+        &mut queue.frequencies,
+        &mut queue.duties,
+        &mut bank.cells,
+        &mut bank.floats,
         ram,
         sram,
         gpio,
@@ -76,31 +74,16 @@ pub fn write(
         addr,
         size,
         value,
-    );
-    let parts = state::wholes::parts_of(&cells, &floats);
-    let devices = parts.devices;
-    let ring = parts.ring;
-    let keys = parts.keys;
-    let presses = s.presses;
-    Changed {
-        refusal: answer.refusal,
-        system: System {
-            registers: Registers {
-                slots,
-                addresses,
-                values,
-            },
-            rtc,
-            page,
-            devices,
-            queue: Queue {
-                onsets,
-                frequencies,
-                duties,
-                ring,
-            },
-            presses,
-            keys,
-        },
-    }
+    )?;
+    let parts = bank.parts();
+    queue.ring = parts.ring;
+    Ok(System {
+        registers,
+        rtc,
+        page,
+        devices: parts.devices,
+        queue,
+        presses: s.presses,
+        keys: parts.keys,
+    })
 }

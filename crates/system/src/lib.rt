@@ -1,8 +1,9 @@
 // The whole: `System` of core/src/sys.rs by value, beside the lent memories.
 //
-// Each call takes the state and gives the later one. What is lent is a memory of any length: what lies past its end
-// reads as 0 and is not stored. A caller that steps often uses the functions of crates bus and time, which these are
-// around, and wipe's reset and wipe_all, over lent arrays.
+// Each call takes the state and gives the later one, or says why it refuses; then the state is the one that was given.
+// What is lent is a memory of any length: what lies past its end reads as 0 and is not stored. A caller that steps
+// often uses the functions of crates bus and time, which these are around, and wipe's reset and wipe_all, over lent
+// arrays.
 #![tactic(auto)]
 
 pub mod access;
@@ -15,7 +16,7 @@ pub mod wipe;
 use keys::Keys;
 use registers::Registers;
 use state::Devices;
-use timer::{Event, Queue};
+use timer::Queue;
 
 // Scripted presses: when each starts and its key, in 64 places.
 #[derive(Clone, Copy)]
@@ -33,27 +34,6 @@ pub struct System {
     pub queue: Queue,
     pub presses: Presses,
     pub keys: Keys,
-}
-
-// What a call answers that changes the state: 01's refusal number, 0 where it is done, and the later state.
-#[derive(Drop)]
-pub struct Changed {
-    pub refusal: u8,
-    pub system: System,
-}
-
-#[derive(Drop)]
-pub struct Read {
-    pub refusal: u8,
-    pub value: u32,
-    pub system: System,
-}
-
-#[derive(Drop)]
-pub struct Taken {
-    pub refusal: u8,
-    pub event: Event,
-    pub system: System,
 }
 
 // Frames drawn, flash writes, and whether the power is off.

@@ -1,113 +1,82 @@
 // Time: advance, next_event, turbo, interrupts, sound events.
 ghost use Rattle.std.specs.Prelude.{◌≡◌};
+ghost use Rattle.time.specs.Next.{next_answer};
+ghost use Rattle.system.specs.Calls.{changed_by, taken_by};
 ghost use Rattle.system.specs.Calls.{moved, advance_of, turbo_of, next_of, pending_of, wanted_of, take_of};
 
-use crate::parts::{parts_of, with_parts, with_slots};
-use crate::{Changed, System, Taken};
-use state::{CELLS, FLOATS};
-use time::NextTime;
-use timer::Queue;
+use crate::System;
+use crate::parts::{Bank, with_parts, with_slots};
+use map::Refusal;
+use timer::Event;
+use whole::limits::Given;
 
-pub fn advance(s: System, sram: &[u8], gpio: &mut [u8], to: f64) -> Changed
-    ensures { moved result gpio.new ≡ advance_of s sram.now gpio.old to }
+pub fn advance<T: Given>(s: System, sram: &[u8], gpio: &mut [u8], to: T) -> Result<System, Refusal>
+    ensures { moved (changed_by s result) gpio.new ≡ advance_of s sram.now gpio.old (T.float to) }
 {
-    let registers = s.registers;
-    let mut slots = registers.slots;
+    let mut slots = s.registers.slots;
     let presses = s.presses;
-    let starts = presses.starts;
-    let codes = presses.codes;
-    let mut cells = [0; CELLS];
-    let mut floats = [0.0; FLOATS];
-    state::wholes::put_parts(&mut cells, &mut floats, parts_of(s));
-    let refusal = time::advancing::advance(
+    let mut bank = Bank::of(s);
+    time::advancing::advance(
         &mut slots,
-        &mut cells,
-        &mut floats,
+        &mut bank.cells,
+        &mut bank.floats,
         sram,
         gpio,
-        &starts,
-        &codes,
+        &presses.starts,
+        &presses.codes,
         to,
-    );
-    let system = with_parts(
-        with_slots(s, slots),
-        state::wholes::parts_of(&cells, &floats),
-    );
-    Changed { refusal, system }
+    )?;
+    Ok(bank.put_back(with_slots(s, slots)))
 }
 
-pub fn next_event(s: System, sram: &[u8]) -> NextTime
-    ensures { result ≡ next_of s sram.now }
+pub fn next_event(s: System, sram: &[u8]) -> Result<f64, Refusal>
+    ensures { next_answer result ≡ next_of s sram.now }
 {
-    let registers = s.registers;
-    let slots = registers.slots;
-    let presses = s.presses;
-    let starts = presses.starts;
-    let mut cells = [0; CELLS];
-    let mut floats = [0.0; FLOATS];
-    state::wholes::put_parts(&mut cells, &mut floats, parts_of(s));
-    time::next::next_event(&slots, &cells, &floats, sram, &starts)
+    let slots = s.registers.slots;
+    let starts = s.presses.starts;
+    let bank = Bank::of(s);
+    time::next::next_event(&slots, &bank.cells, &bank.floats, sram, &starts)
 }
 
-pub fn set_turbo(s: System, to: f64) -> Changed
-    ensures { result ≡ turbo_of s to }
+pub fn set_turbo<T: Given>(s: System, to: T) -> Result<System, Refusal>
+    ensures { changed_by s result ≡ turbo_of s (T.float to) }
 {
-    let mut cells = [0; CELLS];
-    let mut floats = [0.0; FLOATS];
-    state::wholes::put_parts(&mut cells, &mut floats, parts_of(s));
-    let refusal = time::pace::set_turbo(&mut floats, to);
-    let system = with_parts(s, state::wholes::parts_of(&cells, &floats));
-    Changed { refusal, system }
+    let mut bank = Bank::of(s);
+    time::pace::set_turbo(&mut bank.floats, to)?;
+    Ok(bank.put_back(s))
 }
 
 pub fn pending_irq(s: System) -> u32
     ensures { result ≡ pending_of s }
 {
-    let registers = s.registers;
-    let slots = registers.slots;
-    let mut cells = [0; CELLS];
-    let mut floats = [0.0; FLOATS];
-    state::wholes::put_parts(&mut cells, &mut floats, parts_of(s));
-    time::irq::pending_irq(&slots, &cells)
+    let slots = s.registers.slots;
+    let bank = Bank::of(s);
+    time::irq::pending_irq(&slots, &bank.cells)
 }
 
 pub fn irq_wanted(s: System) -> bool
     ensures { result ≡ wanted_of s }
 {
-    let registers = s.registers;
-    let slots = registers.slots;
-    let mut cells = [0; CELLS];
-    let mut floats = [0.0; FLOATS];
-    state::wholes::put_parts(&mut cells, &mut floats, parts_of(s));
-    time::irq::irq_wanted(&slots, &cells)
+    let slots = s.registers.slots;
+    let bank = Bank::of(s);
+    time::irq::irq_wanted(&slots, &bank.cells)
 }
 
 // The oldest sound event.
-pub fn take_event(s: System) -> Taken
-    ensures { result ≡ take_of s }
+pub fn take_event(s: System) -> Result<(Event, System), Refusal>
+    ensures { taken_by s result ≡ take_of s }
 {
-    let before = s.queue;
-    let mut onsets = before.onsets;
-    let mut frequencies = before.frequencies;
-    let mut duties = before.duties;
-    let mut cells = [0; CELLS];
-    let mut floats = [0.0; FLOATS];
-    state::wholes::put_parts(&mut cells, &mut floats, parts_of(s));
-    let waited = time::tones::take_event(&mut onsets, &mut frequencies, &mut duties, &mut cells);
-    let event = waited.event;
-    let parts = state::wholes::parts_of(&cells, &floats);
-    let ring = parts.ring;
-    let queue = Queue {
-        onsets,
-        frequencies,
-        duties,
-        ring,
-    };
+    let mut queue = s.queue;
+    let mut bank = Bank::of(s);
+    let event = time::tones::take_event(
+        &mut queue.onsets,
+        &mut queue.frequencies,
+        &mut queue.duties,
+        &mut bank.cells,
+    )?;
+    let parts = bank.parts();
+    queue.ring = parts.ring;
     let mut next = with_parts(s, parts);
     next.queue = queue;
-    Taken {
-        refusal: waited.refusal,
-        event,
-        system: next,
-    }
+    Ok((event, next))
 }

@@ -1,5 +1,5 @@
 // The wipe: the fresh state, and all four memories zero.
-ghost use Rattle.std.specs.Prelude.{◌≡◌, length, replicate};
+ghost use Rattle.std.specs.Prelude.{◌≡◌, length};
 ghost use Rattle.state.specs.Bank.{parts_in};
 ghost use Rattle.state.specs.Packed.{cells_of, floats_of};
 ghost use Rattle.time.specs.Clocks.{fresh_clocks};
@@ -16,13 +16,10 @@ use timer::{Queue, Ring};
 fn fresh_clocks() -> Clocks
     ensures { result ≡ fresh_clocks }
 {
-    let times = clock::pace::fresh();
-    let timer = timer::fresh();
-    let irq = clock::day::fresh();
     Clocks {
-        times,
-        timers: [timer; 6],
-        irq,
+        times: clock::pace::fresh(),
+        timers: [timer::fresh(); 6],
+        irq: clock::day::fresh(),
         vsync: 0,
         converting: false,
     }
@@ -32,27 +29,17 @@ fn fresh_clocks() -> Clocks
 fn fresh_parts() -> Parts
     ensures { result ≡ fresh_parts }
 {
-    let made = flash::SpiFlash::new();
-    let rtc = clock::chip::fresh();
-    let flash = made.chip;
-    let panel = panel::fresh();
-    let clocks = fresh_clocks();
-    let latch = rtc.latch;
-    let tone = timer::sound::silent();
-    let ring = Ring { head: 0, count: 0 };
-    let keys = keys::fresh();
-    let devices = Devices {
-        flash,
-        panel,
-        clocks,
-        latch,
-        tone,
-        off: false,
-    };
     Parts {
-        devices,
-        ring,
-        keys,
+        devices: Devices {
+            flash: flash::SpiFlash::new().chip,
+            panel: panel::fresh(),
+            clocks: fresh_clocks(),
+            latch: clock::chip::fresh().latch,
+            tone: timer::sound::silent(),
+            off: false,
+        },
+        ring: Ring { head: 0, count: 0 },
+        keys: keys::fresh(),
     }
 }
 
@@ -77,8 +64,7 @@ pub fn reset(
         ≡ fresh_system) × (cells.new ≡ cells_of fresh_parts) × (floats.new ≡ floats_of fresh_parts) }
 {
     registers::clear(slots, addresses, values);
-    let chip = clock::chip::fresh();
-    let regs = chip.regs;
+    let regs = clock::chip::fresh().regs;
     *rtc = regs;
     flash::made(Mode::Rust, page);
     timer::events::empty_in(onsets, frequencies, duties);
@@ -113,10 +99,10 @@ pub fn wipe_all(
         (length fb.old))
         × (cells.new ≡ cells_of fresh_parts) × (floats.new ≡ floats_of fresh_parts) }
 {
-    clear(ram);
-    clear(sram);
-    clear(gpio);
-    clear(fb);
+    ram.fill(0);
+    sram.fill(0);
+    gpio.fill(0);
+    fb.fill(0);
     reset(
         slots,
         addresses,
@@ -164,9 +150,6 @@ pub fn fresh() -> System
         &mut floats,
     );
     let parts = state::wholes::parts_of(&cells, &floats);
-    let devices = parts.devices;
-    let ring = parts.ring;
-    let keys = parts.keys;
     System {
         registers: Registers {
             slots,
@@ -175,26 +158,15 @@ pub fn fresh() -> System
         },
         rtc,
         page,
-        devices,
+        devices: parts.devices,
         queue: Queue {
             onsets,
             frequencies,
             duties,
-            ring,
+            ring: parts.ring,
         },
         presses: Presses { starts, codes },
-        keys,
-    }
-}
-
-fn clear(m: &mut [u8])
-    ensures { m.new ≡ replicate (length m.old) 0 }
-{
-    let n = m.len();
-    let mut i: usize = 0;
-    while i < n {
-        m[i] = 0;
-        i += 1;
+        keys: parts.keys,
     }
 }
 
@@ -203,9 +175,9 @@ pub fn wipe(ram: &mut [u8], sram: &mut [u8], gpio: &mut [u8], fb: &mut [u8]) -> 
         ≡ wiped_of (length ram.old) (length sram.old) (length gpio.old)
         (length fb.old) }
 {
-    clear(ram);
-    clear(sram);
-    clear(gpio);
-    clear(fb);
+    ram.fill(0);
+    sram.fill(0);
+    gpio.fill(0);
+    fb.fill(0);
     fresh()
 }

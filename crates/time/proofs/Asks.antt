@@ -1,10 +1,12 @@
 -- Turbo, keys and sound events over the bank.
 use Rattle.std.proofs.Common.{◌≡◌, ℕ, Bool, true, false, cond, ◌≢◌, List, sym, ap, ◌∙◌, arith}
 use lib.Ieee.{Float}
+use Rattle.std.specs.Prelude.{Err, Ok, Result}
+use Rattle.map.specs.declared.refusals.Refusal.{Refusal}
+use Rattle.map.specs.declared.refusals.Refusal.TheVariants.{BadTurbo}
 use Rattle.whole.specs.Limits.{good_turbo}
 use Rattle.clock.specs.declared.Times.{Times}
-use Rattle.clock.specs.declared.Paced.{Paced}
-use Rattle.clock.specs.declared.Paced.TheVariants.{By, BadTurbo}
+use Rattle.clock.specs.Times.{Moved}
 use Rattle.clock.specs.Times.{paced_of}
 use Rattle.timer.specs.declared.Event.{Event}
 use Rattle.timer.specs.declared.Ring.{Ring}
@@ -12,9 +14,7 @@ use Rattle.timer.specs.Events.{queue_of, TakeOutcome, take_of}
 use Rattle.timer.specs.declared.Queue.{Queue}
 use Rattle.timer.proofs.Waiting.{take_still}
 use Rattle.keys.specs.declared.Keys.{Keys}
-use Rattle.keys.specs.declared.Refusal.{Refusal}
-use Rattle.keys.specs.declared.Tap.{Tap}
-use Rattle.keys.specs.Keys.{number_of}
+use Rattle.map.specs.Refusals.{code_of, number_of}
 use Rattle.keys.proofs.Still.{live_still, press_still}
 use Rattle.keys.proofs.Cases.{live_by, hold_by}
 use Rattle.keys.specs.Live as live
@@ -28,34 +28,36 @@ use Rattle.time.specs.Bank.{Asked, asked, paced_put, keys_asked, pressed, presse
 
 -- ---- turbo
 
-pub paced_by : (x : Parts) (t : Times) {to : Paced} {y : Parts} → to ≡ By t
+pub paced_by : (x : Parts) (t : Times) {to : Moved} {y : Parts} → to ≡ Ok t
     → t ≡ turbo_with x.devices.clocks.times t.turbo → y ≡ turbo_put x t.turbo
     → asked y 0 ≡ paced_put x to
 paced_by x t {to} {y} h k e = rw h (ap (λ (z : Parts). asked z 0) (e ∙ ap (λ (z : Times). times_put x z) (sym k)))
 
-pub paced_bad : (x : Parts) {to : Paced} → to ≡ BadTurbo → asked x 2 ≡ paced_put x to
-paced_bad x h = rw h
+pub paced_bad : (x : Parts) (r : Refusal) {to : Moved} → to ≡ Err r → asked x (code_of r) ≡ paced_put x to
+paced_bad x r h = rw h
 
 -- set_turbo moves the turbo alone
-pub paced_turbo : {s : Times} (f : List Float) (to : Float) {p : Paced} (t : Times) → s ≡ times_in f → p ≡ paced_of s to
-    → p ≡ By t
+pub paced_turbo : {s : Times} (f : List Float) (to : Float) {p : Moved} (t : Times) → s ≡ times_in f → p ≡ paced_of s to
+    → p ≡ Ok t
     → t ≡ turbo_with (times_in f) t.turbo
 unfolding paced_of
 paced_turbo {s} f to t a b e = by (good_turbo to) (sym (b ∙ ap (λ (z : Times). paced_of z to) a) ∙ e)
   where
-    by : (g : Bool) → cond g (By (turbo_with (times_in f) to)) BadTurbo ≡ By t → t ≡ turbo_with (times_in f) t.turbo
+    by : (g : Bool) → cond g (Ok (turbo_with (times_in f) to)) (Err BadTurbo) ≡ Ok t → t
+        ≡ turbo_with (times_in f) t.turbo
     by true h = let z : turbo_with (times_in f) to ≡ t = cc in rw (← z)
     by false h = absurd (let z : ◌≡◌ {A = ℕ} 0 1 = cc in omega arith)
 
-pub paced_of_lem : {K : Type 0} (x : Parts) (f : List Float) (to : Float) {times : Times} {p : Paced} {a : Asked}
+pub paced_of_lem : {K : Type 0} (x : Parts) (f : List Float) (to : Float) {times : Times} {p : Moved} {a : Asked}
     → times ≡ times_in f → p ≡ paced_of times to
     → (a ≡ paced_put x p) × K → (a ≡ paced_put x (paced_of (times_in f) to)) × K
-paced_of_lem x f to t e h = (h.0 ∙ ap (λ (z : Paced). paced_put x z) (e ∙ ap (λ (z : Times). paced_of z to) t), h.1)
+paced_of_lem x f to t e h = (h.0 ∙ ap (λ (z : Moved). paced_put x z) (e ∙ ap (λ (z : Times). paced_of z to) t), h.1)
 
 -- ---- keys
 
 -- a live key, by what is decided of it; refused, the keys are as they were
-module _ (x : Parts) (key : ℕ) (down : Bool) {r : Refusal} {n : ℕ} (e : r ≡ key_refusal key) (h : n ≡ number_of r) where
+module _ (x : Parts) (key : ℕ) (down : Bool) {r : Result Unit Refusal} {n : ℕ} (e : r ≡ key_refusal key)
+    (h : n ≡ number_of r) where
   asks : n ≡ (live_of x.keys key down).refusal
   asks = h ∙ ap number_of e ∙ ap (λ (o : live.Outcome). o.refusal) (live_by x.keys key down)
 
@@ -68,7 +70,8 @@ module _ (x : Parts) (key : ℕ) (down : Bool) {r : Refusal} {n : ℕ} (e : r �
       ∙ ap (λ (o : live.Outcome). keys_asked x o) (live_by x.keys key down)
 
 -- and a tap
-pub hold_of_lem : {K : Type 0} (x : Parts) (key : ℕ) (until : Float) {t : Tap} {a : Asked} → t ≡ tap_of key until
+pub hold_of_lem : {K : Type 0} (x : Parts) (key : ℕ) (until : Float) {t : Result Float Refusal} {a : Asked} → t
+    ≡ tap_of key until
     → (a ≡ keys_asked x (tap_put x.keys key t)) × K → (a ≡ keys_asked x (hold_of x.keys key until)) × K
 hold_of_lem x key until e i = (i.0 ∙ ap (λ (o : live.Outcome). keys_asked x o) (hold_by x.keys key until e), i.1)
 

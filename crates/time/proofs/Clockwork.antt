@@ -4,7 +4,10 @@ use Rattle.std.proofs.Common.{set, sym, refl, ap, ◌∙◌, arith, ltb-true, lt
 use mathlib.Core.Bool.{false≢true}
 use lib.Bits.{bit_and, bit_or}
 use lib.Ieee.{Float, nan}
-use Rattle.map.specs.Numbers.{DONE, BAD_TIME, TIMER_COUNT, ADC_CONTROL, ADC_RESULT, LCD_STATUS, RTC_IRQ_STATUS}
+use Rattle.std.specs.Prelude.{Err, Ok}
+use Rattle.map.specs.declared.refusals.Refusal.{Refusal}
+use Rattle.map.specs.Refusals.{code_of}
+use Rattle.map.specs.Numbers.{DONE, TIMER_COUNT, ADC_CONTROL, ADC_RESULT, LCD_STATUS, RTC_IRQ_STATUS}
 use Rattle.registers.specs.Words.{own_at, own_with}
 use Rattle.registers.specs.Ports.{slot_of}
 use Rattle.clock.specs.declared.Times.{Times}
@@ -12,8 +15,7 @@ use Rattle.clock.specs.declared.RtcIrq.{RtcIrq}
 use Rattle.clock.specs.declared.Signal.{Signal}
 use Rattle.clock.specs.declared.Ticked.{Ticked}
 use Rattle.clock.specs.declared.Adc.{Adc}
-use Rattle.clock.specs.declared.Moved.{Moved}
-use Rattle.clock.specs.declared.Moved.TheVariants.{To, BadTime}
+use Rattle.clock.specs.Times.{Moved}
 use Rattle.clock.specs.Times.{moved_of}
 use Rattle.clock.specs.Sources.{signal_of, vsync_of, tick_of, ticked_of}
 use Rattle.clock.specs.Adc.{converted_of}
@@ -85,7 +87,7 @@ timer_stays slots l f n now clock {control} c h =
     (ap (λ (z : List Timer). timers_put (parts_in l f) z) (sym (put_same (timers_in l f) n none)))
 
 -- timer n by a step of its own, and the six one after the other
-abbrev stepped : (ℕ → Timer → Timer) → Parts → ℕ → Parts
+abbrev pub stepped : (ℕ → Timer → Timer) → Parts → ℕ → Parts
 stepped s x n = timer_put x n (s n (get_or x.devices.clocks.timers n none))
 
 timers_by : (s : ℕ → Timer → Timer) (l : List ℕ) (f : List Float) {a b c d e g : Parts}
@@ -94,7 +96,7 @@ timers_by : (s : ℕ → Timer → Timer) (l : List ℕ) (f : List Float) {a b c
     → g ≡ timers_put (parts_in l f) (list_of (λ n. s n (get_or (timers_in l f) n none)) 0 TIMER_COUNT)
 timers_by s l f h i j k m n = rw (n, m, k, j, i, h)
 
-abbrev advancing : List ℕ → Float → ℕ → ℕ → Timer → Timer
+abbrev pub advancing : List ℕ → Float → ℕ → ℕ → Timer → Timer
 advancing slots now clock n t = timer_after slots n t now clock
 
 pub timers_stepped : (slots l : List ℕ) (f : List Float) (now : Float) (clock : ℕ) {a b c d e g : Parts}
@@ -123,7 +125,7 @@ unfolding resynced_of timer_floats timer_in
 start_same l f n now clock control reload less e h i =
     rw (i, h, e, ← timer_got l f n less, lt-ltb n TIMER_COUNT less) (put_same f (3 + n) nan)
 
-abbrev resyncing : List ℕ → Float → ℕ → ℕ → Timer → Timer
+abbrev pub resyncing : List ℕ → Float → ℕ → ℕ → Timer → Timer
 resyncing slots now clock n t = resynced_of t now clock (control_word slots n) (reload_word slots n)
 
 pub timers_resynced_lem : (slots l : List ℕ) (f : List Float) (now : Float) (clock : ℕ) {a b c d e g : Parts}
@@ -252,17 +254,17 @@ module _ (slots gpio : List ℕ) (starts : List Float) (codes : List ℕ) (x : P
       ap (λ (w : Parts). moved_bank slots₁ gpio₁ DONE w) u ∙ ap (λ (w : Outcome). moves_of x w) s
 
 module _ (slots gpio : List ℕ) (starts : List Float) (codes : List ℕ) (x : Parts) (sram : List ℕ) (m : Moved) where
-  pub goes : (t : Times) {clock : ℕ} {r : MovedBank} → m ≡ To t → clock ≡ clock_in sram
+  pub goes : (t : Times) {clock : ℕ} {r : MovedBank} → m ≡ Ok t → clock ≡ clock_in sram
       → r ≡ moves_of x (moved_to slots gpio starts codes x.devices.clocks x.keys clock t)
       → r ≡ moves_of x (by_move slots gpio starts codes x.devices.clocks x.keys (clock_in sram) m)
   unfolding by_move
   goes t h c i = rw (h, ← c) i
 
-  pub rests : m ≡ BadTime → moved_bank slots gpio BAD_TIME x
+  pub rests : (r : Refusal) → m ≡ Err r → moved_bank slots gpio (code_of r) x
       ≡ moves_of x (by_move slots gpio starts codes x.devices.clocks
       x.keys (clock_in sram) m)
   unfolding by_move
-  rests h = rw h
+  rests r h = rw h
 
   pub goes_by : (to : Float) {times₀ : Times} {r : MovedBank} → times₀ ≡ x.devices.clocks.times
       → m ≡ moved_of times₀ to

@@ -1,6 +1,7 @@
 -- The clocks stay within the limits, whatever is done to them, and neither time goes back.
 use Rattle.std.proofs.Common.{◌≡◌, ℕ, zero, suc, ◌^◌, ◌<◌, Bool, List, [], ◌∷◌, get_or, set, refl, arith, lit<}
 use lib.Ieee.{Float, of_bits}
+use Rattle.std.specs.Prelude.{Err, Ok}
 use Rattle.whole.proofs.Clear.{at_most_clear}
 use Rattle.whole.proofs.Order.{good_clear, le_refl_clear}
 use Rattle.timer.specs.declared.Timer.{Timer}
@@ -8,9 +9,7 @@ use Rattle.timer.specs.Timers.{fresh_timer, written_of, resynced_of}
 use Rattle.timer.specs.Within.{Started}
 use Rattle.timer.proofs.Limits.{advance_started, resync_started, fresh_started, write_started, later_started}
 use Rattle.clock.specs.declared.Times.{Times}
-use Rattle.clock.specs.declared.Moved.{Moved}
-use Rattle.clock.specs.declared.Moved.TheVariants.{To, BadTime}
-use Rattle.clock.specs.declared.Paced.TheVariants.{By}
+use Rattle.clock.specs.Times.{Moved}
 use Rattle.clock.specs.Times.{fresh_times, moved_of, paced_of}
 use Rattle.clock.specs.Day.{set_of}
 use Rattle.clock.specs.Within.{Within, Later, DaySet}
@@ -104,9 +103,9 @@ module _ (slots gpio : List ℕ) (starts : List Float) (codes : List ℕ) (c : C
   advance_within h = by (moved_of c.times to) refl
     where
       by : (m : Moved) → moved_of c.times to ≡ m → ClocksWithin (by_move slots gpio starts codes c k clock m).clocks
-      by (To t) e = let p : Within t × Later c.times t = moves_within c.times t to w.times e in
+      by (Ok t) e = let p : Within t × Later c.times t = moves_within c.times t to w.times e in
           devices_within slots c clock t w h p.0 p.1
-      by BadTime e = w
+      by (Err r) e = w
 
   -- and neither time goes back
   pub later_times : Later c.times (advance_of slots gpio starts codes c k clock to).clocks.times
@@ -115,8 +114,8 @@ module _ (slots gpio : List ℕ) (starts : List Float) (codes : List ℕ) (c : C
     where
       by : (m : Moved) → moved_of c.times to ≡ m
           → Later c.times (by_move slots gpio starts codes c k clock m).clocks.times
-      by (To t) e = (moves_within c.times t to w.times e).1
-      by BadTime e = record {
+      by (Ok t) e = (moves_within c.times t to w.times e).1
+      by (Err r) e = record {
         now_later = le_refl_clear c.times.now (good_clear c.times.now w.times.now_good);
         game_later = le_refl_clear c.times.game (at_most_clear c.times.game (2 ^ 31) w.times.game_limit);
       }
@@ -176,7 +175,7 @@ module _ (c : Clocks) (w : ClocksWithin c) where
         w.syncs;
   }
 
-  pub turbo_within : (t : Times) (to : Float) → paced_of c.times to ≡ By t → ClocksWithin (times_with c t)
+  pub turbo_within : (t : Times) (to : Float) → paced_of c.times to ≡ Ok t → ClocksWithin (times_with c t)
   turbo_within t to e =
       let p : Within t × (t.now ≡ c.times.now) × (t.game ≡ c.times.game) = paces_within c.times t to
       w.times e in

@@ -5,7 +5,7 @@ use lib.Ieee.{Float}
 use Rattle.whole.proofs.Unique.{unique}
 use Rattle.timer.specs.declared.Event.{Event}
 use Rattle.state.specs.declared.Parts.{Parts}
-use Rattle.time.specs.declared.NextTime.{NextTime}
+use Rattle.time.specs.Next.{NextTime}
 use Rattle.time.specs.Bank.{MovedBank, moved_bank, Asked, asked, Pressed, pressed, Took, took}
 
 -- of an advance there is one answer, and the later words, lines and parts are one

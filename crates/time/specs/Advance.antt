@@ -1,8 +1,9 @@
 -- Time goes on: advance, timer_advance, adc_advance, rtc_irq_advance. Where the Rust leaves a word alone the same
 -- value is put back, which changes nothing.
-use Rattle.std.specs.Prelude.{ℕ, Bool, List, slice_index_or, Float}
+use Rattle.std.specs.Prelude.{ℕ, Bool, List, slice_index_or, Float, Err, Ok}
+use Rattle.map.specs.Refusals.{code_of}
 use Rattle.state.specs.Each.{list_of}
-use Rattle.map.specs.Numbers.{TIMER_COUNT, RTC_IRQ_STATUS, ADC_CONTROL, ADC_RESULT, LCD_STATUS, BAD_TIME}
+use Rattle.map.specs.Numbers.{TIMER_COUNT, RTC_IRQ_STATUS, ADC_CONTROL, ADC_RESULT, LCD_STATUS}
 use Rattle.registers.specs.Words.{own_at, own_with}
 use Rattle.timer.specs.declared.Timer.{Timer}
 use Rattle.timer.specs.Timers.{advanced_of}
@@ -11,8 +12,7 @@ use Rattle.clock.specs.declared.RtcIrq.{RtcIrq}
 use Rattle.clock.specs.declared.Signal.{Signal}
 use Rattle.clock.specs.declared.Ticked.{Ticked}
 use Rattle.clock.specs.declared.Adc.{Adc}
-use Rattle.clock.specs.declared.Moved.{Moved}
-use Rattle.clock.specs.declared.Moved.TheVariants.{To, BadTime}
+use Rattle.clock.specs.Times.{Moved}
 use Rattle.clock.specs.Times.{moved_of}
 use Rattle.clock.specs.Sources.{vsync_of, ticked_of}
 use Rattle.clock.specs.Adc.{converted_of}
@@ -139,8 +139,8 @@ moved_to slots gpio starts codes c k clock t =
 
 -- a time that is refused changes nothing
 unfoldable pub by_move : List ℕ → List ℕ → List Float → List ℕ → Clocks → Keys → ℕ → Moved → Outcome
-by_move slots gpio starts codes c k clock (To t) = moved_to slots gpio starts codes c k clock t
-by_move slots gpio starts codes c k clock BadTime = outcome slots gpio BAD_TIME c k.applied
+by_move slots gpio starts codes c k clock (Ok t) = moved_to slots gpio starts codes c k clock t
+by_move slots gpio starts codes c k clock (Err r) = outcome slots gpio (code_of r) c k.applied
 
 -- game time and now first
 unfoldable pub advance_of : List ℕ → List ℕ → List Float → List ℕ → Clocks → Keys → ℕ → Float → Outcome

@@ -1,8 +1,7 @@
 -- What the calls leave of the bank's parts, and of the arrays that are lent beside it.
-use Rattle.std.specs.Prelude.{ℕ, List, Float}
-use Rattle.map.specs.Numbers.{BAD_TURBO}
-use Rattle.clock.specs.declared.Paced.{Paced}
-use Rattle.clock.specs.declared.Paced.TheVariants.{By, BadTurbo}
+use Rattle.std.specs.Prelude.{ℕ, List, Float, Err, Ok}
+use Rattle.map.specs.Refusals.{code_of}
+use Rattle.clock.specs.Times.{Moved}
 use Rattle.timer.specs.declared.Event.{Event}
 use Rattle.timer.specs.Events.{TakeOutcome}
 use Rattle.keys.specs.Live as live
@@ -37,9 +36,9 @@ pub record Asked : Type 0 where
 abbrev pub asked : Parts → ℕ → Asked
 asked x n = record { parts = x; refusal = n }
 
-abbrev pub paced_put : Parts → Paced → Asked
-paced_put x (By t) = asked (times_put x t) 0
-paced_put x BadTurbo = asked x BAD_TURBO
+abbrev pub paced_put : Parts → Moved → Asked
+paced_put x (Ok t) = asked (times_put x t) 0
+paced_put x (Err r) = asked x (code_of r)
 
 abbrev pub keys_asked : Parts → live.Outcome → Asked
 keys_asked x o = asked (keys_put x o.keys) o.refusal

@@ -1,9 +1,11 @@
 -- The next event: next_event. Every f64 operation stands in the Rust's order; a literal is given by its bits.
 use Rattle.std.specs.Prelude.{ℕ, ◌+◌, ◌%◌, ◌^◌, Bool, cond, ◌&&◌, ◌||◌, List, pos, ◌==◌, bit_and, from_bits}
-use Rattle.std.specs.Prelude.{slice_index_or, Float}
+use Rattle.std.specs.Prelude.{slice_index_or, Float, Result}
 use Rattle.std.specs.Float.{binary64}
 use Rattle.std.specs.Float.Ieee.{of_int, add, sub, mul, div, le}
 use Rattle.state.specs.Each.{any_of, through}
+use Rattle.map.specs.declared.refusals.Refusal.{Refusal}
+use Rattle.map.specs.Refusals.{number_of, value_or}
 use Rattle.map.specs.Numbers.{DONE, NO_NEXT_TIME, TIMER_COUNT}
 use Rattle.timer.specs.declared.Timer.{Timer}
 use Rattle.timer.specs.Timers.{period_of, rate_of}
@@ -11,7 +13,6 @@ use Rattle.clock.specs.declared.Times.{Times}
 use Rattle.keys.specs.declared.Keys.{Keys}
 use Rattle.keys.specs.Edges.{min_of, next_edge}
 use Rattle.state.specs.declared.Clocks.{Clocks}
-use Rattle.time.specs.declared.NextTime.{NextTime}
 use Rattle.time.specs.Clocks.{control_word, reload_word}
 use Rattle.time.specs.Irq.{wanted_of}
 use Rattle.state.specs.Parts.{none}
@@ -78,6 +79,15 @@ abbrev pub finite : Float → Bool
 finite t = le (from_bits binary64 0xFFEF_FFFF_FFFF_FFFF) t && le t (from_bits binary64 0x7FEF_FFFF_FFFF_FFFF)
 
 -- 01's number: 13 where the time is not finite, and 0.0 beside it
+-- 01's number, and the time
+pub record NextTime : Type 0 where
+  pub refusal : ℕ
+  pub time : Float
+
+-- what a call answers; where it refuses, the time is 0
+abbrev pub next_answer : Result Float Refusal → NextTime
+next_answer r = record { refusal = number_of r; time = value_or r (from_bits binary64 0) }
+
 unfoldable pub answered : Float → NextTime
 answered t = cond (finite t) (record { refusal = DONE; time = t })
     (record { refusal = NO_NEXT_TIME; time = from_bits binary64 0 })

@@ -2,21 +2,23 @@
 //
 // A stopped timer, an ADC that converts nothing, a sync and a tick that have not moved are left alone, as in the Rust.
 // The rest is put back, changed or not, as the definitions put everything.
-ghost use Rattle.std.specs.Prelude.{◌≡◌, ◌<◌, List, from_bits, slice_index_or, Float};
-ghost use Rattle.std.specs.Float.{binary64};
+ghost use Rattle.std.specs.Prelude.{◌≡◌, ◌<◌, List, slice_index_or, Float};
 ghost use Rattle.map.specs.Numbers.{DONE, TIMER_COUNT};
+ghost use Rattle.map.specs.Refusals.{number_of};
 ghost use Rattle.state.specs.Parts.{none, timer_put, timers_put};
 ghost use Rattle.state.specs.Bank.{timers_in, irq_in, clocks_in, keys_in, parts_in};
 ghost use Rattle.state.specs.Packed.{StaysPacked, Answered};
 ghost use Rattle.time.specs.Clocks.{clock_in};
 ghost use Rattle.time.specs.Advance.{timer_after, timers_after, synced_of, converted_in, ticked_in, devices_of};
-ghost use Rattle.time.specs.Advance.{moved_to, by_move, advance_of};
+ghost use Rattle.time.specs.Advance.{moved_to, advance_of};
 ghost use Rattle.time.specs.Bank.{moved_bank, moves_of};
 ghost use Rattle.time.specs.Inner.{went, synced_put, converted_put, ticked_put, went_of};
 
 use crate::sysclk_var;
-use clock::{Adc, Moved, Times};
+use clock::{Adc, Times};
+use map::Refusal;
 use state::{Cells, Floats};
+use whole::limits::Given;
 
 // Timer n of the six.
 fn timer_advance(
@@ -50,12 +52,9 @@ fn timers_advance(slots: &[u32; 76], cells: &mut Cells, floats: &mut Floats, tim
         (timers_after slots.now (timers_in cells.old floats.old) time clock))
         × StaysPacked cells.old floats.old cells.new floats.new }
 {
-    timer_advance(slots, cells, floats, 0, time, clock);
-    timer_advance(slots, cells, floats, 1, time, clock);
-    timer_advance(slots, cells, floats, 2, time, clock);
-    timer_advance(slots, cells, floats, 3, time, clock);
-    timer_advance(slots, cells, floats, 4, time, clock);
-    timer_advance(slots, cells, floats, 5, time, clock);
+    for n in 0..map::TIMER_COUNT as u32 {
+        timer_advance(slots, cells, floats, n, time, clock);
+    }
 }
 
 // The panel's vertical sync.
@@ -159,8 +158,8 @@ fn move_to(
     state::rests::put_applied(cells, applied);
 }
 
-// What follows once game time and now have moved, or were refused.
-fn go(
+// Bring the hardware up to emulated time `to`. `starts` and `codes` are the presses'.
+pub fn advance<T: Given>(
     slots: &mut [u32; 76],
     cells: &mut Cells,
     floats: &mut Floats,
@@ -168,72 +167,19 @@ fn go(
     gpio: &mut [u8],
     starts: &[f64; 64],
     codes: &[u8; 64],
-    to: Moved,
-) -> u8
-    ensures { (moved_bank slots.new gpio.new result
-        (parts_in cells.new floats.new)
-        ≡ moves_of (parts_in cells.old floats.old)
-        (by_move slots.old gpio.old starts.now codes.now
-        (clocks_in cells.old floats.old)
-        (keys_in cells.old floats.old) (clock_in sram.now) to))
-        × Answered result cells.old floats.old cells.new floats.new }
-{
-    match to {
-        Moved::To(t) => {
-            let clock = sysclk_var(sram);
-            move_to(slots, cells, floats, gpio, starts, codes, clock, t);
-            return map::DONE;
-        }
-        Moved::BadTime => {
-            return map::BAD_TIME;
-        }
-    }
-}
-
-// Bring the hardware up to emulated time `to`: 0, or refusal 1. `starts` and `codes` are the presses'.
-pub fn advance(
-    slots: &mut [u32; 76],
-    cells: &mut Cells,
-    floats: &mut Floats,
-    sram: &[u8],
-    gpio: &mut [u8],
-    starts: &[f64; 64],
-    codes: &[u8; 64],
-    to: f64,
-) -> u8
-    ensures { (moved_bank slots.new gpio.new result
+    to: T,
+) -> Result<(), Refusal>
+    ensures { (moved_bank slots.new gpio.new (number_of result)
         (parts_in cells.new floats.new)
         ≡ moves_of (parts_in cells.old floats.old)
         (advance_of slots.old gpio.old starts.now codes.now
         (clocks_in cells.old floats.old)
-        (keys_in cells.old floats.old) (clock_in sram.now) to))
-        × Answered result cells.old floats.old cells.new floats.new }
+        (keys_in cells.old floats.old) (clock_in sram.now) (T.float to)))
+        × Answered (number_of result) cells.old floats.old cells.new floats.new }
 {
     let before = state::moments::times_of(floats);
-    let moved = clock::pace::advance(before, to);
-    go(slots, cells, floats, sram, gpio, starts, codes, moved)
-}
-
-// The same from the bits of `to`, which become a float only where they are a good time.
-pub fn advance_bits(
-    slots: &mut [u32; 76],
-    cells: &mut Cells,
-    floats: &mut Floats,
-    sram: &[u8],
-    gpio: &mut [u8],
-    starts: &[f64; 64],
-    codes: &[u8; 64],
-    bits: u64,
-) -> u8
-    ensures { (moved_bank slots.new gpio.new result
-        (parts_in cells.new floats.new)
-        ≡ moves_of (parts_in cells.old floats.old)
-        (advance_of slots.old gpio.old starts.now codes.now
-        (clocks_in cells.old floats.old)
-        (keys_in cells.old floats.old) (clock_in sram.now) (from_bits binary64 bits)))
-        × Answered result cells.old floats.old cells.new floats.new }
-{
-    let before = state::moments::times_of(floats);
-    let moved = clock::pace::advance_bits(before, bits);
-    go(slots, cells, floats, sram, gpio, starts, codes, moved)
+    let moved = clock::pace::advance(before, to)?;
+    let clock = sysclk_var(sram);
+    move_to(slots, cells, floats, gpio, starts, codes, clock, moved);
+    Ok(())
 }

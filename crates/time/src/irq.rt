@@ -10,13 +10,11 @@ use whole::forms::choose;
 pub(crate) fn timer_irq_line(cells: &Cells) -> bool
     ensures { (f : List Float) → result ≡ timer_line (timers_in cells.now f) }
 {
-    let a = pending_of(cells, 0);
-    let b = pending_of(cells, 1);
-    let c = pending_of(cells, 2);
-    let d = pending_of(cells, 3);
-    let e = pending_of(cells, 4);
-    let f = pending_of(cells, 5);
-    a | (b | (c | (d | (e | f))))
+    let mut pending = false;
+    for n in 0..map::TIMER_COUNT {
+        pending = pending | pending_of(cells, n);
+    }
+    pending
 }
 
 fn rtc_irq_line(slots: &[u32; 76]) -> bool

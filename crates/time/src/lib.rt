@@ -16,22 +16,6 @@ pub mod pace;
 pub mod resync;
 pub mod tones;
 
-use timer::Event;
-
-// The time of the next event: 0, or refusal 13.
-#[derive(Drop)]
-pub struct NextTime {
-    pub refusal: u8,
-    pub time: f64,
-}
-
-// The sound event that waited longest: 0, or refusal 12 and zeros.
-#[derive(Drop)]
-pub struct Waited {
-    pub refusal: u8,
-    pub event: Event,
-}
-
 // The system clock's word, which firmware keeps in SRAM: the Rust's SYSCLK_VAR.
 pub fn sysclk_var(sram: &[u8]) -> u32
     ensures { result ≡ clock_in sram.now }

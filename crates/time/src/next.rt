@@ -6,12 +6,13 @@ ghost use Rattle.time.specs.Next.{with_timers};
 ghost use Rattle.state.specs.Parts.{none};
 ghost use Rattle.state.specs.Bank.{timers_in, clocks_in, keys_in};
 ghost use Rattle.time.specs.Clocks.{clock_in};
-ghost use Rattle.time.specs.Next.{earliest, event_of, finite, answered, next_of};
+ghost use Rattle.time.specs.Next.{earliest, event_of, finite, answered, next_answer, next_of};
 
 use crate::irq::{irq_wanted, timer_irq_line};
-use crate::{NextTime, sysclk_var};
+use crate::sysclk_var;
 use clock::Times;
 use keys::edges::min;
+use map::Refusal;
 use state::moments::{converting_of, irq_of, pending_of, timer_of, times_of, vsync_of};
 use state::{Cells, Floats};
 use timer::Timer;
@@ -20,7 +21,7 @@ use timer::Timer;
 fn one_more(n: u64) -> f64
     ensures { result ≡ one_more n }
 {
-    std::num::nearest_u64_to_f64(std::num::wrapping_add_u64(n, 1))
+    std::num::nearest_u64_to_f64(n.wrapping_add(1))
 }
 
 fn vsync_next(last: u64) -> f64
@@ -62,13 +63,11 @@ fn pends(slots: &[u32; 76], cells: &Cells, n: u32) -> bool
 fn each_pends(slots: &[u32; 76], cells: &Cells) -> bool
     ensures { (f : List Float) → result ≡ any_pends slots.now (timers_in cells.now f) }
 {
-    let a = pends(slots, cells, 0);
-    let b = pends(slots, cells, 1);
-    let c = pends(slots, cells, 2);
-    let d = pends(slots, cells, 3);
-    let e = pends(slots, cells, 4);
-    let f = pends(slots, cells, 5);
-    a | (b | (c | (d | (e | f))))
+    let mut any = false;
+    for n in 0..map::TIMER_COUNT as u32 {
+        any = any | pends(slots, cells, n);
+    }
+    any
 }
 
 // Mostly no timer is pending, and then no control word needs to be looked at.
@@ -100,12 +99,11 @@ fn with_timers(slots: &[u32; 76], cells: &Cells, floats: &Floats, clock: u32, so
     ensures { result ≡ with_timers slots.now (timers_in cells.now floats.now)
         clock so }
 {
-    let a = with_timer(slots, cells, floats, 0, clock, so);
-    let b = with_timer(slots, cells, floats, 1, clock, a);
-    let c = with_timer(slots, cells, floats, 2, clock, b);
-    let d = with_timer(slots, cells, floats, 3, clock, c);
-    let e = with_timer(slots, cells, floats, 4, clock, d);
-    with_timer(slots, cells, floats, 5, clock, e)
+    let mut t = so;
+    for n in 0..map::TIMER_COUNT as u32 {
+        t = with_timer(slots, cells, floats, n, clock, t);
+    }
+    t
 }
 
 // The earliest of the vertical sync, the timers, the 1 Hz tick and the keys' edges.
@@ -158,19 +156,13 @@ fn finite(t: f64) -> bool
     (-1.7976931348623157e308 <= t) & (t <= 1.7976931348623157e308)
 }
 
-fn answered(t: f64) -> NextTime
-    ensures { result ≡ answered t }
+fn answered(t: f64) -> Result<f64, Refusal>
+    ensures { next_answer result ≡ answered t }
 {
     if finite(t) {
-        return NextTime {
-            refusal: map::DONE,
-            time: t,
-        };
+        return Ok(t);
     }
-    NextTime {
-        refusal: map::NO_NEXT_TIME,
-        time: 0.0,
-    }
+    Err(Refusal::NoNextTime)
 }
 
 // `starts` are the presses'.
@@ -180,8 +172,8 @@ pub fn next_event(
     floats: &Floats,
     sram: &[u8],
     starts: &[f64; 64],
-) -> NextTime
-    ensures { result ≡ next_of slots.now starts.now (clocks_in cells.now
+) -> Result<f64, Refusal>
+    ensures { next_answer result ≡ next_of slots.now starts.now (clocks_in cells.now
         floats.now)
         (keys_in cells.now floats.now) (clock_in sram.now) }
 {

@@ -44,12 +44,9 @@ fn timers_resync(slots: &[u32; 76], cells: &mut Cells, floats: &mut Floats, time
         × StaysPacked cells.old floats.old cells.new floats.new
         × (floats.new ≡ floats.old) }
 {
-    timer_resync(slots, cells, floats, 0, time, clock);
-    timer_resync(slots, cells, floats, 1, time, clock);
-    timer_resync(slots, cells, floats, 2, time, clock);
-    timer_resync(slots, cells, floats, 3, time, clock);
-    timer_resync(slots, cells, floats, 4, time, clock);
-    timer_resync(slots, cells, floats, 5, time, clock);
+    for n in 0..map::TIMER_COUNT as u32 {
+        timer_resync(slots, cells, floats, n, time, clock);
+    }
 }
 
 // All six, at the time that the bank has.

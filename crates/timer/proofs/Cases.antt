@@ -1,19 +1,20 @@
 -- The branches of the definitions, as the functions meet them.
-use mathlib.Core.Path.{◌≡◌, sym, ap, ◌∙◌}
-use mathlib.Core.Bool.{Bool, true, false, ◌||◌}
+use mathlib.Core.Path.{◌≡◌, refl, sym, ap, ◌∙◌}
+use mathlib.Core.Bool.{Bool, true, false, not, ◌&&◌, ◌||◌}
 use mathlib.Core.Logic.{◌≢◌}
 use Prim.Native.Nat.{ℕ, ◌+◌, ◌-◌, ◌/◌, ◌%◌, ◌≤◌, ◌<◌}
 use lib.Bits.{bit_and}
-use lib.Ieee.{Float, ne, binary64, of_bits, lt, to_unsigned}
+use lib.Ieee.{Float, eq, ne, binary64, of_bits, lt, to_unsigned}
 use borrow.Author.Tests.{lt-ltb, le-ltb}
+use Rattle.std.specs.Prelude.{Ok, Err, Some, None}
 use Rattle.whole.specs.Words.{has}
 use Rattle.whole.proofs.Words.{has_some, has_not}
 use Rattle.timer.specs.declared.Timer.{Timer}
 use Rattle.timer.specs.declared.Tone.{Tone}
-use Rattle.timer.specs.declared.Sounded.TheVariants.{Same, Change, SoundFull}
+use Rattle.map.specs.declared.refusals.Refusal.TheVariants.{SoundFull}
 use Rattle.timer.specs.Timers.{ticks, period_of, rate_of, elapsed_of, counter_of, noted, advanced_of}
 use Rattle.timer.specs.Timers.{resynced_of}
-use Rattle.timer.specs.Sound.{differ_of, sounded_of}
+use Rattle.timer.specs.Sound.{Sounded, differ_of, sounded_of}
 
 pub elapsed_some : (start now rate : Float) (n : ℕ) → lt (of_bits binary64 0) (ticks start now rate) ≡ true
     → n ≡ to_unsigned 64 (ticks start now rate)
@@ -69,26 +70,28 @@ unfolding resynced_of
 resync_stands t now clock control reload h = rw (has_not control 0x2000 h)
 
 -- ---- the buzzer
-pub differ_first : (a b : Tone) → ne a.frequency b.frequency ≡ true → true ≡ differ_of a b
-unfolding differ_of
-differ_first a b h = sym (ap (λ (t : Bool). t || ne a.duty b.duty) h)
-
-pub differ_second : (a b : Tone) → ne a.frequency b.frequency ≡ false → ne a.duty b.duty ≡ differ_of a b
-unfolding differ_of
-differ_second a b h = sym (ap (λ (t : Bool). t || ne a.duty b.duty) h)
+-- they are not the same tone
+pub tones_differ : (a b : Tone) (d : Bool) → d ≡ not (eq a.frequency b.frequency && eq a.duty b.duty)
+    → d ≡ differ_of a b
+unfolding differ_of ne
+tones_differ a b d h = h ∙ by (eq a.frequency b.frequency)
+  where
+    by : (t : Bool) → not (t && eq a.duty b.duty) ≡ (not t || not (eq a.duty b.duty))
+    by true = refl
+    by false = refl
 
 module _ (state tone new : Tone) (full d : Bool) (n : new ≡ tone) (e : d ≡ differ_of new state) where
   differs : (t : Bool) → d ≡ t → differ_of tone state ≡ t
   differs t h = ap (λ (x : Tone). differ_of x state) (sym n) ∙ sym e ∙ h
 
-  pub sounds_same : d ≡ false → Same ≡ sounded_of state full tone
+  pub sounds_same : d ≡ false → (Ok None) ≡ sounded_of state full tone
   unfolding sounded_of
   sounds_same h = rw (differs false h)
 
-  pub sounds_full : d ≡ true → full ≡ true → SoundFull ≡ sounded_of state full tone
+  pub sounds_full : d ≡ true → full ≡ true → (Err SoundFull) ≡ sounded_of state full tone
   unfolding sounded_of
   sounds_full h f = rw (differs true h, f)
 
-  pub sounds_new : d ≡ true → full ≡ false → Change new ≡ sounded_of state full tone
+  pub sounds_new : d ≡ true → full ≡ false → Ok (Some new) ≡ sounded_of state full tone
   unfolding sounded_of
-  sounds_new h f = rw (differs true h, f) (ap Change n)
+  sounds_new h f = rw (differs true h, f) (ap {B = Sounded} (λ t. Ok (Some t)) n)

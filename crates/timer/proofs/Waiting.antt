@@ -12,13 +12,15 @@ use lib.Ieee.{nan}
 use lib.ListN.{length, take, drop, drop_of_length-le}
 use lib.Seq.{get_or-set_same, get_or-set_other}
 use borrow.Author.Tests.{le-leb, lt-leb, ltb-true, ltb-false, ne_eqb, eq-eqb}
-use Rattle.map.specs.Numbers.{DONE}
+use Rattle.map.specs.Numbers.{DONE, SOUND_FULL, NO_EVENT}
+use Rattle.map.specs.declared.refusals.Refusal.{Refusal}
+use Rattle.map.specs.Refusals.{code_of}
+use Rattle.whole.proofs.Answered.{code_above}
 use Rattle.timer.specs.declared.Event.{Event}
 use Rattle.timer.specs.declared.Queue.{Queue}
 use Rattle.timer.specs.declared.Ring.{Ring}
-use Rattle.timer.specs.declared.Refusal.TheVariants.{Done, SoundFull, NoEvent}
 use Rattle.timer.specs.Events.{ring_of, place_of, skipped, cleared, queue_of, event_at, event_of, waiting_from}
-use Rattle.timer.specs.Events.{waiting, nothing, with_last, without}
+use Rattle.timer.specs.Events.{waiting, nothing, with_last, without, full_of, PutOutcome, TakeOutcome}
 use Rattle.timer.specs.Events.{put_of, put_outcome, take_of, take_outcome, fit_of, laid_over, bulk_of, bulk_outcome}
 use Rattle.timer.specs.Canonical.{Canonical}
 use Rattle.timer.proofs.Laid.{fits, laid_is}
@@ -126,19 +128,19 @@ last_waits q e good small =
 
 -- ---- the branches of each step
 
-pub put_done : (q : Queue) (e : Event) → q.ring.count < 256 → put_of q e ≡ put_outcome Done (with_last q e)
+pub put_done : (q : Queue) (e : Event) → q.ring.count < 256 → put_of q e ≡ put_outcome DONE (with_last q e)
 unfolding put_of
 put_done q e room = rw (lt-leb 256 q.ring.count room)
 
-pub put_full : (q : Queue) (e : Event) → 256 ≤ q.ring.count → put_of q e ≡ put_outcome SoundFull q
+pub put_full : (q : Queue) (e : Event) → 256 ≤ q.ring.count → put_of q e ≡ put_outcome SOUND_FULL q
 unfolding put_of
 put_full q e full = rw (le-leb 256 q.ring.count full)
 
-pub take_none : (q : Queue) → q.ring.count ≡ 0 → take_of q ≡ take_outcome NoEvent nothing q
+pub take_none : (q : Queue) → q.ring.count ≡ 0 → take_of q ≡ take_outcome NO_EVENT nothing q
 unfolding take_of
 take_none q none = rw (eq-eqb q.ring.count 0 none)
 
-pub take_some : (q : Queue) → q.ring.count ≢ 0 → take_of q ≡ take_outcome Done (event_of q 0) (without q 1)
+pub take_some : (q : Queue) → q.ring.count ≢ 0 → take_of q ≡ take_outcome DONE (event_of q 0) (without q 1)
 unfolding take_of
 take_some q some = rw (ne_eqb q.ring.count 0 some)
 
@@ -148,26 +150,52 @@ unfolding take_of
 take_still q = by (eqb q.ring.count 0)
   where
     by : (b : Bool)
-        → (cond b (take_outcome NoEvent nothing q) (take_outcome Done (event_of q 0) (without q 1))).refusal ≢ DONE
-        → (cond b (take_outcome NoEvent nothing q) (take_outcome Done (event_of q 0) (without q 1))).queue ≡ q
+        → (cond b (take_outcome NO_EVENT nothing q) (take_outcome DONE (event_of q 0) (without q 1))).refusal ≢ DONE
+        → (cond b (take_outcome NO_EVENT nothing q) (take_outcome DONE (event_of q 0) (without q 1))).queue ≡ q
     by true h = refl
     by false h = absurd (h refl)
+
+put_still : (q : Queue) (e : Event) → (put_of q e).refusal ≢ DONE → (put_of q e).queue ≡ q
+unfolding put_of
+put_still q e = by (full_of q.ring)
+  where
+    by : (b : Bool) → (cond b (put_outcome SOUND_FULL q) (put_outcome DONE (with_last q e))).refusal ≢ DONE
+        → (cond b (put_outcome SOUND_FULL q) (put_outcome DONE (with_last q e))).queue ≡ q
+    by true h = refl
+    by false h = absurd (h refl)
+
+-- ---- refused, and so said of the queue as it was
+module _ (q : Queue) (r : Refusal) (p : Queue) where
+  other : {n : ℕ} → code_of r ≡ n → n ≢ DONE
+  other h z = let above : 1 ≤ code_of r = code_above r in omega arith
+
+  pub put_stays : (e : Event) → put_outcome (code_of r) p ≡ put_of q e → put_outcome (code_of r) q ≡ put_of q e
+  put_stays e h =
+      let same : p ≡ q = ap (λ (o : PutOutcome). o.queue) h
+      ∙ put_still q e (other (ap (λ (o : PutOutcome). o.refusal) h)) in
+      ap (put_outcome (code_of r)) (sym same) ∙ h
+
+  pub take_stays : (x : Event) → take_outcome (code_of r) x p ≡ take_of q → take_outcome (code_of r) x q ≡ take_of q
+  take_stays x h =
+      let same : p ≡ q = ap (λ (o : TakeOutcome). o.queue) h
+      ∙ take_still q (other (ap (λ (o : TakeOutcome). o.refusal) h)) in
+      ap (take_outcome (code_of r) x) (sym same) ∙ h
 
 -- ---- the functions over the list
 
 -- PUT: with room, the event is the last of the list
 pub put_adds : (q : Queue) (e : Event) → Canonical q → length (waiting q) < 256
-    → (put_of q e ≡ put_outcome Done (with_last q e)) × (waiting (with_last q e) ≡ waiting q ++ (e ∷ []))
+    → (put_of q e ≡ put_outcome DONE (with_last q e)) × (waiting (with_last q e) ≡ waiting q ++ (e ∷ []))
 put_adds q e good room =
     let small : q.ring.count < 256 = omega (arith, waiting_count q) in
     (put_done q e small, last_waits q e good small)
 
 -- with 256 waiting nothing changes, and the number is SoundFull's
-pub put_refuses : (q : Queue) (e : Event) → 256 ≤ length (waiting q) → put_of q e ≡ put_outcome SoundFull q
+pub put_refuses : (q : Queue) (e : Event) → 256 ≤ length (waiting q) → put_of q e ≡ put_outcome SOUND_FULL q
 put_refuses q e full = put_full q e (omega (arith, waiting_count q))
 
 -- TAKE: with none waiting, zeros and NoEvent's number, and nothing changes
-pub take_refuses : (q : Queue) → waiting q ≡ [] → take_of q ≡ take_outcome NoEvent nothing q
+pub take_refuses : (q : Queue) → waiting q ≡ [] → take_of q ≡ take_outcome NO_EVENT nothing q
 take_refuses q none = take_none q (sym (waiting_count q) ∙ ap length none)
 
 first_is : (q : Queue) (e : Event) (l : List Event) (n : ℕ) → q.ring.count ≡ suc n → waiting q ≡ e ∷ l
@@ -178,15 +206,15 @@ first_is q e l n some wait =
     cc
 
 take_first : (q : Queue) (e : Event) (l : List Event) (n : ℕ) → q.ring.count ≡ n → waiting q ≡ e ∷ l
-    → take_of q ≡ take_outcome Done e (without q 1)
+    → take_of q ≡ take_outcome DONE e (without q 1)
 take_first q e l zero none wait = absurd (omega (arith, waiting_count q, ap length wait))
 take_first q e l (suc n) some wait =
-    take_some q (λ none. omega arith) ∙ ap (λ (x : Event). take_outcome Done x (without q 1))
+    take_some q (λ none. omega arith) ∙ ap (λ (x : Event). take_outcome DONE x (without q 1))
     (first_is q e l n some wait)
 
 -- the list's head is given, and its tail is left
 pub take_gives : (q : Queue) (e : Event) (l : List Event) → q.ring.count ≤ 256 → waiting q ≡ e ∷ l
-    → (take_of q ≡ take_outcome Done e (without q 1)) × (waiting (without q 1) ≡ l)
+    → (take_of q ≡ take_outcome DONE e (without q 1)) × (waiting (without q 1) ≡ l)
 take_gives q e l most wait = (take_first q e l q.ring.count refl wait, without_drops q 1 most ∙ ap (drop 1) wait)
 
 -- IN BULK: as many as fit are laid over the first records, oldest first; later records stay, and the rest waits

@@ -7,16 +7,8 @@ use Rattle.whole.specs.Forms.{nought}
 use Rattle.timer.specs.declared.Event.{Event}
 use Rattle.timer.specs.declared.Ring.{Ring}
 use Rattle.timer.specs.declared.Queue.{Queue}
-use Rattle.timer.specs.declared.Refusal.{Refusal}
-use Rattle.timer.specs.declared.Refusal.TheVariants.{Done, SoundFull, NoEvent}
 use Rattle.timer.specs.declared.Batch.{Batch}
 use Rattle.timer.specs.declared.Bulk.{Bulk}
-
--- Refusal numbers: 0 done, 5 SoundFull, 12 NoEvent
-abbrev pub number_of : Refusal → ℕ
-number_of Done = DONE
-number_of SoundFull = SOUND_FULL
-number_of NoEvent = NO_EVENT
 
 -- what is answered beside a refusal's number
 abbrev pub nothing : Event
@@ -78,8 +70,8 @@ pub record PutOutcome : Type 0 where
   pub refusal : ℕ
   pub queue : Queue
 
-abbrev pub put_outcome : Refusal → Queue → PutOutcome
-put_outcome refusal q = record { refusal = number_of refusal; queue = q }
+abbrev pub put_outcome : ℕ → Queue → PutOutcome
+put_outcome n q = record { refusal = n; queue = q }
 
 -- an event at the place after the youngest
 abbrev pub with_last : Queue → Event → Queue
@@ -95,7 +87,7 @@ full_of ring = leb 256 ring.count
 
 -- with 256 waiting nothing changes
 unfoldable pub put_of : Queue → Event → PutOutcome
-put_of q e = cond (full_of q.ring) (put_outcome SoundFull q) (put_outcome Done (with_last q e))
+put_of q e = cond (full_of q.ring) (put_outcome SOUND_FULL q) (put_outcome DONE (with_last q e))
 
 -- ---- one event out
 
@@ -105,8 +97,8 @@ pub record TakeOutcome : Type 0 where
   pub event : Event
   pub queue : Queue
 
-abbrev pub take_outcome : Refusal → Event → Queue → TakeOutcome
-take_outcome refusal e q = record { refusal = number_of refusal; event = e; queue = q }
+abbrev pub take_outcome : ℕ → Event → Queue → TakeOutcome
+take_outcome n e q = record { refusal = n; event = e; queue = q }
 
 -- the places of the n oldest events zero
 unfoldable pub cleared : Ring → ℕ → List Float → List Float
@@ -121,7 +113,7 @@ without q n =
 
 -- zeros and nothing changed where none waits
 unfoldable pub take_of : Queue → TakeOutcome
-take_of q = cond (eqb q.ring.count 0) (take_outcome NoEvent nothing q) (take_outcome Done (event_of q 0) (without q 1))
+take_of q = cond (eqb q.ring.count 0) (take_outcome NO_EVENT nothing q) (take_outcome DONE (event_of q 0) (without q 1))
 
 -- ---- many events out
 

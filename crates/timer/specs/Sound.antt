@@ -1,12 +1,12 @@
 -- The buzzer, as document 000's sound_update has it.
-use Rattle.std.specs.Prelude.{Bool, cond, ◌||◌, ℕ, pos, Float}
+use Rattle.std.specs.Prelude.{Bool, cond, ◌||◌, ℕ, pos, Float, Result, Ok, Err, Option, Some, None}
 use Rattle.std.specs.Float.{binary64}
 use Rattle.std.specs.Float.Ieee.{of_bits, of_int, div, lt, ne}
-use Rattle.map.specs.Numbers.{DONE, SOUND_FULL}
+use Rattle.map.specs.declared.refusals.Refusal.{Refusal}
+use Rattle.map.specs.declared.refusals.Refusal.TheVariants.{SoundFull}
+use Rattle.map.specs.Refusals.{number_of}
 use Rattle.whole.specs.Words.{has}
 use Rattle.timer.specs.declared.Tone.{Tone}
-use Rattle.timer.specs.declared.Sounded.{Sounded}
-use Rattle.timer.specs.declared.Sounded.TheVariants.{Same, Change, SoundFull}
 use Rattle.timer.specs.Timers.{period_of, rate_of}
 
 -- held within 0.05 and 0.95
@@ -31,11 +31,12 @@ unfoldable pub differ_of : Tone → Tone → Bool
 differ_of a b = ne a.frequency b.frequency || ne a.duty b.duty
 
 -- a tone that differs is the new one and an event, for which there must be room
+abbrev pub Sounded : Type 0
+Sounded = Result (Option Tone) Refusal
+
 unfoldable pub sounded_of : Tone → Bool → Tone → Sounded
-sounded_of state full new = cond (differ_of new state) (cond full SoundFull (Change new)) Same
+sounded_of state full new = cond (differ_of new state) (cond full (Err SoundFull) (Ok (Some new))) (Ok None)
 
 -- the refusal's number
 abbrev pub sound_refusal : Sounded → ℕ
-sound_refusal Same = DONE
-sound_refusal (Change new) = DONE
-sound_refusal SoundFull = SOUND_FULL
+sound_refusal s = number_of s

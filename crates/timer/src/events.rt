@@ -1,13 +1,15 @@
 // Sound events that wait: a ring of 256 places, oldest first. A place that is given back holds zeros, and an empty
 // ring starts at place 0 again, so that what waits says all of the state but where it starts.
 ghost use Rattle.std.specs.Prelude.{◌≡◌};
+ghost use Rattle.map.specs.Refusals.{number_of, value_or};
 ghost use Rattle.timer.specs.Events.{nothing, place_of, skipped, queue_of, empty_queue, event_of, without, full_of};
 ghost use Rattle.timer.specs.Events.{fit_of};
 ghost use Rattle.timer.specs.Events.{put_outcome, put_of, take_outcome, take_of, drop_of};
 ghost use Rattle.timer.specs.Inner.{lay_outcome, lay_of};
 ghost use Rattle.timer.specs.Events.{batched, bulk_outcome, bulk_of};
 
-use crate::{Added, Batch, Bulk, Event, Oldest, Queue, Refusal, Ring, Stored, Taken};
+use crate::{Batch, Bulk, Event, Queue, Ring};
+use map::Refusal;
 
 // The place of the i-th event from the oldest on.
 fn place(ring: Ring, i: usize) -> usize
@@ -30,17 +32,6 @@ fn skip(ring: Ring, n: usize) -> Ring
     Ring { head: 0, count: 0 }
 }
 
-// What stands beside a refusal.
-fn nothing() -> Event
-    ensures { result ≡ nothing }
-{
-    Event {
-        time: 0.0,
-        frequency: 0.0,
-        duty: 0.0,
-    }
-}
-
 // Whether there is no room for one event more.
 pub fn full(ring: Ring) -> bool
     ensures { result ≡ full_of ring }
@@ -55,29 +46,23 @@ pub fn put_in(
     duties: &mut [f64; 256],
     ring: Ring,
     event: Event,
-) -> Added
-    ensures { put_outcome result.refusal (queue_of onsets.new frequencies.new
-        duties.new result.ring)
+) -> Result<Ring, Refusal>
+    ensures { put_outcome (number_of result) (queue_of onsets.new frequencies.new duties.new
+        (value_or result ring))
         ≡ put_of (queue_of onsets.old frequencies.old duties.old ring) event }
 {
     let count = ring.count;
     if count >= 256 {
-        return Added {
-            refusal: Refusal::SoundFull,
-            ring,
-        };
+        return Err(Refusal::SoundFull);
     }
     let at = place(ring, count);
     onsets[at] = event.time;
     frequencies[at] = event.frequency;
     duties[at] = event.duty;
-    Added {
-        refusal: Refusal::Done,
-        ring: Ring {
-            head: ring.head,
-            count: count + 1,
-        },
-    }
+    Ok(Ring {
+        head: ring.head,
+        count: count + 1,
+    })
 }
 
 fn event_in<'a>(
@@ -109,52 +94,38 @@ fn drop_from(
     ensures { queue_of onsets.new frequencies.new duties.new result
         ≡ without (queue_of onsets.old frequencies.old duties.old ring) n }
 {
-    let mut i = 0;
-    while i < n {
+    for i in 0..n {
         let at = place(ring, i);
         onsets[at] = 0.0;
         frequencies[at] = 0.0;
         duties[at] = 0.0;
-        i += 1;
     }
     skip(ring, n)
 }
 
-// The oldest event. Its place is given back.
+// The oldest event, and the ring without it: its place is given back.
 pub fn take_from(
     onsets: &mut [f64; 256],
     frequencies: &mut [f64; 256],
     duties: &mut [f64; 256],
     ring: Ring,
-) -> Oldest
-    ensures { take_outcome result.refusal result.event (queue_of onsets.new frequencies.new
-        duties.new result.ring)
+) -> Result<(Event, Ring), Refusal>
+    ensures { take_outcome (number_of result) (value_or result (nothing, ring)).0
+        (queue_of onsets.new frequencies.new duties.new (value_or result (nothing, ring)).1)
         ≡ take_of (queue_of onsets.old frequencies.old duties.old ring) }
 {
     if ring.count == 0 {
-        return Oldest {
-            refusal: Refusal::NoEvent,
-            event: nothing(),
-            ring,
-        };
+        return Err(Refusal::NoEvent);
     }
     let event = event_in(onsets, frequencies, duties, ring, 0);
-    Oldest {
-        refusal: Refusal::Done,
-        event,
-        ring: drop_from(onsets, frequencies, duties, ring, 1),
-    }
+    Ok((event, drop_from(onsets, frequencies, duties, ring, 1)))
 }
 
 // How many events wait, or how many there is room for.
 fn fit_in(ring: Ring, room: usize) -> usize
     ensures { result ≡ fit_of ring.count room }
 {
-    let count = ring.count;
-    if count < room {
-        return count;
-    }
-    room
+    ring.count.min(room)
 }
 
 // As many waiting events as there are records, oldest first, and their number; later records stay. No place is given
@@ -171,10 +142,8 @@ fn lay_into<'a, 'b>(
         records.old }
 {
     let count = fit_in(ring, records.len());
-    let mut i = 0;
-    while i < count {
+    for i in 0..count {
         records[i] = event_in(onsets, frequencies, duties, ring, i);
-        i += 1;
     }
     count
 }
@@ -243,51 +212,42 @@ pub fn empty() -> Queue
     }
 }
 
-pub fn put(queue: Queue, event: Event) -> Stored
-    ensures { put_outcome result.refusal result.queue ≡ put_of queue event }
+pub fn put(queue: Queue, event: Event) -> Result<Queue, Refusal>
+    ensures { put_outcome (number_of result) (value_or result queue) ≡ put_of queue event }
 {
     let mut onsets = queue.onsets;
     let mut frequencies = queue.frequencies;
     let mut duties = queue.duties;
-    let r = put_in(
+    let ring = put_in(
         &mut onsets,
         &mut frequencies,
         &mut duties,
         queue.ring,
         event,
-    );
-    let refusal = r.refusal;
-    let ring = r.ring;
-    let queue = Queue {
+    )?;
+    Ok(Queue {
         onsets,
         frequencies,
         duties,
         ring,
-    };
-    Stored { refusal, queue }
+    })
 }
 
-pub fn take(queue: Queue) -> Taken
-    ensures { take_outcome result.refusal result.event result.queue ≡ take_of queue }
+pub fn take(queue: Queue) -> Result<(Event, Queue), Refusal>
+    ensures { take_outcome (number_of result) (value_or result (nothing, queue)).0
+        (value_or result (nothing, queue)).1 ≡ take_of queue }
 {
     let mut onsets = queue.onsets;
     let mut frequencies = queue.frequencies;
     let mut duties = queue.duties;
-    let r = take_from(&mut onsets, &mut frequencies, &mut duties, queue.ring);
-    let refusal = r.refusal;
-    let event = r.event;
-    let ring = r.ring;
-    let queue = Queue {
+    let (event, ring) = take_from(&mut onsets, &mut frequencies, &mut duties, queue.ring)?;
+    let rest = Queue {
         onsets,
         frequencies,
         duties,
         ring,
     };
-    Taken {
-        refusal,
-        event,
-        queue,
-    }
+    Ok((event, rest))
 }
 
 fn drop_oldest(queue: Queue, count: usize) -> Bulk

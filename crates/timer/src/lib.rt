@@ -23,18 +23,10 @@ pub struct Written {
 }
 
 // Frequency in Hz (0 is off) and duty of the buzzer.
-#[derive(Clone, Copy)]
+#[derive(Clone, Copy, PartialEq)]
 pub struct Tone {
     pub frequency: f64,
     pub duty: f64,
-}
-
-// What a write of timer 4's words does to the buzzer: nothing; a change, which is an event; or refusal 5.
-#[derive(Drop)]
-pub enum Sounded {
-    Same,
-    Change(Tone),
-    SoundFull,
 }
 
 // ---- sound events
@@ -55,48 +47,13 @@ pub struct Ring {
     pub count: usize,
 }
 
-// The waiting events: an event has one place in the three arrays, since an array of structs cannot be lent.
+// The waiting events: an event has one place in the three arrays.
 #[derive(Clone, Copy)]
 pub struct Queue {
     pub onsets: [f64; 256],
     pub frequencies: [f64; 256],
     pub duties: [f64; 256],
     pub ring: Ring,
-}
-
-#[derive(Drop)]
-pub enum Refusal {
-    Done,
-    SoundFull,
-    NoEvent,
-}
-
-// What `put_in` and `put` answer: over lent arrays the ring alone comes back, by value the whole queue.
-#[derive(Drop)]
-pub struct Added {
-    pub refusal: Refusal,
-    pub ring: Ring,
-}
-
-#[derive(Drop)]
-pub struct Stored {
-    pub refusal: Refusal,
-    pub queue: Queue,
-}
-
-// What `take_from` and `take` answer.
-#[derive(Drop)]
-pub struct Oldest {
-    pub refusal: Refusal,
-    pub event: Event,
-    pub ring: Ring,
-}
-
-#[derive(Drop)]
-pub struct Taken {
-    pub refusal: Refusal,
-    pub event: Event,
-    pub queue: Queue,
 }
 
 // What `take_into` and `take_events` answer.
@@ -197,11 +154,7 @@ pub fn write_ctrl(t: Timer, now: f64, val: u32, old: u32) -> Written
         };
     }
     Written {
-        timer: Timer {
-            start: t.start,
-            seen: t.seen,
-            pending,
-        },
+        timer: Timer { pending, ..t },
         control,
     }
 }
@@ -217,9 +170,9 @@ pub fn advance(t: Timer, now: f64, clock: u32, control: u32, reload: u32) -> Tim
         return t;
     }
     Timer {
-        start: t.start,
         seen: periods,
         pending: t.pending | (control & 0x4000 != 0),
+        ..t
     }
 }
 
@@ -228,16 +181,8 @@ pub fn resync(t: Timer, now: f64, clock: u32, control: u32, reload: u32) -> Time
     ensures { result ≡ resynced_of t now clock control reload }
 {
     if control & 0x2000 == 0 {
-        return Timer {
-            start: t.start,
-            seen: 0,
-            pending: t.pending,
-        };
+        return Timer { seen: 0, ..t };
     }
     let periods = elapsed(t.start, now, rate(clock, control)) / period(reload);
-    Timer {
-        start: t.start,
-        seen: periods,
-        pending: t.pending,
-    }
+    Timer { seen: periods, ..t }
 }

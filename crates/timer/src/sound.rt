@@ -1,8 +1,9 @@
 // The buzzer, which follows timer 4.
 ghost use Rattle.std.specs.Prelude.{◌≡◌};
-ghost use Rattle.timer.specs.Sound.{silence, clamp_of, tone_of, differ_of, sounded_of};
+ghost use Rattle.timer.specs.Sound.{silence, tone_of, sounded_of};
 
-use crate::{Sounded, Tone, period, rate};
+use crate::{Tone, period, rate};
+use map::Refusal;
 
 // The buzzer as it is after a wipe, and where timer 4 does not run.
 pub fn silent() -> Tone
@@ -12,18 +13,6 @@ pub fn silent() -> Tone
         frequency: 0.0,
         duty: 0.5,
     }
-}
-
-fn clamp(x: f64) -> f64
-    ensures { result ≡ clamp_of x }
-{
-    if x < 0.05 {
-        return 0.05;
-    }
-    if x > 0.95 {
-        return 0.95;
-    }
-    x
 }
 
 // The tone that timer 4's words give.
@@ -37,21 +26,12 @@ pub fn tone(clock: u32, control: u32, reload: u32, compare: u32) -> Tone
     let high = period(compare) as f64;
     Tone {
         frequency: rate(clock, control) / p,
-        duty: clamp(high / p),
+        duty: (high / p).clamp(0.05, 0.95),
     }
-}
-
-fn differ(a: Tone, b: Tone) -> bool
-    ensures { result ≡ differ_of a b }
-{
-    if a.frequency != b.frequency {
-        return true;
-    }
-    a.duty != b.duty
 }
 
 // The words are those that a write would leave, so that a write that is refused can be left undone. `full` says that
-// 256 events wait. The event of a change is the time and the tone.
+// 256 events wait. A tone that differs is the answer; its event is the time and the tone.
 pub fn sound_update(
     state: Tone,
     full: bool,
@@ -59,15 +39,15 @@ pub fn sound_update(
     control: u32,
     reload: u32,
     compare: u32,
-) -> Sounded
+) -> Result<Option<Tone>, Refusal>
     ensures { result ≡ sounded_of state full (tone_of clock control reload compare) }
 {
     let new = tone(clock, control, reload, compare);
-    if differ(new, state) {
+    if new != state {
         if full {
-            return Sounded::SoundFull;
+            return Err(Refusal::SoundFull);
         }
-        return Sounded::Change(new);
+        return Ok(Some(new));
     }
-    Sounded::Same
+    Ok(None)
 }

@@ -9,8 +9,10 @@ pub mod Order
 pub mod Mono
 pub mod Words
 pub mod Unique
+pub mod Answered
 pub mod Numbers
 pub mod Judged
 pub mod Tables
 pub mod Rows
 pub mod Finite
+pub mod Flags

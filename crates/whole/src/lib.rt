@@ -8,13 +8,6 @@ ghost use Rattle.whole.specs.Cut.{Cut, twos};
 pub mod forms;
 pub mod limits;
 
-// A float from its bits, or a refusal: 1 of a time, 2 of a turbo.
-#[derive(Drop)]
-pub enum Checked {
-    Good(f64),
-    Bad,
-}
-
 // x cut to a whole number toward zero, as Rust's `x as u64`: 0 for a NaN and for what is negative,
 // and the largest u64 from 2^64 on.
 pub fn whole(x: f64) -> u64
@@ -51,7 +44,7 @@ pub fn whole_signed(x: f64) -> u64
         if below >= 0x8000_0000_0000_0000 {
             return 0x8000_0000_0000_0000;
         }
-        return std::num::wrapping_add_u64(u64::MAX - below, 1);
+        return (u64::MAX - below).wrapping_add(1);
     }
     let n = whole(x);
     if n >= 0x8000_0000_0000_0000 {

@@ -1,3 +1,4 @@
+use Rattle.map.specs.Refusals.{number_of}
 use Rattle.state.specs.Bank.{parts_in}
 use Rattle.system.specs.Bank.{machine_of}
 use Rattle.runner.specs.Script.{continued}
@@ -21,11 +22,12 @@ returns c =
     let m = machine_of a.slots.now a.addresses.now a.values.now a.rtc.now a.page.now a.onsets.now a.frequencies.now
     a.duties.now a.starts.now a.codes.now (parts_in a.cells.now a.floats.now) a.ram.now a.sram.now a.gpio.now
     a.fb.now in
-    let w = c.continue_script.new in
+    let w = c.continue_script-answer.new in
     let m₁ = machine_of w.slots w.addresses w.values w.rtc w.page w.onsets w.frequencies w.duties w.starts w.codes
-    (parts_in w.cells w.floats) w.ram w.sram w.gpio w.fb in (
-      script_goes m a.script.now a.out.now c.bad_memory.ensures {x = continued c.continue_script.result m₁ w.out}
-          c.if-bad_memory.false
-          (c.continue_script.ensures.0),
-      c.continue_script.ensures.1,
+    (parts_in w.cells w.floats) w.ram w.sram w.gpio w.fb in
+    rw c.status.ensures (
+      script_goes m a.script.now a.out.now c.bad_memory.ensures
+          {x = continued (number_of c.continue_script-answer.result) m₁ w.out} c.if-bad_memory.false
+          (c.continue_script-answer.ensures.0),
+      c.continue_script-answer.ensures.1,
     )

@@ -7,8 +7,7 @@ use Rattle.flash.specs.Finish.{state_after, array_after}
 use Rattle.flash.specs.Flash.{selected, select_board, transaction_begun, deselect_act}
 use Rattle.flash.specs.Pick.{pick}
 use Rattle.flash.specs.declared.Chip.{Chip}
-use Rattle.flash.specs.declared.Reply.{Reply}
-use Rattle.flash.proofs.Laws.{tested_sized}
+use Rattle.flash.specs.Board.{Reply}
 use Rattle.flash.proofs.Cases.{select_done, select_refused}
 use Rattle.flash.proofs.select.Goals as goal
 
@@ -54,7 +53,7 @@ pub returns-then-not-ok : goal.returns-then-not-ok
 returns-then-not-ok c =
     let a = c.args in
     bad (board a.chip a.page.now a.array.now) a.on _ c.good-ok.ensures
-    (ap not c.if-not-ok.true) c.refuse.ensures
+    (ap not c.if-not-ok.true) refl
 
 pub returns-then-cs : goal.returns-then-cs
 returns-then-cs c =
@@ -64,7 +63,7 @@ returns-then-cs c =
     let at_if3 = c.if-cs in
     let a = c.args in
     let w = board a.chip a.page.now a.array.now in
-    fine w w a.on _ at_good2.ensures (ap not at_if1.false) c.give.ensures (on_on w a.on at_if2.true
+    fine w w a.on _ at_good2.ensures (ap not at_if1.false) refl (on_on w a.on at_if2.true
     at_if3.true)
 
 pub returns-then-on : goal.returns-then-on
@@ -78,7 +77,7 @@ returns-then-on c =
     let a = c.args in
     let w = board a.chip a.page.now a.array.now in
     let v = board at_begin.result _ a.array.now in
-    fine w v a.on _ at_good2.ensures (ap not at_if1.false) c.give-then-on.ensures
+    fine w v a.on _ at_good2.ensures (ap not at_if1.false) refl
     (on_off w v a.on at_if2.true at_if3.false at_begin.ensures at_clear.ensures refl)
 
 pub returns-then-not-cs : goal.returns-then-not-cs
@@ -89,16 +88,11 @@ returns-then-not-cs c =
     let at_if4 = c.if-not-cs in
     let a = c.args in
     let w = board a.chip a.page.now a.array.now in
-    fine w w a.on _ at_good2.ensures (ap not at_if1.false) c.give-then-not-cs.ensures (off_off w a.on at_if2.false
+    fine w w a.on _ at_good2.ensures (ap not at_if1.false) refl (off_off w a.on at_if2.false
     (ap not at_if4.true))
-
-pub finish-ended-requires : goal.finish-ended-requires
-finish-ended-requires c =
-    tested_sized _ _ c.good-ok.ensures (ap not c.if-not-ok.false)
 
 pub returns : goal.returns
 returns c =
-    let at_with_cs = c.with_cs in
     let at_good2 = c.good-ok in
     let at_if1 = c.if-not-ok in
     let at_if2 = c.if-on in
@@ -106,6 +100,6 @@ returns c =
     let at_finish = c.finish-ended in
     let a = c.args in
     let w = board a.chip a.page.now a.array.now in
-    fine w (board at_with_cs.result a.page.now _) a.on _ at_good2.ensures (ap not at_if1.false)
-    c.give-2.ensures
-    (off_on w a.on at_if2.false (ap not at_if4.false) at_finish.ensures at_with_cs.ensures)
+    fine w (board (with_cs c.finish-ended.result false) a.page.now _) a.on _ at_good2.ensures (ap not at_if1.false)
+    refl
+    (off_on w a.on at_if2.false (ap not at_if4.false) at_finish.ensures refl)

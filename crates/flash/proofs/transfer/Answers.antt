@@ -1,11 +1,10 @@
-use Rattle.std.proofs.Common.{ap, ◌≡◌, ℕ, ◌<◌, ◌≤◌, Bool, true, false, not, List, length, sym, ◌∙◌, arith}
+use Rattle.std.proofs.Common.{ap, ◌≡◌, ℕ, ◌<◌, ◌≤◌, Bool, true, false, not, List, length, sym, refl, ◌∙◌, arith}
 use borrow.Author.Tests.{not-true, not-false}
 use Rattle.flash.specs.Board.{Board, board, outcome, good_size, Sized}
 use Rattle.flash.specs.Inner.{refusing, giving}
 use Rattle.flash.specs.Buf.{gathered}
 use Rattle.flash.specs.Flash.{transferred, replied, sent_chip}
-use Rattle.flash.specs.declared.Reply.{Reply}
-use Rattle.flash.proofs.Laws.{tested_sized}
+use Rattle.flash.specs.Board.{Reply}
 use Rattle.flash.proofs.Cases.{transfer_done, transfer_refused}
 use Rattle.flash.proofs.transfer.Goals as goal
 
@@ -25,15 +24,7 @@ pub returns-then-not-ok : goal.returns-then-not-ok
 returns-then-not-ok c =
     let a = c.args in
     bad (board a.chip a.page.now a.array.now) a.byte _ c.good-ok.ensures
-    (ap not c.if-not-ok.true) c.refuse.ensures
-
-pub answer-rx-requires : goal.answer-rx-requires
-answer-rx-requires c =
-    let b = bounds _ (tested_sized _ _ c.good-ok.ensures (ap not c.if-not-ok.false)) in
-    record { array_nonzero = b.0; array_len_bound = b.1 }
-
-pub push-t-requires : goal.push-t-requires
-push-t-requires c = (tested_sized _ _ c.good-ok.ensures (ap not c.if-not-ok.false)).most
+    (ap not c.if-not-ok.true) refl
 
 pub returns : goal.returns
 returns c =
@@ -44,4 +35,4 @@ returns c =
     let at_gather = c.gather in
     let a = c.args in
     fine (board a.chip a.page.now a.array.now) a.byte _ at_good2.ensures (ap not at_if1.false)
-    (c.give.ensures ∙ rw (at_answer.ensures, at_push.ensures)) at_gather.ensures
+    (rw (at_answer.ensures, at_push.ensures)) at_gather.ensures

@@ -1,7 +1,15 @@
 -- `next` meets its contract: what filled the buffer is the line.
-use Rattle.std.proofs.Common.{ap}
-use Rattle.lines.specs.declared.Input.TheVariants.{Line}
+use Rattle.std.proofs.Common.{rules, arith}
+use Rattle.std.proofs.lemmas.Grind.{common_steps}
 use Rattle.lines.proofs.next.Goals as goal
 
-pub returns-in-Ok : goal.returns-in-Ok
-returns-in-Ok g c = record { count = 29; line = c.read_exact.new.buf; stands = ap Line c.step_of.ensures }
+pub returns : goal.returns
+returns g c = record {
+  read = record { count = 29; line = c.read_exact.new.buf; stands = cc };
+  taken = record {
+    line = c.read_exact.new.buf;
+    whole = search rules;
+    says = c.step_of.ensures;
+    taken = grind (arith, common_steps);
+  };
+}

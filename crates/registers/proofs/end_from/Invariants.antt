@@ -1,10 +1,5 @@
-use Rattle.std.proofs.Common.{◌-◌}
-use Rattle.registers.specs.Words.{stride}
 use Rattle.registers.proofs.Loops.{Come}
 use Rattle.registers.proofs.end_from.Given as goal
 
 abbrev pub invariant-loop-end : goal.invariant-loop-end
 invariant-loop-end l = Come l.addresses l.at l.end
-
-abbrev pub decreases-loop-end : goal.decreases-loop-end
-decreases-loop-end l = 256 - stride - l.end

@@ -3,4 +3,4 @@ use Rattle.registers.proofs.own_reg.Goals as goal
 
 pub returns : goal.returns
 unfolding own_at
-returns c = rw (← c.slot.ensures) c.slot_get.ensures
+returns c = rw (← c.slot.ensures) c.get.ensures

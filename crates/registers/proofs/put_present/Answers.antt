@@ -14,6 +14,6 @@ returns-then-value-eq0 c =
 pub returns-then-i-lt256 : goal.returns-then-i-lt256
 returns-then-i-lt256 c = present_some _ _ _ _ c.if-value-eq0.false refl
 
-pub returns : goal.returns
-returns c =
-    present_some _ _ _ _ c.if-value-eq0.false (set_past _ _ _ c.sized.ensures c.if-i-lt256.false _)
+pub returns-else-i-lt256 : goal.returns-else-i-lt256
+returns-else-i-lt256 c =
+    present_some _ _ _ _ c.if-value-eq0.false (set_past _ _ _ c.told-values c.if-i-lt256.false _)

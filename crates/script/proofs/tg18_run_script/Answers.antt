@@ -6,4 +6,5 @@ returns-then-bad_memory c = script_bad _ _ _ _ _ _ c.bad_memory.ensures c.if-bad
 
 pub returns : goal.returns
 returns c =
-    script_run _ _ _ _ _ _ c.bad_memory.ensures c.if-bad_memory.false c.run_script.ensures
+    rw c.status.ensures
+    (script_run _ _ _ _ _ _ c.bad_memory.ensures c.if-bad_memory.false c.run_script.ensures)

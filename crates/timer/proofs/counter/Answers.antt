@@ -1,12 +1,8 @@
-use Rattle.std.proofs.Common.{arith, mod-lt}
 use Rattle.timer.proofs.Cases.{counter_stands, counter_runs}
 use Rattle.timer.proofs.counter.Goals as goal
 
 pub returns-then-control-eq0 : goal.returns-then-control-eq0
 returns-then-control-eq0 c = counter_stands _ _ _ _ _ _ c.if-control-eq0.true
-
-pub overflow_add-result : goal.overflow_add-result
-overflow_add-result c = omega (arith, mod-lt c.elapsed-e.result {m = c.period-p.result} (omega arith))
 
 pub returns : goal.returns
 returns c =

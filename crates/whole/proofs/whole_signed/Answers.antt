@@ -1,4 +1,3 @@
-use Rattle.std.proofs.Common.{◌∙◌}
 use Rattle.whole.proofs.Cuts.{signed_least, signed_negative, signed_greatest, signed_within}
 use Rattle.whole.proofs.whole_signed.Goals as goal
 
@@ -8,7 +7,7 @@ returns-then-below-ge9223372036854775808 c = signed_least _ _ c.if-x.true c.whol
 
 pub returns-then-x : goal.returns-then-x
 returns-then-x c =
-    c.wrapping_add_u64.ensures.value ∙ signed_negative _ _ c.if-x.true
+    signed_negative _ _ c.if-x.true
     c.whole-below.ensures.cast
     c.if-below-ge9223372036854775808.false
 

@@ -1,4 +1,5 @@
 use Rattle.std.proofs.Common.{length-take-le, sym}
+use Rattle.flash.specs.Board.{selecting}
 use Rattle.bus.proofs.Parts.{part_le, select_part}
 use Rattle.bus.proofs.chip.flash_select.Goals as goal
 
@@ -11,5 +12,5 @@ slice_bounds-select-end-2 c = sym (length-take-le _ _ (rw c.part-n.ensures (part
 pub returns : goal.returns
 returns c =
     let a = c.args in
-    select_part a.chip a.page.now a.ram.now c.part-n.ensures
-    c.select-r.result a.on c.select-r.ensures
+    rw c.unwrap_or.ensures (select_part a.chip a.page.now a.ram.now c.part-n.ensures
+    (selecting a.chip c.select.result) a.on c.select.ensures)

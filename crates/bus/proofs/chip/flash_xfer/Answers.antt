@@ -1,4 +1,5 @@
 use Rattle.std.proofs.Common.{length-take-le, sym}
+use Rattle.flash.specs.Board.{transferring}
 use Rattle.bus.proofs.Parts.{part_le, send_part}
 use Rattle.bus.proofs.chip.flash_xfer.Goals as goal
 
@@ -8,5 +9,5 @@ slice_bounds-transfer-end c = sym (length-take-le _ _ (rw c.part-n.ensures (part
 pub returns : goal.returns
 returns c =
     let a = c.args in
-    send_part a.chip a.page.now a.ram.now c.part-n.ensures c.transfer-r.result a.byte
-    c.transfer-r.ensures
+    rw c.unwrap_or.ensures (send_part a.chip a.page.now a.ram.now c.part-n.ensures
+    (transferring a.chip c.transfer.result) a.byte c.transfer.ensures)

@@ -19,7 +19,7 @@ returns-in-Acts c =
     let d = (parts_in a.cells.now a.floats.now).devices in
     read_as a.slots.now d (clock_in a.sram.now) a.s
     c.requires
-    c.slot_get-old.ensures (Acts _)
+    c.get-old.ensures (Acts _)
     (sym c.in-Acts.is ∙ c.port_at-port.ensures)
     (ap (given a.slots.now) c.acting_value.ensures)
 
@@ -36,36 +36,36 @@ returns-in-Shows c =
     let d = (parts_in a.cells.now a.floats.now).devices in
     read_as a.slots.now d (clock_in a.sram.now) a.s
     c.requires
-    c.slot_get-old.ensures (Shows _)
+    c.get-old.ensures (Shows _)
     (sym c.in-Shows.is ∙
     c.port_at-port.ensures) c.view_of.ensures
 
 pub returns-in-Select : goal.returns-in-Select
 returns-in-Select c =
-    read_as _ _ _ _ c.requires c.slot_get-old.ensures Select
+    read_as _ _ _ _ c.requires c.get-old.ensures Select
     (sym c.in-Select.is ∙ c.port_at-port.ensures) refl
 
 pub returns-in-Send : goal.returns-in-Send
 returns-in-Send c =
-    read_as _ _ _ _ c.requires c.slot_get-old.ensures Send
+    read_as _ _ _ _ c.requires c.get-old.ensures Send
     (sym c.in-Send.is ∙ c.port_at-port.ensures) refl
 
 pub returns-in-LcdControl : goal.returns-in-LcdControl
 returns-in-LcdControl c =
-    read_as _ _ _ _ c.requires c.slot_get-old.ensures LcdControl
+    read_as _ _ _ _ c.requires c.get-old.ensures LcdControl
     (sym c.in-LcdControl.is ∙ c.port_at-port.ensures) refl
 
 pub returns-in-RtcCommand : goal.returns-in-RtcCommand
 returns-in-RtcCommand c =
-    read_as _ _ _ _ c.requires c.slot_get-old.ensures RtcCommand
+    read_as _ _ _ _ c.requires c.get-old.ensures RtcCommand
     (sym c.in-RtcCommand.is ∙ c.port_at-port.ensures) refl
 
 pub returns-in-Holds : goal.returns-in-Holds
 returns-in-Holds c =
-    read_as _ _ _ _ c.requires c.slot_get-old.ensures Holds
+    read_as _ _ _ _ c.requires c.get-old.ensures Holds
     (sym c.in-Holds.is ∙ c.port_at-port.ensures) refl
 
 pub returns-in-Other : goal.returns-in-Other
 returns-in-Other c =
-    read_as _ _ _ _ c.requires c.slot_get-old.ensures Other
+    read_as _ _ _ _ c.requires c.get-old.ensures Other
     (sym c.in-Other.is ∙ c.port_at-port.ensures) refl

@@ -1,4 +1,4 @@
-use Rattle.std.proofs.Common.{not, ap}
+use Rattle.std.proofs.Common.{not, ap, refl}
 use Rattle.bus.proofs.Cases.{read_ram, read_sram, read_gpio, read_size, read_register, read_stray}
 use Rattle.bus.proofs.read.read.Goals as goal
 
@@ -17,19 +17,19 @@ returns-in-Gpio c =
 pub returns-then-not-good_size : goal.returns-then-not-good_size
 returns-then-not-good_size c =
     read_size _ _ _ _ _ _ _ c.locate-place.ensures c.good_size.ensures (ap not c.if-not-good_size.true)
-    c.bad_size.ensures
+    refl
 
-pub returns-in-Register : goal.returns-in-Register
-returns-in-Register c =
+pub returns-else-not-good_size : goal.returns-else-not-good_size
+returns-else-not-good_size c =
     read_register _ _ _ _ _ _ _ c.locate-place.ensures c.good_size.ensures (ap not c.if-not-good_size.false)
     c.in-Register.is c.mmio_read-value.ensures
 
 pub returns-then-not-good_size-2 : goal.returns-then-not-good_size-2
 returns-then-not-good_size-2 c =
     read_size _ _ _ _ _ _ _ c.locate-place.ensures c.good_size-in-Stray.ensures (ap not c.if-not-good_size-2.true)
-    c.bad_size-then-not-good_size-2.ensures
+    refl
 
-pub returns-in-Stray : goal.returns-in-Stray
-returns-in-Stray c =
+pub returns-else-not-good_size-2 : goal.returns-else-not-good_size-2
+returns-else-not-good_size-2 c =
     read_stray _ _ _ _ _ _ _ c.locate-place.ensures c.good_size-in-Stray.ensures (ap not c.if-not-good_size-2.false)
     c.in-Stray.is

@@ -1,12 +1,12 @@
 use Rattle.std.proofs.Common.{arith, ◌≡◌, refl, eqb}
 use Rattle.map.specs.Numbers.{SOUND_CONTROL, SOUND_RELOAD, SOUND_COMPARE}
-use Rattle.registers.specs.Ports.{words_from, named_words, named_rows, own_words, slot_word}
+use Rattle.registers.specs.Ports.{words_from, named_rows, own_words, slot_word}
 use Rattle.bus.specs.Sounds.{sound_of}
 use Rattle.bus.proofs.Slots.{slot_is}
 use Rattle.bus.proofs.sounds.sound_after.Goals as goal
 
 pub returns : goal.returns
-unfolding sound_of own_words words_from named_words named_rows
+unfolding sound_of own_words words_from named_rows
 returns c =
     let s = c.args.s in
     let p : eqb (slot_word s) SOUND_CONTROL ≡ eqb s 32 = slot_is s c.requires 32 SOUND_CONTROL (omega arith) refl in

@@ -1,4 +1,6 @@
-use Rattle.std.proofs.Common.{◌∙◌, ◌/◌}
+use Rattle.std.proofs.Common.{refl, ◌∙◌, ◌/◌}
+use Rattle.std.proofs.lemmas.Result.{err_from_is_err_and}
+use Rattle.whole.proofs.Answered.{code_not_done}
 use Rattle.registers.specs.Ports.{slot_word}
 use Rattle.state.specs.Bank.{parts_in}
 use Rattle.bus.proofs.Slots.{slot_stored}
@@ -6,27 +8,28 @@ use Rattle.bus.proofs.BankedWords.{only_put, only_then, devices_put_lem, done_nu
 use Rattle.bus.proofs.BankedWords.{timer_sounds, timer_plain}
 use Rattle.bus.proofs.sounds.timer_write_ctrl.Goals as goal
 
-pub returns-then-answer-ne-DONE : goal.returns-then-answer-ne-DONE
-returns-then-answer-ne-DONE c =
+pub returns-in_err-answer : goal.returns-in_err-answer
+returns-in_err-answer c =
     let a = c.args in
-    let x = parts_in a.cells.now a.floats.now in (
+    let x = parts_in a.cells.now a.floats.now in
+    let p = err_from_is_err_and c.from_residual.result c.from_residual.ensures.1 in
+    rw (p.1, p.2) (
       timer_refused a.slots.now x a.clock a.full (a.s / 8) (slot_word a.s) a.old a.new
           c.timer_of-t.ensures c.times_of-times.ensures c.write_ctrl-written.ensures c.if-n-eq-SOUND_TIMER.true
-          c.sound_write-answer.ensures.0 c.if-answer-ne-DONE.true,
-      c.sound_write-answer.ensures.1,
+          c.in_err-answer.ensures.0 (code_not_done c.in_err-answer.field-0.0),
+      c.in_err-answer.ensures.1,
     )
 
 pub returns-then-n-eq-SOUND_TIMER : goal.returns-then-n-eq-SOUND_TIMER
 returns-then-n-eq-SOUND_TIMER c =
     let a = c.args in
     let x = parts_in a.cells.now a.floats.now in
-    let y = c.sound_write-answer.ensures in
+    let y = c.in_ok-answer.ensures in
     let p = c.put_timer.ensures in (
       timer_sounds a.slots.now x a.clock a.full (a.s / 8) (slot_word a.s) a.old a.new
           c.timer_of-t.ensures c.times_of-times.ensures c.write_ctrl-written.ensures c.if-n-eq-SOUND_TIMER.true y.0
-          c.if-answer-ne-DONE.false (devices_put_lem (parts_in a.cells.now _) p.parts),
-      rest_put c.if-answer-ne-DONE.false (only_then
-          y.1.only (only_put p.parts)) (λ k. p.packed (y.1.packed k)),
+          refl (devices_put_lem (parts_in a.cells.now _) p.parts),
+      rest_put refl (only_then y.1.only (only_put p.parts)) (λ k. p.packed (y.1.packed k)),
     )
 
 pub returns : goal.returns

@@ -16,7 +16,7 @@ returns-then-s-lt76 c =
     let w = world r a.rtc.now a.page.now a.ram.now a.sram.now a.gpio.now a.fb.now
     x.devices in (
       reg_merged w a.full a.addr a.size a.value c.slot-s.ensures c.if-s-lt76.true
-          c.slot_get-old.ensures c.merged-new.ensures c.written-part.ensures c.own_write.ensures.0,
+          c.get-old.ensures c.merged-new.ensures c.written-part.ensures c.own_write.ensures.0,
       c.own_write.ensures.1,
     )
 

@@ -1,4 +1,5 @@
-use Rattle.std.proofs.Common.{sym, ◌∙◌}
+use Rattle.std.proofs.Common.{refl, sym, ◌∙◌}
+use Rattle.std.proofs.lemmas.Result.{err_from_is_err_and}
 use Rattle.registers.specs.Words.{registers_of}
 use Rattle.state.specs.Bank.{parts_in}
 use Rattle.bus.proofs.BankedWords.{only_put, done_number, quiet, rest_put, rest_none}
@@ -51,9 +52,22 @@ returns-in-Present c =
     let x = parts_in a.cells.now a.floats.now in (
       other_put_present r x a.word
           c.requires c.day_word.ensures a.addr a.size a.value c.if-day_word.false
-          c.find_other-spot.ensures _ c.accepted-in-Present.ensures c.in-Present.is c.place_get-old.ensures
+          c.find_other-spot.ensures _ c.accepted-in-Present.ensures c.in-Present.is c.get-old.ensures
           c.merged-in-Present.ensures c.put_present.ensures,
       rest_none (quiet c.accepted-in-Present.ensures),
+    )
+
+pub returns-in_err-put_absent-in-Absent : goal.returns-in_err-put_absent-in-Absent
+returns-in_err-put_absent-in-Absent c =
+    let a = c.args in
+    let r = registers_of a.slots.now a.addresses.now a.values.now in
+    let x = parts_in a.cells.now a.floats.now in
+    let p = err_from_is_err_and c.from_residual.result c.from_residual.ensures.1 in
+    rw (p.1, p.2) (
+      other_put_absent r x a.word c.requires c.day_word.ensures a.addr a.size a.value c.if-day_word.false
+          c.find_other-spot.ensures _ _ c.in-Absent.is c.merged-new.ensures
+          c.in_err-put_absent-in-Absent.ensures refl,
+      rest_none refl,
     )
 
 pub returns-in-Absent : goal.returns-in-Absent
@@ -61,10 +75,8 @@ returns-in-Absent c =
     let a = c.args in
     let r = registers_of a.slots.now a.addresses.now a.values.now in
     let x = parts_in a.cells.now a.floats.now in (
-      other_put_absent r x a.word
-          c.requires
-          c.day_word.ensures a.addr a.size a.value c.if-day_word.false c.find_other-spot.ensures _
-          c.put_absent-refusal.result c.in-Absent.is c.merged-new.ensures
-          c.put_absent-refusal.ensures c.answer.ensures,
-      rest_none (quiet c.answer.ensures),
+      other_put_absent r x a.word c.requires c.day_word.ensures a.addr a.size a.value c.if-day_word.false
+          c.find_other-spot.ensures _ _ c.in-Absent.is c.merged-new.ensures
+          c.in_ok-put_absent-in-Absent.ensures c.accepted-in-Absent.ensures,
+      rest_none (quiet c.accepted-in-Absent.ensures),
     )

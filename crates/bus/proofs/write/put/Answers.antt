@@ -1,4 +1,4 @@
-use Rattle.std.proofs.Common.{arith}
+use Rattle.std.proofs.Common.{arith, refl}
 use Rattle.bus.proofs.Sizes.{good_one, good_two, good_four, put_sized, put_refused}
 use Rattle.bus.proofs.write.put.Goals as goal
 
@@ -10,7 +10,7 @@ returns-then-size-eq4 c =
 pub returns-then-size-gt2 : goal.returns-then-size-gt2
 returns-then-size-gt2 c =
     put_refused c.args.size (λ z. omega arith) (λ z. omega arith) c.if-size-eq4.false _ _ _
-    c.refused.ensures
+    refl
 
 pub returns-then-size-eq2 : goal.returns-then-size-eq2
 returns-then-size-eq2 c =
@@ -25,4 +25,4 @@ returns-then-size-eq1 c =
 pub returns : goal.returns
 returns c =
     put_refused c.args.size c.if-size-eq1.false c.if-size-eq2.false (λ z. omega arith) _ _ _
-    c.refused-2.ensures
+    refl

@@ -1,4 +1,4 @@
-use Rattle.std.proofs.Common.{not, ap}
+use Rattle.std.proofs.Common.{not, ap, refl}
 use Rattle.bus.proofs.BankedWords.{quiet, rest_none}
 use Rattle.bus.proofs.BankedWrites.{write_ram, write_sram, write_gpio, write_size, write_register, write_stray}
 use Rattle.bus.proofs.write.slow_write.Goals as goal
@@ -27,8 +27,8 @@ returns-in-Gpio c = (
 pub returns-then-not-good_size : goal.returns-then-not-good_size
 returns-then-not-good_size c = (
   write_size _ _ _ _ _ _ _ _ _ _ _ _ c.locate-place.ensures c.good_size.ensures
-      (ap not c.if-not-good_size.true) c.refused.ensures,
-  rest_none (quiet c.refused.ensures),
+      (ap not c.if-not-good_size.true) refl,
+  rest_none refl,
 )
 
 pub returns-in-Register : goal.returns-in-Register
@@ -41,13 +41,13 @@ returns-in-Register c = (
 pub returns-then-not-good_size-2 : goal.returns-then-not-good_size-2
 returns-then-not-good_size-2 c = (
   write_size _ _ _ _ _ _ _ _ _ _ _ _ c.locate-place.ensures c.good_size-in-Stray.ensures
-      (ap not c.if-not-good_size-2.true) c.refused-then-not-good_size-2.ensures,
-  rest_none (quiet c.refused-then-not-good_size-2.ensures),
+      (ap not c.if-not-good_size-2.true) refl,
+  rest_none refl,
 )
 
 pub returns-in-Stray : goal.returns-in-Stray
 returns-in-Stray c = (
   write_stray _ _ _ _ _ _ _ _ _ _ _ _ c.locate-place.ensures c.good_size-in-Stray.ensures
-      (ap not c.if-not-good_size-2.false) c.in-Stray.is c.refused-in-Stray.ensures,
-  rest_none (quiet c.refused-in-Stray.ensures),
+      (ap not c.if-not-good_size-2.false) c.in-Stray.is refl,
+  rest_none refl,
 )

@@ -1,37 +1,24 @@
-use Rattle.std.proofs.Common.{◌-◌, ◌*◌, ◌/◌, ◌^◌, arith}
-use lib.Bits.{and_le_r}
+use Rattle.std.proofs.Common.{refl, ◌∙◌, arith}
 use Rattle.clock.proofs.Cases.{puts_first, puts_low, puts_high, puts_ticks}
 use Rattle.clock.proofs.chip.output.Goals as goal
+use Rattle.clock.proofs.chip.output.Goals.{in_default-via-then-at-lt48, in_default-via-else-at-lt48+else-at-lt54}
 
-pub overflow_cast-result : goal.overflow_cast-result
-overflow_cast-result c = omega (arith, and_le_r c.get.result 0xEF)
-
-pub returns-then-at-eq0 : goal.returns-then-at-eq0
-returns-then-at-eq0 c =
+pub returns-in-0 : goal.returns-in-0
+returns-in-0 c =
     let a = c.args in
-    puts_first a.latch _ a.game a.at _ c.get.ensures c.if-at-eq0.true
+    c.from.ensures ∙ puts_first a.latch a.regs.now a.game a.at _ refl c.in-0.is
 
-pub returns-then-at-lt48 : goal.returns-then-at-lt48
-returns-then-at-lt48 c =
+pub returns-in-48-to-53 : goal.returns-in-48-to-53
+returns-in-48-to-53 c =
     let a = c.args in
-    puts_low a.latch _ a.game a.at _ c.get-then-at-lt48.ensures c.if-at-eq0.false
-    c.if-at-lt48.true
+    puts_ticks a.latch a.regs.now a.game a.at _ c.ticks.ensures (omega arith) (omega arith)
 
-pub returns-then-at-gt53 : goal.returns-then-at-gt53
-returns-then-at-gt53 c =
+pub returns-in_default : goal.returns-in_default
+returns-in_default c =
     let a = c.args in
-    puts_high a.latch _ a.game a.at _ c.get-then-at-gt53.ensures c.if-at-eq0.false c.if-at-gt53.true
-
-pub overflow_cast-result-2 : goal.overflow_cast-result-2
-overflow_cast-result-2 c =
-    omega (
-      arith,
-      and_le_r (c.ticks.result / 2 ^ (8 *
-          (c.args.at - 0x30))) 0xFF,
-    )
-
-pub returns : goal.returns
-returns c =
-    let a = c.args in
-    puts_ticks a.latch _ a.game a.at _ c.ticks.ensures c.if-at-lt48.false
-    c.if-at-gt53.false
+    elim c.in_default.branch [
+      | in_default-via-then-at-lt48 w ↦
+          puts_low a.latch a.regs.now a.game a.at _ c.from-in_default.ensures (λ z. omega arith) (omega arith)
+      | in_default-via-else-at-lt48+else-at-lt54 w ↦
+          puts_high a.latch a.regs.now a.game a.at _ c.from-in_default.ensures (λ z. omega arith) (omega arith)
+    ]

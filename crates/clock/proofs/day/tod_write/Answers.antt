@@ -6,8 +6,8 @@ unfolding set_of
 returns c =
     rw (
       ← c.tod-t.ensures,
-      ← c.choose_wide-seconds.ensures,
+      ← c.choose-seconds.ensures,
       ←
-          c.choose_wide-minutes.ensures,
-      ← c.choose_wide-hours.ensures,
+          c.choose-minutes.ensures,
+      ← c.choose-hours.ensures,
     )

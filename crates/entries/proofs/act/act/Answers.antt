@@ -21,7 +21,7 @@ returns-in-1 c =
       answer_laid_lem m a.e a.out.now a.to 1 c.in-1.is refl
           (turn_read m a.e c.in-1.is (read_done m.system
           a.ram.now a.sram.now a.gpio.now a.e.address a.e.size i c.read-got.ensures refl)
-          c.numbers.ensures) c.lay.ensures,
+          c.word.ensures) c.lay.ensures,
       (λ k. k),
     )
 
@@ -43,7 +43,7 @@ returns-in-2 c =
           c.in-2.is {m₁ = m₁} (write_done m a.e.address a.e.size (a.e.value % 2 ^ 32)
           {r = m₁.system.registers} {rtc = m₁.system.rtc} {page = m₁.system.page} {ram = m₁.ram}
           {sram = m₁.sram} {gpio = m₁.gpio} {fb = m₁.fb} {d = y.devices} {k = y.keys} {q = m₁.system.queue} i
-          c.write-written.ensures.0 c.write-written.ensures.1) c.refused.ensures) c.lay-in-2.ensures,
+          c.write-written.ensures.0 c.write-written.ensures.1) c.plain.ensures) c.lay-in-2.ensures,
       c.write-written.ensures.2.packed,
     )
 
@@ -57,9 +57,9 @@ returns-in-3 c =
     let i : x ≡ parts_of m.system = refl in (
       answer_laid_lem m a.e a.out.now a.to 3 c.in-3.is refl (turn_advance m a.e c.in-3.is
           (advance_done m.system
-          a.sram.now a.gpio.now (of_bits binary64 a.e.value) i c.advance_bits-n.ensures.0)
-          c.refused-in-3.ensures) c.lay-in-3.ensures,
-      c.advance_bits-n.ensures.1.packed,
+          a.sram.now a.gpio.now (of_bits binary64 a.e.value) i c.advance-advanced.ensures.0)
+          c.plain-in-3.ensures) c.lay-in-3.ensures,
+      c.advance-advanced.ensures.1.packed,
     )
 
 pub returns-in-4 : goal.returns-in-4
@@ -72,7 +72,7 @@ returns-in-4 c =
     let i : x ≡ parts_of m.system = refl in (
       answer_laid_lem m a.e a.out.now a.to 4 c.in-4.is refl
           (turn_next m a.e c.in-4.is (next_done m.system i
-          a.sram.now c.next_event-next.ensures) c.bits_of.ensures c.numbers-in-4.ensures) c.lay-in-4.ensures,
+          a.sram.now c.next_event-next.ensures) refl c.moment.ensures) c.lay-in-4.ensures,
       (λ k. k),
     )
 
@@ -86,7 +86,7 @@ returns-in-5 c =
     let i : x ≡ parts_of m.system = refl in (
       answer_laid_lem m a.e a.out.now a.to 5 c.in-5.is refl (turn_pending m a.e c.in-5.is
           (pending_done m.system i
-          (c.pending_irq-n.ensures a.floats.now)) c.numbers-in-5.ensures) c.lay-in-5.ensures,
+          (c.pending_irq-n.ensures a.floats.now)) c.numbers.ensures) c.lay-in-5.ensures,
       (λ k. k),
     )
 
@@ -100,9 +100,9 @@ returns-in-6 c =
     let i : x ≡ parts_of m.system = refl in (
       answer_laid_lem m a.e a.out.now a.to 6 c.in-6.is refl (turn_turbo m a.e c.in-6.is
           (turbo_done m.system (of_bits
-          binary64 a.e.value) i (c.turbo_bits-n.ensures a.cells.now).0) c.refused-in-6.ensures)
+          binary64 a.e.value) i (c.set_turbo-paced.ensures a.cells.now).0) c.plain-in-6.ensures)
           c.lay-in-6.ensures,
-      (c.turbo_bits-n.ensures a.cells.now).1.packed,
+      (c.set_turbo-paced.ensures a.cells.now).1.packed,
     )
 
 pub returns-in-7 : goal.returns-in-7
@@ -115,9 +115,9 @@ returns-in-7 c =
     let i : x ≡ parts_of m.system = refl in (
       answer_laid_lem m a.e a.out.now a.to 7 c.in-7.is refl
           (turn_live m a.e c.in-7.is (live_done m.system i
-          a.e.address (not (eqb a.e.value 0)) c.set_live-n.ensures.0) c.refused-in-7.ensures)
+          a.e.address (not (eqb a.e.value 0)) c.set_live-changed.ensures.0) c.plain-in-7.ensures)
           c.lay-in-7.ensures,
-      c.set_live-n.ensures.1.packed,
+      c.set_live-changed.ensures.1.packed,
     )
 
 pub returns-in-8 : goal.returns-in-8
@@ -130,9 +130,9 @@ returns-in-8 c =
     let i : x ≡ parts_of m.system = refl in (
       answer_laid_lem m a.e a.out.now a.to 8 c.in-8.is refl
           (turn_hold m a.e c.in-8.is (hold_done m.system i
-          a.e.address (of_bits binary64 a.e.value) c.hold_bits-n.ensures.0) c.refused-in-8.ensures)
+          a.e.address (of_bits binary64 a.e.value) c.hold_until-held.ensures.0) c.plain-in-8.ensures)
           c.lay-in-8.ensures,
-      c.hold_bits-n.ensures.1.packed,
+      c.hold_until-held.ensures.1.packed,
     )
 
 pub returns-in-9 : goal.returns-in-9
@@ -200,7 +200,7 @@ returns-in-12 c =
     w.ram w.sram
     w.gpio w.fb in (
       answer_laid_lem m a.e a.out.now a.to 12 {m₁ = m₁} c.in-12.is refl (turn_wipe m a.e
-          c.in-12.is {m₁ = m₁} c.wipe_all.ensures.0 c.refused-in-12.ensures) c.lay-in-12.ensures,
+          c.in-12.is {m₁ = m₁} c.wipe_all.ensures.0 c.plain-in-12.ensures) c.lay-in-12.ensures,
       (λ _. rw (c.wipe_all.ensures.1, c.wipe_all.ensures.2) fresh_packed),
     )
 
@@ -211,6 +211,6 @@ returns-in_default c =
           a.onsets.now a.frequencies.now a.duties.now a.starts.now a.codes.now
           (parts_in a.cells.now a.floats.now) a.ram.now a.sram.now a.gpio.now a.fb.now)
           a.e a.out.now a.to _ c.in_default.in_default-own.rest
-          c.refused-in_default.ensures c.lay-in_default.ensures,
+          c.plain-in_default.ensures c.lay-in_default.ensures,
       (λ k. k),
     )

@@ -1,3 +1,4 @@
+use Rattle.whole.proofs.Flags.{from_bool-bit}
 use Rattle.entries.proofs.act.counters.Goals as goal
 
 pub returns : goal.returns
@@ -7,6 +8,7 @@ returns c =
       c.numbers.ensures,
       c.frames_of-frames.ensures,
       c.writes_of-writes.ensures,
-      c.flag.ensures,
+      c.from.ensures,
+      from_bool-bit,
       c.off_of-off.ensures,
     )

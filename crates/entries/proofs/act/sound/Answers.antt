@@ -1,10 +1,5 @@
+use Rattle.entries.proofs.Refused.{refused_sound}
 use Rattle.entries.proofs.act.sound.Goals as goal
 
-pub returns : goal.returns
-returns c =
-    rw (
-      c.numbers.ensures,
-      c.bits_of.ensures,
-      c.bits_of-2.ensures,
-      c.bits_of-3.ensures,
-    )
+pub returns-in-Err : goal.returns-in-Err
+returns-in-Err c = refused_sound c.args.waited _ c.in-Err.is c.plain.ensures

@@ -1,6 +1,6 @@
-use Rattle.std.proofs.Common.{◌≡◌, ℕ, zero, suc, ◌+◌, ◌-◌, ◌<◌, List, [], ◌∷◌, ◌++◌, length, get_or, take, drop}
+use Rattle.std.proofs.Common.{◌≡◌, ℕ, zero, suc, ◌<◌, List, [], ◌∷◌, ◌++◌, length, get_or, take, drop}
 use Rattle.std.proofs.Common.{set, refl, ap, ◌∙◌, append-nil, le_of_eq, le_refl, le_of_suc-le-suc, not-suc-le-zero}
-use Rattle.std.proofs.Common.{add-one, arith, length-set, drop_of_length-le, take_all, bit_and}
+use Rattle.std.proofs.Common.{add-one, arith, drop_of_length-le, take_all, bit_and}
 use Rattle.flash.specs.Finish.{ands}
 use Rattle.flash.proofs.Long.{ands_long}
 use Rattle.flash.proofs.array.program.Goals as goal
@@ -20,33 +20,17 @@ whole p m =
     rw (drop_of_length-le p (le_refl (length p)), append-nil) (take_all (length p) (ands p m) (le_of_eq
     (ands_long p m)))
 
-pub loop-k-init : goal.loop-k-init
-loop-k-init c = (omega arith, refl, refl)
-
-pub bounds-part-k : goal.bounds-part-k
-bounds-part-k c = omega arith
-
-pub bounds-part-k-in-loop-k : goal.bounds-part-k-in-loop-k
-bounds-part-k-in-loop-k c = omega arith
-
-pub loop-k-smaller : goal.loop-k-smaller
-loop-k-smaller c = omega arith
-
 pub loop-k-preserved : goal.loop-k-preserved
 loop-k-preserved c =
-    let lp = c.loop-k in
-    let i = lp.invariant in
+    let l = c.loop-k in
     let p : List ℕ = c.args.part.now in
     let m : List ℕ = c.args.mask.now in
-    let l : lp.k < length p = omega arith in
-    (omega arith, simp length-set i.1, rw (i.2, add-one) (step lp.k p m l))
-
-pub shape_of-part : goal.shape_of-part
-shape_of-part c = c.loop-k.invariant.1
+    let less : l.k < length p = omega arith in
+    rw (l.invariant, add-one) (step l.k p m less)
 
 pub returns : goal.returns
 returns c =
     let p : List ℕ = c.args.part.now in
     let m : List ℕ = c.args.mask.now in
     let e : c.loop-k.k ≡ length p = omega arith in
-    c.loop-k.invariant.2 ∙ rw e (whole p m)
+    c.loop-k.invariant ∙ rw e (whole p m)

@@ -8,4 +8,4 @@ returns-then-pos-lt4 c = simp (lt-ltb _ _ c.if-pos-lt4.true)
 
 pub returns : goal.returns
 unfolding gathered
-returns c = simp (c.wide.ensures, le-ltb _ _ c.if-pos-lt4.false)
+returns c = simp (c.from.ensures, le-ltb _ _ c.if-pos-lt4.false)

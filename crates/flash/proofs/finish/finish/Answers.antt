@@ -70,14 +70,14 @@ returns-in-Enable c =
     let at_decide = c.decide-act in
     let a = c.args in
     arm a.chip a.page.now a.array.now Enable at_decide.ensures c.in-Enable.is
-    c.with_wel.ensures refl
+    refl refl
 
 pub returns-in-Disable : goal.returns-in-Disable
 returns-in-Disable c =
     let at_decide = c.decide-act in
     let a = c.args in
     arm a.chip a.page.now a.array.now Disable at_decide.ensures c.in-Disable.is
-    c.with_wel-in-Disable.ensures refl
+    refl refl
 
 pub returns-in-Program : goal.returns-in-Program
 returns-in-Program c =
@@ -108,4 +108,4 @@ returns-in-EraseAll c =
     let at_fill_lem = c.fill in
     let a = c.args in
     arm a.chip a.page.now a.array.now EraseAll at_decide.ensures c.in-EraseAll.is
-    c.with_wel-in-EraseAll.ensures at_fill_lem.ensures
+    refl at_fill_lem.ensures

@@ -1,4 +1,4 @@
-use Rattle.std.proofs.Common.{◌-◌, arith, rules}
+use Rattle.std.proofs.Common.{arith, rules}
 use Rattle.keys.proofs.Cases.{places_most, held_none, held_all}
 use Rattle.keys.proofs.down.keys_held.Goals as goal
 

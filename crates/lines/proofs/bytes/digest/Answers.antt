@@ -1,14 +1,9 @@
-use Rattle.std.proofs.Common.{◌≡◌, length, arith}
-use Rattle.lines.proofs.Laws.{digest_none, digest_more}
+-- `bytes::digest` meets its contract: the fold over the bytes is their digest.
+use Rattle.std.proofs.Common.{◌≡◌, ◌∙◌, ◌+◌, ◌*◌, ◌%◌, ◌^◌, fold, rules}
+use Rattle.lines.proofs.Laws.{digest_whole}
 use Rattle.lines.proofs.bytes.digest.Goals as goal
-
-pub loop-i-init : goal.loop-i-init
-loop-i-init c = (omega arith, digest_none _)
-
-pub loop-i-preserved : goal.loop-i-preserved
-loop-i-preserved c = (omega arith, digest_more _ _ c.loop-i.invariant.1 c.mixed-digest.ensures)
 
 pub returns : goal.returns
 returns c =
-    let e : c.loop-i.i ≡ length c.args.bytes.now = omega arith in rw
-    e at c.loop-i.invariant.1
+    let folded : c.fold.result ≡ fold (λ d b. (d * 31 + b) % 2 ^ 64) 0 c.args.bytes.now = search rules in
+    folded ∙ digest_whole c.args.bytes.now

@@ -17,4 +17,4 @@ returns c rtc page onsets frequencies duties starts codes l f =
     let m = machine_of a.slots.now a.addresses.now a.values.now rtc page onsets frequencies duties starts
     codes (parts_in l f) a.ram.now a.sram.now a.gpio.now a.fb.now in
     called_good m (steps.peek32 a.address) c.bad_memory.ensures c.if-bad_memory.false (stepped_peek32 m a.address
-    c.peek32-seen.ensures)
+    c.peek32.ensures)

@@ -18,6 +18,7 @@ returns c rtc page onsets frequencies duties starts codes =
     let a = c.args in
     let m = machine_of a.slots.now a.addresses.now a.values.now rtc page onsets frequencies duties starts
     codes (parts_in a.cells.now a.floats.now) a.ram.now a.sram.now a.gpio.now a.fb.now in
-    called_good m (steps.read a.address a.size) c.bad_memory.ensures c.if-bad_memory.false
-    (stepped_read m a.address a.size (read_done m.system a.ram.now a.sram.now a.gpio.now a.address a.size {x =
-    parts_in a.cells.now a.floats.now} refl c.read-got.ensures refl))
+    rw (c.status.ensures, c.unwrap_or.ensures) (called_good m (steps.read a.address a.size) c.bad_memory.ensures
+    c.if-bad_memory.false (stepped_read m a.address a.size
+    (read_done m.system a.ram.now a.sram.now a.gpio.now a.address a.size {x =
+    parts_in a.cells.now a.floats.now} refl c.read-got.ensures refl)))

@@ -26,7 +26,8 @@ returns c starts codes =
     let w = c.write-answer.new in
     let y = parts_in w.cells w.floats in
     let m₁ = machine_of w.slots w.addresses w.values w.rtc w.page w.onsets w.frequencies w.duties starts codes y
-    w.ram w.sram w.gpio w.fb in (
+    w.ram w.sram w.gpio w.fb in
+    rw c.status.ensures (
       called_good m (steps.write a.address a.size a.value) c.bad_memory.ensures c.if-bad_memory.false
           (stepped_write m a.address a.size a.value {m₁ = m₁} (write_done m
           a.address a.size a.value {r = m₁.system.registers} {rtc = m₁.system.rtc} {page = m₁.system.page}

@@ -15,5 +15,5 @@ returns c slots addresses values rtc page onsets frequencies duties starts codes
     let a = c.args in
     let m = machine_of slots addresses values rtc page onsets frequencies duties starts codes (parts_in l f)
     a.ram.now a.sram.now a.gpio.now a.fb.now in
-    screen_laid m c.bad_memory.ensures a.rgb.now c.if-bad_memory.false c.screen_number.ensures
-    c.rgb-refusal.ensures
+    screen_laid m c.bad_memory.ensures a.rgb.now c.if-bad_memory.false c.status.ensures
+    c.rgb.ensures

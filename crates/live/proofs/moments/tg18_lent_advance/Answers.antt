@@ -18,7 +18,8 @@ pub returns : goal.returns
 returns c addresses values rtc page onsets frequencies duties =
     let a = c.args in
     let m = machine_of a.slots.now addresses values rtc page onsets frequencies duties a.starts.now a.codes.now
-    (parts_in a.cells.now a.floats.now) a.ram.now a.sram.now a.gpio.now a.fb.now in (
+    (parts_in a.cells.now a.floats.now) a.ram.now a.sram.now a.gpio.now a.fb.now in
+    rw c.status.ensures (
       called_good m (steps.advance a.to) c.bad_memory.ensures c.if-bad_memory.false (stepped_advance m a.to
           (advance_done m.system a.sram.now a.gpio.now a.to {x = parts_in a.cells.now a.floats.now}
           refl (c.advance.ensures.0))),

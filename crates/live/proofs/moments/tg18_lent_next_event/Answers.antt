@@ -18,5 +18,6 @@ returns c addresses values rtc page onsets frequencies duties codes =
     let a = c.args in
     let m = machine_of a.slots.now addresses values rtc page onsets frequencies duties a.starts.now codes
     (parts_in a.cells.now a.floats.now) a.ram.now a.sram.now a.gpio.now a.fb.now in
-    called_good m (steps.next_event) c.bad_memory.ensures c.if-bad_memory.false (stepped_next m (next_done m.system
-    {x = parts_in a.cells.now a.floats.now} refl a.sram.now c.next_event-next.ensures))
+    rw (c.status.ensures, c.unwrap_or.ensures) (called_good m (steps.next_event) c.bad_memory.ensures
+    c.if-bad_memory.false (stepped_next m (next_done m.system {x = parts_in a.cells.now a.floats.now} refl
+    a.sram.now c.next_event-next.ensures)))

@@ -9,7 +9,8 @@ pub returns : goal.returns
 returns c slots addresses values rtc page onsets frequencies duties starts codes l ram sram gpio fb =
     let a = c.args in
     let m = machine_of slots addresses values rtc page onsets frequencies duties starts codes
-    (parts_in l a.floats.now) ram sram gpio fb in (
+    (parts_in l a.floats.now) ram sram gpio fb in
+    rw c.status.ensures (
       stepped_turbo m a.to (turbo_done m.system a.to {x = parts_in l a.floats.now} refl (c.set_turbo.ensures l).0),
       (c.set_turbo.ensures l).1,
     )

@@ -4,9 +4,9 @@ use Rattle.panel.proofs.args.argument.Goals as goal
 
 pub returns-then-n-eq3 : goal.returns-then-n-eq3
 returns-then-n-eq3 c =
-    let low = c.wide-lo in
-    let high = c.wide-hi in
-    argues_fourth _ _ _ _ _ _ (omega arith) low.ensures high.ensures c.code.ensures
+    let low = c.from_be_bytes-lo.ensures in
+    let high = c.from_be_bytes-hi.ensures in
+    argues_fourth _ _ _ _ _ _ (omega arith) (omega arith) (omega arith) c.code.ensures
     c.aim-window.ensures
 
 pub returns-else-n-eq3 : goal.returns-else-n-eq3

@@ -6,7 +6,7 @@ pub returns-then-code-eq44 : goal.returns-then-code-eq44
 returns-then-code-eq44 c =
     let at_code = c.code in
     let at_if = c.if-code-eq44 in
-    draws _ _ _ _ _ (sym at_code.ensures ∙ at_if.true) c.paint-moved.ensures
+    draws _ _ _ _ _ (sym at_code.ensures ∙ at_if.true) c.paint-pen.ensures
 
 pub returns : goal.returns
 returns c =

@@ -1,4 +1,4 @@
-use Rattle.std.proofs.Common.{sym, ◌∙◌, arith}
+use Rattle.std.proofs.Common.{sym, ◌∙◌}
 use Rattle.resuming.proofs.Deciding.{too_short, over_words, over_presses, over_events, wrong_size, right_size}
 use Rattle.resuming.proofs.judge.good_session.Goals as goal
 
@@ -7,26 +7,13 @@ pub returns-then-len-lt-LEAST : goal.returns-then-len-lt-LEAST
 returns-then-len-lt-LEAST c = too_short _ c.if-len-lt-LEAST.true
 
 -- src/judge.rt:132:9
-pub count-n-requires : goal.count-n-requires
-count-n-requires c = omega (arith, c.if-len-lt-LEAST.false)
-
 -- src/judge.rt:134:9
 pub returns-then-n-gt256 : goal.returns-then-n-gt256
 returns-then-n-gt256 c = over_words _ c.if-len-lt-LEAST.false c.count-n.ensures c.if-n-gt256.true
 
 -- src/judge.rt:136:22
-pub flags_at-requires : goal.flags_at-requires
-flags_at-requires c = c.if-n-gt256.false
-
 -- src/judge.rt:136:22
-pub overflow_add-flags_at : goal.overflow_add-flags_at
-overflow_add-flags_at c = omega (arith, c.flags_at.ensures, c.if-n-gt256.false)
-
 -- src/judge.rt:136:9
-pub count-k-requires : goal.count-k-requires
-count-k-requires c =
-    omega (arith, c.flags_at.ensures, c.if-n-gt256.false, c.if-len-lt-LEAST.false)
-
 -- src/judge.rt:138:9
 pub returns-then-k-gt64 : goal.returns-then-k-gt64
 returns-then-k-gt64 c =
@@ -34,31 +21,11 @@ returns-then-k-gt64 c =
     c.if-k-gt64.true
 
 -- src/judge.rt:140:22
-pub flags_at-requires-2 : goal.flags_at-requires-2
-flags_at-requires-2 c = c.if-n-gt256.false
-
 -- src/judge.rt:140:22
-pub overflow_add-flags_at-2 : goal.overflow_add-flags_at-2
-overflow_add-flags_at-2 c = omega (arith, c.flags_at-2.ensures, c.if-n-gt256.false)
-
 -- src/judge.rt:140:22
-pub overflow_add-flags_at-3 : goal.overflow_add-flags_at-3
-overflow_add-flags_at-3 c = omega (arith, c.flags_at-2.ensures, c.if-n-gt256.false)
-
 -- src/judge.rt:140:46
-pub overflow_mul-k : goal.overflow_mul-k
-overflow_mul-k c = omega (arith, c.if-k-gt64.false)
-
 -- src/judge.rt:140:22
-pub overflow_add-flags_at-4 : goal.overflow_add-flags_at-4
-overflow_add-flags_at-4 c =
-    omega (arith, c.flags_at-2.ensures, c.if-n-gt256.false, c.if-k-gt64.false)
-
 -- src/judge.rt:140:9
-pub count-e-requires : goal.count-e-requires
-count-e-requires c =
-    omega (arith, c.flags_at-2.ensures, c.if-n-gt256.false, c.if-k-gt64.false, c.if-len-lt-LEAST.false)
-
 -- src/judge.rt:142:9
 pub returns-then-e-gt256 : goal.returns-then-e-gt256
 returns-then-e-gt256 c =
@@ -66,17 +33,8 @@ returns-then-e-gt256 c =
     c.if-k-gt64.false c.flags_at-2.ensures c.count-e.ensures c.if-e-gt256.true
 
 -- src/judge.rt:144:20
-pub overflow_cast-n : goal.overflow_cast-n
-overflow_cast-n c = omega (arith, c.if-n-gt256.false)
-
 -- src/judge.rt:144:30
-pub overflow_cast-k : goal.overflow_cast-k
-overflow_cast-k c = omega (arith, c.if-k-gt64.false)
-
 -- src/judge.rt:144:39
-pub overflow_cast-e : goal.overflow_cast-e
-overflow_cast-e c = omega (arith, c.if-e-gt256.false)
-
 -- src/judge.rt:145:9
 pub returns-then-len-size : goal.returns-then-len-size
 returns-then-len-size c =

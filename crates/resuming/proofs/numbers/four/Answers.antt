@@ -1,7 +1,6 @@
-use Rattle.session.specs.Fields.{number, span}
+use Rattle.session.specs.Fields.{span}
 use Rattle.resuming.proofs.numbers.four.Goals as goal
 
--- src/numbers.rt:37:5
 pub overflow_cast-result : goal.overflow_cast-result
 unfolding span
 overflow_cast-result c = record { fits = c.number.ensures.1 }

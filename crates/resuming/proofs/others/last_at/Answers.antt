@@ -1,4 +1,4 @@
-use Rattle.std.proofs.Common.{◌∙◌, arith}
+use Rattle.std.proofs.Common.{◌∙◌}
 use Rattle.resuming.proofs.Tables.{last_first, last_more}
 use Rattle.resuming.proofs.others.last_at.Goals as goal
 
@@ -7,9 +7,6 @@ pub returns-then-i-eq0 : goal.returns-then-i-eq0
 returns-then-i-eq0 c = last_first _ _ c.if-i-eq0.true
 
 -- src/others.rt:51:32
-pub overflow_sub-i : goal.overflow_sub-i
-overflow_sub-i c = omega (arith, c.if-i-eq0.false)
-
 -- src/others.rt:44:1
 pub returns : goal.returns
 returns c = c.number.ensures.0 ∙ last_more _ _ c.if-i-eq0.false

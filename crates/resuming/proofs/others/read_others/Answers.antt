@@ -1,36 +1,22 @@
-use Rattle.std.proofs.Common.{◌-◌, arith}
-use Rattle.resuming.proofs.Tables.{fills_start, fills_on, fills_all}
-use Rattle.session.specs.Read.{places_in}
+use Rattle.std.proofs.Common.{ℕ, ap, ◌∙◌, arith}
+use Rattle.resuming.proofs.Tables.{first_none, first_more, first_all}
+use Rattle.session.specs.Fields.{number}
+use Rattle.session.specs.Read.{place_in, places_in}
 use Rattle.resuming.proofs.others.read_others.Goals as goal
 
--- src/others.rt:99:5
 pub loop-i-init : goal.loop-i-init
-loop-i-init c = (omega arith, (fills_start _ _, fills_start _ _))
+loop-i-init c = (first_none _ 0 256, first_none _ 0 256)
 
--- src/others.rt:100:24
-pub place-requires : goal.place-requires
-place-requires c =
-    (omega (arith, c.requires.0), c.requires.1)
-
--- src/others.rt:101:21
-pub place-requires-in-loop-i : goal.place-requires-in-loop-i
-place-requires-in-loop-i c =
-    (omega (arith, c.requires.0), c.requires.1)
-
--- src/others.rt:99:5
 pub loop-i-preserved : goal.loop-i-preserved
 loop-i-preserved c = (
-  omega arith,
-  (
-    fills_on c.loop-i.invariant.1.0 c.words_long.ensures c.loop-i-test.true c.place.ensures,
-    fills_on c.loop-i.invariant.1.1 c.words_long-2.ensures c.loop-i-test.true c.place-in-loop-i.ensures,
-  ),
+  first_more _ 0 256 c.loop-i.invariant.0 (omega arith) c.four.ensures,
+  first_more _ 0 256 c.loop-i.invariant.1 (omega arith)
+      (c.four-in-loop-i.ensures ∙ ap (λ (k : ℕ). number c.args.s.now k 4) (omega arith)),
 )
 
--- src/others.rt:91:1
 pub returns : goal.returns
-unfolding places_in
+unfolding places_in place_in
 returns c = (
-  fills_all c.loop-i.invariant.1.0 256 c.words_long.ensures c.loop-i.invariant.0 c.loop-i-test.false,
-  fills_all c.loop-i.invariant.1.1 256 c.words_long-2.ensures c.loop-i.invariant.0 c.loop-i-test.false,
+  first_all _ 0 256 c.args.n c.loop-i.invariant.0 (omega arith),
+  first_all _ 0 256 c.args.n c.loop-i.invariant.1 (omega arith),
 )

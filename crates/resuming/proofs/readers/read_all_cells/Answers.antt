@@ -5,49 +5,14 @@ use Rattle.session.proofs.Long.{latched_bytes, chip_bytes, down_bytes}
 use Rattle.resuming.proofs.readers.read_all_cells.Goals as goal
 
 -- src/readers.rt:25:9
-pub flags_at-p-requires : goal.flags_at-p-requires
-flags_at-p-requires c = c.requires.1
-
 -- src/readers.rt:27:5
-pub read_cells-requires : goal.read_cells-requires
-read_cells-requires c =
-    (omega (arith, pending_bytes, c.requires.0, c.requires.1), omega arith)
-
 -- src/readers.rt:28:5
-pub read_cells-requires-2 : goal.read_cells-requires-2
-read_cells-requires-2 c =
-    (omega (arith, converting_bytes, c.requires.0, c.requires.1, c.flags_at-p.ensures), omega arith)
-
 -- src/readers.rt:29:5
-pub read_cells-requires-3 : goal.read_cells-requires-3
-read_cells-requires-3 c =
-    (omega (arith, off_bytes, c.requires.0, c.requires.1, c.flags_at-p.ensures), omega arith)
-
 -- src/readers.rt:30:5
-pub read_cells-requires-4 : goal.read_cells-requires-4
-read_cells-requires-4 c =
-    (omega (arith, drawing_bytes, c.requires.0, c.requires.1, c.flags_at-p.ensures), omega arith)
-
 -- src/readers.rt:31:5
-pub read_cells-requires-5 : goal.read_cells-requires-5
-read_cells-requires-5 c =
-    (omega (arith, ticks_bytes, c.requires.0, c.requires.1, c.flags_at-p.ensures), omega arith)
-
 -- src/readers.rt:32:5
-pub read_cells-requires-6 : goal.read_cells-requires-6
-read_cells-requires-6 c =
-    (omega (arith, latched_bytes, c.requires.0, c.requires.1, c.flags_at-p.ensures), omega arith)
-
 -- src/readers.rt:33:5
-pub read_cells-requires-7 : goal.read_cells-requires-7
-read_cells-requires-7 c =
-    (omega (arith, chip_bytes, c.requires.0, c.requires.1, c.flags_at-p.ensures), omega arith)
-
 -- src/readers.rt:34:5
-pub read_cells-requires-8 : goal.read_cells-requires-8
-read_cells-requires-8 c =
-    (omega (arith, down_bytes, c.requires.0, c.requires.1, c.flags_at-p.ensures), omega arith)
-
 -- src/readers.rt:21:1
 pub returns : goal.returns
 unfolding cells_in
@@ -63,3 +28,35 @@ returns c =
       c.read_cells.ensures,
       c.flags_at-p.ensures,
     )
+
+pub read_cells-requires : goal.read_cells-requires
+read_cells-requires c =
+    (omega (arith, pending_bytes, c.requires.0, c.requires.1), omega arith)
+
+pub read_cells-requires-2 : goal.read_cells-requires-2
+read_cells-requires-2 c =
+    (omega (arith, converting_bytes, c.requires.0, c.requires.1, c.flags_at-p.ensures), omega arith)
+
+pub read_cells-requires-3 : goal.read_cells-requires-3
+read_cells-requires-3 c =
+    (omega (arith, off_bytes, c.requires.0, c.requires.1, c.flags_at-p.ensures), omega arith)
+
+pub read_cells-requires-4 : goal.read_cells-requires-4
+read_cells-requires-4 c =
+    (omega (arith, drawing_bytes, c.requires.0, c.requires.1, c.flags_at-p.ensures), omega arith)
+
+pub read_cells-requires-5 : goal.read_cells-requires-5
+read_cells-requires-5 c =
+    (omega (arith, ticks_bytes, c.requires.0, c.requires.1, c.flags_at-p.ensures), omega arith)
+
+pub read_cells-requires-6 : goal.read_cells-requires-6
+read_cells-requires-6 c =
+    (omega (arith, latched_bytes, c.requires.0, c.requires.1, c.flags_at-p.ensures), omega arith)
+
+pub read_cells-requires-7 : goal.read_cells-requires-7
+read_cells-requires-7 c =
+    (omega (arith, chip_bytes, c.requires.0, c.requires.1, c.flags_at-p.ensures), omega arith)
+
+pub read_cells-requires-8 : goal.read_cells-requires-8
+read_cells-requires-8 c =
+    (omega (arith, down_bytes, c.requires.0, c.requires.1, c.flags_at-p.ensures), omega arith)

@@ -1,4 +1,4 @@
-use Rattle.std.proofs.Common.{◌+◌, ◌-◌, ◌*◌, ◌≤◌, ◌≡◌}
+use Rattle.std.proofs.Common.{◌+◌, ◌*◌, ◌≡◌, true}
 use Rattle.session.specs.Fields.{all_below}
 use Rattle.session.specs.Read.{float_at}
 use Rattle.session.specs.Good.{good_event}
@@ -6,8 +6,5 @@ use Rattle.resuming.proofs.sounds.good_events.Given as goal
 
 abbrev pub invariant-loop-i : goal.invariant-loop-i
 invariant-loop-i l =
-    (l.i ≤ l.e) × (l.good ≡ all_below (λ j. good_event (float_at l.s (l.from + 24 * j)) (float_at
-    l.s (l.from + 24 * j + 8)) (float_at l.s (l.from + 24 * j + 16))) l.i)
-
-abbrev pub decreases-loop-i : goal.decreases-loop-i
-decreases-loop-i l = l.e - l.i
+    all_below (λ j. good_event (float_at l.s (l.from + 24 * j)) (float_at l.s (l.from + 24 * j + 8))
+    (float_at l.s (l.from + 24 * j + 16))) l.i ≡ true

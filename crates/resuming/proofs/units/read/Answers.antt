@@ -3,38 +3,12 @@ use Rattle.resuming.proofs.Entire.{read_is, bank_is}
 use Rattle.resuming.proofs.units.read.Goals as goal
 
 -- src/units.rt:51:9
-pub counts_of-has-requires : goal.counts_of-has-requires
-counts_of-has-requires c = c.requires.0
-
 -- src/units.rt:55:5
-pub read_slots-requires : goal.read_slots-requires
-read_slots-requires c = omega (arith, c.counts_of-has.ensures.sized.0)
-
 -- src/units.rt:56:5
-pub read_others-requires : goal.read_others-requires
-read_others-requires c =
-    (omega (arith, c.counts_of-has.ensures.sized.0), c.counts_of-has.ensures.sized.1.0)
-
 -- src/units.rt:57:5
-pub read_pages-requires : goal.read_pages-requires
-read_pages-requires c =
-    (omega (arith, c.counts_of-has.ensures.sized.0), c.counts_of-has.ensures.sized.1.0)
-
 -- src/units.rt:58:5
-pub read_tables-requires : goal.read_tables-requires
-read_tables-requires c =
-    c.counts_of-has.ensures.sized
-
 -- src/units.rt:59:5
-pub read_bank-requires : goal.read_bank-requires
-read_bank-requires c =
-    (omega (arith, c.counts_of-has.ensures.sized.0), c.counts_of-has.ensures.sized.1.0)
-
 -- src/units.rt:61:38
-pub ram_at-requires : goal.ram_at-requires
-ram_at-requires c =
-    c.counts_of-has.ensures.sized.1
-
 -- src/units.rt:61:5
 pub read_memories-requires : goal.read_memories-requires
 read_memories-requires c =

@@ -1,12 +1,9 @@
-use Rattle.std.proofs.Common.{◌≡◌, ◌&&◌, ◌+◌, ◌-◌, ◌*◌, ◌≤◌}
+use Rattle.std.proofs.Common.{◌≡◌, ◌&&◌, ◌+◌, ◌-◌, ◌*◌}
 use Rattle.runner.specs.Format.{step_bytes, kinds_from}
 use Rattle.runner.specs.Inner.{Kinds}
 use Rattle.runner.proofs.format.few_kinds.Given as goal
 
-abbrev pub invariant-loop-left : goal.invariant-loop-left
-invariant-loop-left l =
-    (l.left ≤ l.n) × (l.at + step_bytes * l.left ≡ l.from +
-    step_bytes * l.n) × (Kinds l.table → (l.good && kinds_from l.script l.at l.left) ≡ kinds_from l.script l.from l.n)
-
-abbrev pub decreases-loop-left : goal.decreases-loop-left
-decreases-loop-left l = l.left
+abbrev pub invariant-loop-i : goal.invariant-loop-i
+invariant-loop-i l =
+    Kinds l.table → (l.good && kinds_from l.script (l.from + step_bytes * l.i) (l.n - l.i))
+    ≡ kinds_from l.script l.from l.n

@@ -1,4 +1,4 @@
-use Rattle.std.proofs.Common.{◌≡◌, ◌&&◌, ◌+◌, ◌-◌, ◌*◌, ◌≤◌}
+use Rattle.std.proofs.Common.{◌≡◌, ◌&&◌, ◌+◌, ◌*◌, ◌≤◌}
 use Rattle.runner.specs.Format.{step_bytes, kinds_from}
 use Rattle.runner.proofs.format.kinds.Given as goal
 

@@ -2,6 +2,7 @@ use Rattle.state.specs.Bank.{parts_in}
 use Rattle.system.specs.Bank.{state_in, machine_of}
 use Rattle.runner.specs.Script.{continued}
 use Rattle.runner.proofs.Runs.{run_fresh}
+use Rattle.map.specs.Refusals.{number_of}
 use Rattle.runner.proofs.loops.run_script.Goals as goal
 
 pub returns : goal.returns
@@ -13,7 +14,7 @@ returns c =
     v.codes
     (parts_in v.cells v.floats) in
     let w = c.continue_script.new in
-    let x = continued c.continue_script.result (machine_of w.slots w.addresses w.values w.rtc w.page
+    let x = continued (number_of c.continue_script.result) (machine_of w.slots w.addresses w.values w.rtc w.page
     w.onsets w.frequencies w.duties w.starts
     w.codes
     (parts_in w.cells w.floats)

@@ -1,27 +1,5 @@
-use Rattle.std.proofs.Common.{◌-◌, refl, ◌∙◌, arith, length-set}
-use Rattle.saving.proofs.Copying.{out_on, out_laid}
+use Rattle.saving.proofs.Copying.{copied}
 use Rattle.saving.proofs.copies.copy_out.Goals as goal
 
--- src/copies.rt:12:5
-pub loop-i-init : goal.loop-i-init
-loop-i-init c = (omega arith, refl, refl)
-
--- src/copies.rt:13:13
-pub overflow_add-out : goal.overflow_add-out
-overflow_add-out c = omega (arith, c.requires)
-
--- src/copies.rt:13:9
-pub bounds-out-at : goal.bounds-out-at
-bounds-out-at c = omega (arith, c.requires, c.loop-i.invariant.2)
-
--- src/copies.rt:12:5
-pub loop-i-preserved : goal.loop-i-preserved
-loop-i-preserved c = (
-  omega arith,
-  out_on _ _ _ _ c.loop-i-test.true ∙ c.loop-i.invariant.1,
-  simp length-set c.loop-i.invariant.2,
-)
-
--- src/copies.rt:6:1
 pub returns : goal.returns
-returns c = out_laid _ _ _ _ _ c.loop-i.invariant.1 c.loop-i-test.false
+returns c = copied _ _ _ _ c.copy_from_slice.ensures.after c.requires

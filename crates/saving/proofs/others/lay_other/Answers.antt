@@ -1,7 +1,7 @@
 use Rattle.std.proofs.Common.{arith, length-append}
 use Rattle.memory.specs.Bytes.{bytes_of}
 use Rattle.session.proofs.Digits.{length_bytes}
-use Rattle.saving.proofs.Laid.{then, laid_length, next_fit}
+use Rattle.saving.proofs.Laid.{then, next_fit}
 use Rattle.saving.proofs.others.lay_other.Goals as goal
 
 -- src/others.rt:41:9
@@ -18,11 +18,6 @@ put_four-next-requires c =
 pub put_four-requires : goal.put_four-requires
 put_four-requires c =
     next_fit c.put_four-next.ensures (bytes_of 4 c.args.value) _ (length_bytes 4 _) c.requires
-
--- src/others.rt:37:1
-pub shape_of-out : goal.shape_of-out
-shape_of-out c =
-    laid_length (then c.put_four-next.ensures c.put_four.ensures)
 
 -- src/others.rt:37:1
 pub returns : goal.returns

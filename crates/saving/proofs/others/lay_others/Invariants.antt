@@ -1,4 +1,4 @@
-use Rattle.std.proofs.Common.{◌-◌, ◌≤◌, get_or}
+use Rattle.std.proofs.Common.{◌-◌, get_or}
 use Rattle.saving.specs.Inner.{Laid}
 use Rattle.session.specs.Fields.{rows_of}
 use Rattle.session.specs.Sections.{other_row}
@@ -6,8 +6,5 @@ use Rattle.saving.proofs.others.lay_others.Given as goal
 
 abbrev pub invariant-loop-i : goal.invariant-loop-i
 invariant-loop-i l =
-    (l.i ≤ l.n) × Laid l.initial.out l.out l.at l.next (rows_of (λ j. other_row
-    (get_or l.addresses (l.n - 1 - j) 0) (get_or l.values (l.n - 1 - j) 0)) l.i)
-
-abbrev pub decreases-loop-i : goal.decreases-loop-i
-decreases-loop-i l = l.n - l.i
+    Laid l.initial.out l.out l.at l.next (rows_of (λ j. other_row
+    (get_or l.addresses (l.n - 1 - j) 0) (get_or l.values (l.n - 1 - j) 0)) (l.n - l.i))

@@ -1,21 +1,13 @@
-use Rattle.std.proofs.Common.{◌-◌, refl, sym, ◌∙◌, arith}
-use Rattle.saving.proofs.Tables.{used_here, used_on, used_end}
+use Rattle.std.proofs.Common.{eqb, rules, tests}
+use Rattle.std.proofs.lemmas.Iterator.{YieldsList-from_slice}
+use Rattle.std.proofs.lemmas.Iterator.Search.{position_from_yields_List}
+use Rattle.saving.proofs.Tables.{used_first}
 use Rattle.saving.proofs.others.used.Goals as goal
 
--- src/others.rt:15:5
-pub loop-i-init : goal.loop-i-init
-loop-i-init c = (omega arith, refl)
-
--- src/others.rt:17:13
-pub returns-then-values-i-eq0 : goal.returns-then-values-i-eq0
-returns-then-values-i-eq0 c =
-    (sym (used_here _ _ 256 c.loop-i-test.true c.if-values-i-eq0.true) ∙ c.loop-i.invariant.1, c.loop-i.invariant.0)
-
--- src/others.rt:15:5
-pub loop-i-preserved : goal.loop-i-preserved
-loop-i-preserved c =
-    (omega arith, sym (used_on _ _ 256 c.loop-i-test.true c.if-values-i-eq0.false) ∙ c.loop-i.invariant.1)
-
--- src/others.rt:11:1
 pub returns : goal.returns
-returns c = (sym (used_end _ _ 256 c.loop-i-test.false) ∙ c.loop-i.invariant.1, c.loop-i.invariant.0)
+returns c =
+    let values = c.args.values.now in
+    used_first values _ _ (c.told-values)
+    (position_from_yields_List (λ x. eqb x 0) _ _ c.position.result c.position.ensures.ran
+    (YieldsList-from_slice values cc) (λ x b q k. search (rules, tests)))
+    c.unwrap_or.ensures

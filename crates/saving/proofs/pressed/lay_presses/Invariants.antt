@@ -1,4 +1,4 @@
-use Rattle.std.proofs.Common.{◌-◌, ◌≤◌, get_or}
+use Rattle.std.proofs.Common.{get_or}
 use Rattle.saving.specs.Inner.{Laid}
 use Rattle.session.specs.Fields.{rows_of}
 use lib.Ieee.{nan}
@@ -7,8 +7,5 @@ use Rattle.saving.proofs.pressed.lay_presses.Given as goal
 
 abbrev pub invariant-loop-i : goal.invariant-loop-i
 invariant-loop-i l =
-    (l.i ≤ l.n) × Laid l.initial.out l.out l.at l.next (rows_of (λ j. press_if
+    Laid l.initial.out l.out l.at l.next (rows_of (λ j. press_if
     (get_or l.codes j 0) (get_or l.starts j nan) l.time) l.i)
-
-abbrev pub decreases-loop-i : goal.decreases-loop-i
-decreases-loop-i l = l.n - l.i

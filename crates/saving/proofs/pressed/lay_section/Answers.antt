@@ -1,4 +1,4 @@
-use Rattle.saving.proofs.Laid.{head_room, then, laid_length, room}
+use Rattle.saving.proofs.Laid.{head_room, then, room}
 use Rattle.session.specs.Sections.{presses_section}
 use Rattle.saving.proofs.pressed.lay_section.Goals as goal
 
@@ -12,11 +12,6 @@ pub lay_presses-requires : goal.lay_presses-requires
 unfolding presses_section
 lay_presses-requires c =
     (room c.put-first.ensures _ c.requires.0, c.requires.1)
-
--- src/pressed.rt:76:1
-pub shape_of-out : goal.shape_of-out
-shape_of-out c =
-    laid_length (then c.put-first.ensures c.lay_presses.ensures)
 
 -- src/pressed.rt:76:1
 pub returns : goal.returns

@@ -1,4 +1,4 @@
-use Rattle.std.proofs.Common.{◌+◌, ◌-◌, ◌≤◌, get_or}
+use Rattle.std.proofs.Common.{◌+◌, ◌-◌, get_or}
 use Rattle.memory.specs.Bytes.{bytes_of}
 use Rattle.saving.specs.Inner.{Laid}
 use Rattle.session.specs.Fields.{rows_of}
@@ -7,8 +7,5 @@ use Rattle.saving.proofs.runs.lay_cells.Given as goal
 
 abbrev pub invariant-loop-i : goal.invariant-loop-i
 invariant-loop-i l =
-    (l.i ≤ l.n) × Laid l.initial.out l.out l.at l.next (rows_of (λ j. bytes_of (width_at
-    (l.from + j)) (get_or l.cells (l.from + j) 0)) l.i)
-
-abbrev pub decreases-loop-i : goal.decreases-loop-i
-decreases-loop-i l = l.n - l.i
+    Laid l.initial.out l.out l.at l.next (rows_of (λ j. bytes_of (width_at
+    (l.from + j)) (get_or l.cells (l.from + j) 0)) (l.i - l.from))

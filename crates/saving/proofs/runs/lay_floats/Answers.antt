@@ -1,39 +1,35 @@
-use Rattle.std.proofs.Common.{◌-◌, arith}
+use Rattle.std.proofs.Common.{◌+◌, ◌-◌, ◌≡◌, ap, ◌∙◌, length, take, drop, length-drop, arith}
+use Rattle.std.proofs.lemmas.List.{get_or-take, get_or-drop, length-take-le}
+use lib.Ieee.{Float, nan}
+use Rattle.memory.specs.Bytes.{bytes_of}
+use Rattle.whole.specs.Forms.{bits_of}
 use Rattle.session.specs.Fields.{rows_of}
 use Rattle.session.proofs.Digits.{length_bytes}
-use Rattle.saving.proofs.Laid.{none_laid, rows_here, laid_length, rows_then, rows_all}
+use Rattle.saving.proofs.Laid.{none_laid, rows_then, rows_fit, rows_all, laid_as}
 use Rattle.session.specs.Sections.{float_bytes}
 use Rattle.saving.proofs.runs.lay_floats.Goals as goal
 
--- src/runs.rt:31:5
-pub loop-i-init : goal.loop-i-init
+pub loop-float-init : goal.loop-float-init
 unfolding rows_of
-loop-i-init c = (omega arith, none_laid _ _)
+loop-float-init c = none_laid _ _
 
--- src/runs.rt:32:44
-pub overflow_add-from : goal.overflow_add-from
-overflow_add-from c = omega (arith, c.requires.1, c.loop-i-test.true)
-
--- src/runs.rt:32:37
-pub offset_bounds-floats-from : goal.offset_bounds-floats-from
-offset_bounds-floats-from c = omega (arith, c.requires.1, c.loop-i-test.true)
-
--- src/runs.rt:32:9
 pub put_float-next-requires : goal.put_float-next-requires
 unfolding float_bytes
 put_float-next-requires c =
-    rows_here _ c.loop-i.invariant.1 _ (length_bytes 8 _) _ c.loop-i-test.true c.requires.0
+    rows_fit _ c.loop-float.invariant 8 (λ j. length_bytes 8 _) c.args.n (omega arith) c.requires.0
 
--- src/runs.rt:31:5
-pub loop-i-preserved : goal.loop-i-preserved
-loop-i-preserved c =
-    (omega arith, rows_then _ c.loop-i.invariant.1 c.put_float-next.ensures)
+pub loop-float-preserved : goal.loop-float-preserved
+loop-float-preserved c =
+    let from = c.args.from in
+    let floats = c.args.floats.now in
+    let part = drop from floats in
+    let long : length (take (from + c.args.n - from) part) ≡ from + c.args.n - from
+    = length-take-le _ part (rw length-drop (omega (arith, c.told-floats, c.requires.1))) in
+    rows_then _ c.loop-float.invariant
+    (laid_as c.put_float-next.ensures
+    (ap (λ (x : Float). bytes_of 8 (bits_of x))
+    (get_or-take _ part _ nan (omega (arith, long, c.loop-float-test.true)) ∙ get_or-drop from floats _ nan)))
 
--- src/runs.rt:25:1
-pub shape_of-out : goal.shape_of-out
-shape_of-out c = laid_length c.loop-i.invariant.1
-
--- src/runs.rt:25:1
 pub returns : goal.returns
 unfolding float_bytes
-returns c = rows_all _ c.loop-i.invariant.1 _ c.loop-i.invariant.0 c.loop-i-test.false
+returns c = rows_all _ c.loop-float.invariant _ (omega arith) (omega arith)

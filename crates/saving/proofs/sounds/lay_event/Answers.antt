@@ -1,7 +1,7 @@
 use Rattle.std.proofs.Common.{◌++◌, arith, length-append}
 use Rattle.memory.specs.Bytes.{bytes_of}
 use Rattle.session.proofs.Digits.{length_bytes}
-use Rattle.saving.proofs.Laid.{then, laid_length, room, next_fit}
+use Rattle.saving.proofs.Laid.{then, room, next_fit}
 use Rattle.whole.specs.Forms.{bits_of}
 use Rattle.saving.proofs.sounds.lay_event.Goals as goal
 
@@ -33,11 +33,6 @@ pub put_float-requires : goal.put_float-requires
 put_float-requires c =
     next_fit c.put_float-last.ensures (bytes_of 8 (bits_of c.args.e.duty)) _ (length_bytes 8 _) (room
     c.put_float-next.ensures (bytes_of 8 (bits_of c.args.e.frequency) ++ bytes_of 8 (bits_of c.args.e.duty)) c.requires)
-
--- src/sounds.rt:24:1
-pub shape_of-out : goal.shape_of-out
-shape_of-out c =
-    laid_length (then c.put_float-next.ensures (then c.put_float-last.ensures c.put_float.ensures))
 
 -- src/sounds.rt:24:1
 pub returns : goal.returns

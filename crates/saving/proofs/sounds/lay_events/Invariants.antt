@@ -1,4 +1,3 @@
-use Rattle.std.proofs.Common.{◌-◌, ◌≤◌}
 use Rattle.saving.specs.Inner.{Laid}
 use Rattle.session.specs.Fields.{rows_of}
 use Rattle.timer.specs.Events.{queue_of, event_of}
@@ -7,8 +6,5 @@ use Rattle.saving.proofs.sounds.lay_events.Given as goal
 
 abbrev pub invariant-loop-i : goal.invariant-loop-i
 invariant-loop-i l =
-    (l.i ≤ l.n) × Laid l.initial.out l.out l.at l.next (rows_of (λ
+    Laid l.initial.out l.out l.at l.next (rows_of (λ
     j. event_row (event_of (queue_of l.onsets l.frequencies l.duties l.ring) j)) l.i)
-
-abbrev pub decreases-loop-i : goal.decreases-loop-i
-decreases-loop-i l = l.n - l.i

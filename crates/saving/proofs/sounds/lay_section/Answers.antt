@@ -1,4 +1,4 @@
-use Rattle.saving.proofs.Laid.{head_room, then, laid_length, room}
+use Rattle.saving.proofs.Laid.{head_room, then, room}
 use Rattle.session.specs.Sections.{events_section}
 use Rattle.saving.proofs.sounds.lay_section.Goals as goal
 
@@ -12,11 +12,6 @@ pub lay_events-requires : goal.lay_events-requires
 unfolding events_section
 lay_events-requires c =
     (room c.put-oldest.ensures _ c.requires.0, c.requires.1)
-
--- src/sounds.rt:76:1
-pub shape_of-out : goal.shape_of-out
-shape_of-out c =
-    laid_length (then c.put-oldest.ensures c.lay_events.ensures)
 
 -- src/sounds.rt:76:1
 pub returns : goal.returns

@@ -1,5 +1,5 @@
 use Rattle.std.proofs.Common.{◌++◌}
-use Rattle.saving.proofs.Laid.{first_of, zero_room, then, laid_length, room}
+use Rattle.saving.proofs.Laid.{first_of, zero_room, then, room}
 use Rattle.session.specs.Sections.{timers_section, words_section, devices_sections, presses_section, events_section}
 use Rattle.session.specs.Sections.{memory_sections}
 use Rattle.saving.specs.Inner.{layout}
@@ -129,13 +129,6 @@ lay_memories-requires c =
     c.args.k ++ (events_section (queue_of c.args.onsets.now c.args.frequencies.now c.args.duties.now c.args.ring)
     c.args.e ++ memory_sections c.args.ram.now c.args.sram.now c.args.gpio.now c.args.fb.now))))
     (zero_room _ _ c.requires.0))))))
-
--- src/units.rt:32:1
-pub shape_of-out : goal.shape_of-out
-shape_of-out c =
-    laid_length (then c.lay_timers-words.ensures (then c.lay_words-devices.ensures
-    (then c.lay_devices-tables.ensures (then c.lay_section-sounds.ensures
-    (then c.lay_section-memories.ensures (c.lay_memories.ensures))))))
 
 -- src/units.rt:32:1
 pub returns : goal.returns

@@ -5,7 +5,7 @@ use Rattle.saving.proofs.units.lay_parts.Goals as goal
 pub lay-requires : goal.lay-requires
 lay-requires c = (
   lay_room _ _ _ _ _ _ _ _ _ _ _ _ _ _ _ _ c.args.out.now c.args.n c.args.k c.args.e c.requires.0 c.requires.1.1.0
-      c.bytes_long.ensures c.bytes_long-2.ensures c.requires.1.0,
+      c.told-rtc c.told-page c.requires.1.0,
   c.requires.1.1.1,
 )
 

@@ -1,5 +1,5 @@
 use Rattle.std.proofs.Common.{◌++◌, arith}
-use Rattle.saving.proofs.Laid.{first_of, head_room, then, laid_length, room}
+use Rattle.saving.proofs.Laid.{first_of, head_room, then, room}
 use Rattle.session.specs.Sections.{cell_bytes, float_bytes, clocks_section}
 use Rattle.saving.proofs.writers.lay_clocks.Goals as goal
 
@@ -77,12 +77,6 @@ copy_out-requires c =
     (cell_bytes c.args.cells.now 37 3 ++ (cell_bytes c.args.cells.now 41 2 ++ c.args.rtc.now)))
     (room c.put-times.ensures (float_bytes c.args.floats.now 0 3 ++ (float_bytes c.args.floats.now 9 2 ++
     (cell_bytes c.args.cells.now 37 3 ++ (cell_bytes c.args.cells.now 41 2 ++ c.args.rtc.now)))) c.requires))))
-
--- src/writers.rt:61:1
-pub shape_of-out : goal.shape_of-out
-shape_of-out c =
-    laid_length (then c.put-times.ensures (then c.lay_floats-set.ensures (then c.lay_floats-ticks.ensures
-    (then c.lay_cells-latch.ensures (then c.lay_cells-regs.ensures c.copy_out.ensures)))))
 
 -- src/writers.rt:61:1
 pub returns : goal.returns

@@ -1,5 +1,5 @@
 use Rattle.std.proofs.Common.{◌++◌}
-use Rattle.saving.proofs.Laid.{first_of, then, laid_length, room}
+use Rattle.saving.proofs.Laid.{first_of, then, room}
 use Rattle.session.specs.Sections.{flags_section, panel_section, clocks_section, sound_section, flash_section}
 use Rattle.session.specs.Sections.{keys_section, devices_sections}
 use Rattle.saving.proofs.writers.lay_devices.Goals as goal
@@ -86,13 +86,6 @@ lay_keys-requires c =
     (panel_section c.args.cells.now ++ (clocks_section c.args.cells.now c.args.floats.now c.args.rtc.now ++
     (sound_section c.args.floats.now ++ (flash_section c.args.cells.now c.args.page.now ++ keys_section
     c.args.cells.now c.args.floats.now)))) c.requires))))
-
--- src/writers.rt:102:1
-pub shape_of-out : goal.shape_of-out
-shape_of-out c =
-    laid_length (then c.lay_flags-drawing.ensures (then c.lay_panel-times.ensures
-    (then c.lay_clocks-sound.ensures (then c.lay_sound-chip.ensures
-    (then c.lay_flash-down.ensures c.lay_keys.ensures)))))
 
 -- src/writers.rt:102:1
 pub returns : goal.returns

@@ -1,5 +1,5 @@
 use Rattle.std.proofs.Common.{◌++◌, arith}
-use Rattle.saving.proofs.Laid.{first_of, head_room, then, laid_length, room}
+use Rattle.saving.proofs.Laid.{first_of, head_room, then, room}
 use Rattle.session.specs.Sections.{cell_bytes, flash_section}
 use Rattle.saving.proofs.writers.lay_flash.Goals as goal
 
@@ -23,11 +23,6 @@ unfolding flash_section
 copy_out-requires c =
     room c.lay_cells-gathered.ensures (c.args.page.now) (room c.put-chip.ensures
     (cell_bytes c.args.cells.now 1 10 ++ c.args.page.now) c.requires)
-
--- src/writers.rt:82:1
-pub shape_of-out : goal.shape_of-out
-shape_of-out c =
-    laid_length (then c.put-chip.ensures (then c.lay_cells-gathered.ensures c.copy_out.ensures))
 
 -- src/writers.rt:82:1
 pub returns : goal.returns

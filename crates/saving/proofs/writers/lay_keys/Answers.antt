@@ -1,5 +1,5 @@
 use Rattle.std.proofs.Common.{◌++◌, arith}
-use Rattle.saving.proofs.Laid.{first_of, head_room, then, laid_length, room}
+use Rattle.saving.proofs.Laid.{first_of, head_room, then, room}
 use Rattle.session.specs.Sections.{cell_bytes, float_bytes, keys_section}
 use Rattle.saving.proofs.writers.lay_keys.Goals as goal
 
@@ -27,11 +27,6 @@ lay_floats-requires c = (
   omega
       arith,
 )
-
--- src/writers.rt:92:1
-pub shape_of-out : goal.shape_of-out
-shape_of-out c =
-    laid_length (then c.put-down.ensures (then c.lay_cells-holds.ensures c.lay_floats.ensures))
 
 -- src/writers.rt:92:1
 pub returns : goal.returns

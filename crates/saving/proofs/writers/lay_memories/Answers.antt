@@ -1,5 +1,5 @@
 use Rattle.std.proofs.Common.{◌++◌, length}
-use Rattle.saving.proofs.Laid.{first_of, then, laid_length, room}
+use Rattle.saving.proofs.Laid.{first_of, then, room}
 use Rattle.session.specs.Fields.{counted}
 use Rattle.session.specs.Sections.{memory_sections}
 use Rattle.saving.proofs.writers.lay_memories.Goals as goal
@@ -40,12 +40,6 @@ lay_memory-requires c =
     (length c.args.fb.now) c.args.fb.now) (room c.lay_memory-second.ensures (counted (length
     c.args.sram.now) c.args.sram.now ++ (counted (length c.args.gpio.now) c.args.gpio.now ++ counted
     (length c.args.fb.now) c.args.fb.now)) c.requires))
-
--- src/writers.rt:131:1
-pub shape_of-out : goal.shape_of-out
-shape_of-out c =
-    laid_length (then c.lay_memory-second.ensures (then c.lay_memory-third.ensures
-    (then c.lay_memory-fourth.ensures c.lay_memory.ensures)))
 
 -- src/writers.rt:131:1
 pub returns : goal.returns

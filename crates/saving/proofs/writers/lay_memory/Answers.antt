@@ -1,4 +1,4 @@
-use Rattle.saving.proofs.Laid.{head_room, then, laid_length, room}
+use Rattle.saving.proofs.Laid.{head_room, then, room}
 use Rattle.saving.proofs.writers.lay_memory.Goals as goal
 
 -- src/writers.rt:127:9
@@ -9,11 +9,6 @@ put-next-requires c = head_room _ _ _ _ c.requires
 pub copy_out-requires : goal.copy_out-requires
 copy_out-requires c =
     room c.put-next.ensures (c.args.bytes.now) c.requires
-
--- src/writers.rt:122:1
-pub shape_of-out : goal.shape_of-out
-shape_of-out c =
-    laid_length (then c.put-next.ensures c.copy_out.ensures)
 
 -- src/writers.rt:122:1
 pub returns : goal.returns

@@ -1,5 +1,5 @@
 use Rattle.std.proofs.Common.{arith}
-use Rattle.saving.proofs.Laid.{head_room, then, laid_length, room}
+use Rattle.saving.proofs.Laid.{head_room, then, room}
 use Rattle.session.specs.Sections.{cell_bytes, panel_section}
 use Rattle.saving.proofs.writers.lay_panel.Goals as goal
 
@@ -13,11 +13,6 @@ pub lay_cells-requires : goal.lay_cells-requires
 unfolding panel_section
 lay_cells-requires c =
     (room c.put-order.ensures (cell_bytes c.args.cells.now 11 14) c.requires, omega arith)
-
--- src/writers.rt:53:1
-pub shape_of-out : goal.shape_of-out
-shape_of-out c =
-    laid_length (then c.put-order.ensures c.lay_cells.ensures)
 
 -- src/writers.rt:53:1
 pub returns : goal.returns

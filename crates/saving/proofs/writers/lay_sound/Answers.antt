@@ -1,5 +1,5 @@
 use Rattle.std.proofs.Common.{arith}
-use Rattle.saving.proofs.Laid.{head_room, then, laid_length, room}
+use Rattle.saving.proofs.Laid.{head_room, then, room}
 use Rattle.session.specs.Sections.{float_bytes, sound_section}
 use Rattle.saving.proofs.writers.lay_sound.Goals as goal
 
@@ -13,11 +13,6 @@ pub lay_floats-requires : goal.lay_floats-requires
 unfolding sound_section
 lay_floats-requires c =
     (room c.put-tone.ensures (float_bytes c.args.floats.now 11 2) c.requires, omega arith)
-
--- src/writers.rt:74:1
-pub shape_of-out : goal.shape_of-out
-shape_of-out c =
-    laid_length (then c.put-tone.ensures c.lay_floats.ensures)
 
 -- src/writers.rt:74:1
 pub returns : goal.returns

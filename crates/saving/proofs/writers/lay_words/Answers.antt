@@ -1,5 +1,5 @@
 use Rattle.std.proofs.Common.{◌++◌}
-use Rattle.saving.proofs.Laid.{first_of, head_room, then, laid_length, room}
+use Rattle.saving.proofs.Laid.{first_of, head_room, then, room}
 use Rattle.session.specs.Sections.{slot_bytes, other_bytes, words_section}
 use Rattle.saving.proofs.writers.lay_words.Goals as goal
 
@@ -25,11 +25,6 @@ lay_others-requires c = (
       c.args.n) c.requires.0),
   c.requires.1,
 )
-
--- src/writers.rt:26:1
-pub shape_of-out : goal.shape_of-out
-shape_of-out c =
-    laid_length (then c.put-own.ensures (then c.lay_slots-others.ensures c.lay_others.ensures))
 
 -- src/writers.rt:26:1
 pub returns : goal.returns

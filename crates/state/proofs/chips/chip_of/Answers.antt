@@ -11,5 +11,4 @@ returns c =
       c.byte-3.ensures,
       c.byte-4.ensures,
       c.byte-5.ensures,
-      c.index.ensures,
     )

@@ -1,5 +1,5 @@
 use Rattle.std.proofs.Common.{ap}
-use Rattle.state.proofs.Puts.{timer_got, timer_none}
+use Rattle.state.proofs.Puts.{timer_got}
 use Rattle.state.specs.Bank.{timer_in}
 use Rattle.timer.specs.declared.Timer.{Timer}
 use Rattle.state.proofs.moments.pending_of.Goals as goal
@@ -9,8 +9,3 @@ unfolding timer_in
 returns-then-n-lt-TIMER_COUNT c =
     λ f. ap (λ (t : Timer). t.pending) (timer_got c.args.cells.now f
     c.args.n c.if-n-lt-TIMER_COUNT.true)
-
-pub returns : goal.returns
-returns c =
-    λ f. ap (λ (t : Timer). t.pending) (timer_none c.args.cells.now f c.args.n
-    c.if-n-lt-TIMER_COUNT.false)

@@ -5,5 +5,5 @@ use Rattle.state.proofs.moments.put_irq.Goals as goal
 pub returns : goal.returns
 returns c =
     irq_put_lem c.args.cells.now
-    c.args.floats.now c.cells_long.ensures
-    c.floats_long.ensures c.args.irq (search rules)
+    c.args.floats.now c.told-cells
+    c.told-floats c.args.irq (search rules)

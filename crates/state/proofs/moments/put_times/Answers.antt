@@ -3,5 +3,5 @@ use Rattle.state.proofs.moments.put_times.Goals as goal
 
 pub returns : goal.returns
 returns c =
-    λ l. times_put_lem c.args.floats.now c.floats_long.ensures l
+    λ l. times_put_lem c.args.floats.now c.told-floats l
     c.args.times

@@ -3,5 +3,5 @@ use Rattle.state.proofs.moments.put_vsync.Goals as goal
 
 pub returns : goal.returns
 returns c =
-    λ f. vsync_put_lem c.args.cells.now c.cells_long.ensures f
+    λ f. vsync_put_lem c.args.cells.now c.told-cells f
     c.args.n

@@ -4,5 +4,5 @@ use Rattle.state.proofs.panels.put_pen.Goals as goal
 
 pub returns : goal.returns
 returns c =
-    λ f. pen_put_lem c.args.cells.now c.cells_long.ensures f c.args.pen _ c.maybe_number.ensures
+    λ f. pen_put_lem c.args.cells.now c.told-cells f c.args.pen _ c.maybe_number.ensures
     (search rules) (search rules)

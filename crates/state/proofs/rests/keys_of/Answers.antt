@@ -3,4 +3,4 @@ use Rattle.state.proofs.rests.keys_of.Goals as goal
 
 pub returns : goal.returns
 unfolding keys_in
-returns c = rw (c.index.ensures, c.low.ensures)
+returns c = rw c.low.ensures

@@ -4,5 +4,5 @@ use Rattle.state.proofs.rests.put_applied.Goals as goal
 
 pub returns : goal.returns
 returns c =
-    λ f. applied_put_lem c.args.cells.now c.cells_long.ensures f
+    λ f. applied_put_lem c.args.cells.now c.told-cells f
     c.args.applied (search rules)

@@ -3,5 +3,5 @@ use Rattle.state.proofs.rests.put_count.Goals as goal
 
 pub returns : goal.returns
 returns c =
-    λ f. count_put_lem c.args.cells.now c.cells_long.ensures f
+    λ f. count_put_lem c.args.cells.now c.told-cells f
     c.args.n

@@ -5,5 +5,5 @@ use Rattle.state.proofs.rests.put_latch.Goals as goal
 pub returns : goal.returns
 returns c =
     latch_put_lem c.args.cells.now
-    c.args.floats.now c.cells_long.ensures
-    c.floats_long.ensures c.args.latch (search rules)
+    c.args.floats.now c.told-cells
+    c.told-floats c.args.latch (search rules)

@@ -3,5 +3,5 @@ use Rattle.state.proofs.rests.put_tone.Goals as goal
 
 pub returns : goal.returns
 returns c =
-    λ l. tone_put_lem c.args.floats.now c.floats_long.ensures l
+    λ l. tone_put_lem c.args.floats.now c.told-floats l
     c.args.tone

@@ -3,4 +3,4 @@ use Rattle.state.proofs.rests.ring_of.Goals as goal
 
 pub returns : goal.returns
 unfolding ring_in
-returns c = rw (c.byte.ensures, c.index.ensures)
+returns c = rw c.byte.ensures

@@ -3,4 +3,4 @@ use Rattle.system.proofs.wipe.fresh_clocks.Goals as goal
 
 pub returns : goal.returns
 unfolding fresh_clocks
-returns c = rw (c.fresh-times.ensures, c.fresh-timer.ensures, c.fresh-irq.ensures)
+returns c = rw (c.fresh.ensures, c.fresh-2.ensures, c.fresh-3.ensures)

@@ -3,5 +3,5 @@ use Rattle.system.proofs.wipe.fresh_parts.Goals as goal
 
 pub returns : goal.returns
 returns c =
-    parts_fresh c.new-made.ensures c.fresh-panel.ensures c.fresh_clocks-clocks.ensures c.fresh-rtc.ensures
-    c.silent-tone.ensures c.fresh-keys.ensures
+    parts_fresh c.new.ensures c.fresh.ensures c.fresh_clocks.ensures c.fresh-2.ensures
+    c.silent.ensures c.fresh-3.ensures

@@ -6,7 +6,7 @@ use Rattle.system.proofs.wipe.reset.Goals as goal
 
 pub returns : goal.returns
 returns c = (
-  state_fresh c.made.result c.clear.ensures c.fresh-chip.ensures c.made.ensures
+  state_fresh c.made.result c.clear.ensures c.fresh.ensures c.made.ensures
       c.empty_in.ensures c.clear-2.ensures (c.put_parts.ensures.2 ∙ c.fresh_parts.ensures),
   c.put_parts.ensures.0 ∙ ap (λ (x : Parts). cells_of x) c.fresh_parts.ensures,
   c.put_parts.ensures.1 ∙ ap (λ (x : Parts). floats_of x) c.fresh_parts.ensures,

@@ -1,27 +1,27 @@
-use Rattle.std.proofs.Common.{◌∙◌}
-use Rattle.time.proofs.Asks.{press_of_lem, count_still}
+use Rattle.std.proofs.lemmas.Result.{err_from_is_err_and}
+use Rattle.std.proofs.Common.{refl}
 use Rattle.state.proofs.Packs.{done_answered, none_put}
+use Rattle.whole.proofs.Answered.{code_not_done}
+use Rattle.time.proofs.Asks.{press_of_lem, count_still}
 use Rattle.time.proofs.buttons.press.Goals as goal
 
-pub returns-then-n-ne0 : goal.returns-then-n-ne0
-returns-then-n-ne0 c =
+pub returns-in_err-count : goal.returns-in_err-count
+returns-in_err-count g c =
     let a = c.args in
-    let same = count_still a.starts.now a.codes.now a.cells.now a.floats.now a.key a.at _
-    c.keys_of-before.ensures c.press-x.ensures
-    (λ z. c.if-n-ne0.true (c.key_number-n.ensures ∙ z))
-    in (
-      press_of_lem a.starts.now a.codes.now a.cells.now a.floats.now a.key a.at
-          c.times_of-moment.ensures c.keys_of-before.ensures
-          c.press-x.ensures same c.key_number-n.ensures,
+    let same = count_still a.starts.now a.codes.now a.cells.now a.floats.now a.key _ _ c.keys_of-before.ensures
+    c.in_err-count.ensures (code_not_done c.in_err-count.field-0.0) in
+    let p = err_from_is_err_and c.from_residual.result c.from_residual.ensures.1 in
+    rw (p.1, p.2) (
+      press_of_lem a.starts.now a.codes.now a.cells.now a.floats.now a.key _ c.times_of-moment.ensures
+          c.keys_of-before.ensures c.in_err-count.ensures same refl,
       none_put,
     )
 
 pub returns : goal.returns
-returns c =
-    let a = c.args in (
-      press_of_lem a.starts.now a.codes.now a.cells.now a.floats.now a.key a.at
-          c.times_of-moment.ensures c.keys_of-before.ensures
-          c.press-x.ensures (c.put_count.ensures _).parts c.key_number-n.ensures,
-      done_answered c.if-n-ne0.false
-          (c.put_count.ensures _).packed,
+returns g c =
+    let a = c.args in
+    let put = c.put_count.ensures a.floats.now in (
+      press_of_lem a.starts.now a.codes.now a.cells.now a.floats.now a.key _ c.times_of-moment.ensures
+          c.keys_of-before.ensures c.in_ok-count.ensures put.parts refl,
+      done_answered refl put.packed,
     )

@@ -1,4 +1,4 @@
-use Rattle.std.proofs.Common.{◌≡◌, refl, List, ℕ, ◌+◌, ◌-◌, arith, add-one, Float, set}
+use Rattle.std.proofs.Common.{◌≡◌, refl, List, ℕ, ◌+◌, add-one, Float, set}
 use Rattle.timer.specs.declared.Ring.{Ring}
 use Rattle.timer.specs.Events.{cleared, place_of}
 use Rattle.whole.specs.Forms.{nought}
@@ -12,20 +12,14 @@ one_more ring i place before now now-is place_is = rw (add-one i, now-is, place_
 
 pub loop-i-init : goal.loop-i-init
 unfolding cleared
-loop-i-init c = (omega arith, refl, refl, refl)
+loop-i-init c = (refl, refl, refl)
 
 pub loop-i-preserved : goal.loop-i-preserved
 loop-i-preserved c =
     let start = c.args in
     let lp = c.loop-i in
     let at = c.place-at.ensures in (
-      omega arith,
-      one_more start.ring lp.i _ start.onsets.now lp.onsets lp.invariant.1 at,
-      one_more start.ring lp.i _ start.frequencies.now lp.frequencies lp.invariant.2 at,
-      one_more start.ring lp.i _ start.duties.now lp.duties lp.invariant.3 at,
+      one_more start.ring lp.i _ start.onsets.now lp.onsets lp.invariant.0 at,
+      one_more start.ring lp.i _ start.frequencies.now lp.frequencies lp.invariant.1 at,
+      one_more start.ring lp.i _ start.duties.now lp.duties lp.invariant.2 at,
     )
-
-pub returns : goal.returns
-returns c =
-    let all : c.loop-i.i ≡ c.args.n = omega arith in
-    cc

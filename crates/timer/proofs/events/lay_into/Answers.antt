@@ -24,7 +24,6 @@ all q ys zs i n most least is laid = let same : i ≡ fit_of q.ring.count (lengt
 
 pub loop-i-init : goal.loop-i-init
 loop-i-init c = record {
-  in_count = omega arith;
   counted = c.fit_in-count.ensures;
   laid = over_none _ _;
 }
@@ -40,7 +39,6 @@ bounds-records-i c = below _ _ _ _ _ c.loop-i-test.true c.loop-i.invariant.count
 
 pub loop-i-preserved : goal.loop-i-preserved
 loop-i-preserved c = record {
-  in_count = omega arith;
   counted = c.loop-i.invariant.counted;
   laid = more _ _ _ _ c.loop-i.invariant.laid c.event_in.ensures;
 }
@@ -48,6 +46,6 @@ loop-i-preserved c = record {
 pub returns : goal.returns
 returns c =
     let q = queue_of c.args.onsets.now c.args.frequencies.now c.args.duties.now c.args.ring in
-    let laid = all q c.args.records.now _ _ _ c.loop-i.invariant.in_count c.loop-i-test.false
+    let laid = all q c.args.records.now _ _ _ (omega arith) c.loop-i-test.false
     c.loop-i.invariant.counted c.loop-i.invariant.laid ∙ over_laid q c.args.records.now in
     rw (laid, c.loop-i.invariant.counted)

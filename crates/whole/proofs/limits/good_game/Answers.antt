@@ -1,7 +1,10 @@
-use Rattle.std.proofs.Common.{ap, ◌∙◌}
+use Rattle.std.proofs.Common.{ap, ◌∙◌, from_bits}
+use Rattle.std.specs.Float.{binary64}
 use Rattle.whole.specs.Limits.{good_game}
+use Rattle.whole.proofs.Bits.{bits_back}
 use Rattle.whole.proofs.limits.good_game.Goals as goal
 
--- src/limits.rt:56:1
 pub returns : goal.returns
-returns c = c.game_bits.ensures ∙ ap good_game c.pattern.ensures
+returns c =
+    let back = ap (from_bits binary64) c.f64_to_bits_with_nan.ensures ∙ bits_back c.args.x c.well_formed.0.1 in
+    c.game_bits.ensures ∙ ap good_game back

@@ -1,4 +1,0 @@
-use Rattle.flash.proofs.buf.address.Goals as goal
-
-pub returns : goal.returns
-returns c = cc

@@ -1,4 +1,0 @@
-use Rattle.flash.proofs.buf.push.Goals as goal
-
-pub returns : goal.returns
-returns c = cc
