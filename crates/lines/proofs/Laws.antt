@@ -7,7 +7,8 @@ use Rattle.std.proofs.lemmas.List.{get_or-take, get_or-drop}
 use Rattle.std.proofs.lemmas.List.Sums.{fold_more}
 use Rattle.std.proofs.Common.{min, max, leb, leb-true, leb-false, Bool, true, false}
 use native.Mathlib.Nat.{pow-le-pow_right}
-use Rattle.io.specs.Digits.{last_digits, IsDigitCount}
+use Rattle.std.proofs.Common.{◌/◌, [], ◌∷◌, ◌++◌, sym, append_assoc, append-nil}
+use Rattle.io.specs.Digits.{hex_digit_ascii, last_digits, IsDigitCount}
 use Rattle.lines.specs.Line.{digit_of, number_at}
 use Rattle.lines.specs.Bytes.{digest_to, digest_of}
 
@@ -40,6 +41,25 @@ digest_whole bytes =
     rw (take_all (length bytes) bytes (omega arith)) at (digest_by_fold bytes (length bytes) (omega arith))
 
 -- ---- digits
+
+-- digits that are written one by one, from the front; docs/PORT.md names both laws
+pub hex_none : (a : List ℕ) (at width n : ℕ) → width ≤ 0 → take (at + width) a ≡ take at a ++ last_digits 16 width n
+hex_none a at zero n l = let e : at + 0 ≡ at = omega arith in rw e (sym (append-nil (take at a)))
+hex_none a at (suc w) n l = absurd (omega arith)
+
+-- the digits but the last lead from a to b, and the last from b to c
+pub hex_more : (a b c : List ℕ) (at width n g : ℕ) → 0 < width → take (at + (width - 1)) b ≡ take at a ++ last_digits 16
+    (width - 1) (n / 16)
+    → g ≡ hex_digit_ascii (n % 16) → take (at + width - 1 + 1) c ≡ take (at + width - 1) b ++ (g ∷ [])
+    → take (at + width) c ≡ take at a ++ last_digits 16 width n
+hex_more a b c at zero n g l p e q = absurd (omega arith)
+hex_more a b c at (suc w) n g l p e q =
+    let i : suc w - 1 ≡ w = omega arith in
+    let j : at + suc w - 1 ≡ at + w = omega arith in
+    let k : at + w + 1 ≡ at + suc w = omega arith in
+    (rw (j, k) at q) ∙ rw ((rw i at p), e) (append_assoc (take at a) (last_digits 16 w (n / 16))
+    (hex_digit_ascii (n % 16) ∷ []))
+
 -- a number that has room in m digits, and is padded to so many, has so many
 at_most : (m n k : ℕ) → n < 16 ^ m → IsDigitCount 16 m n k → k ≡ m
 at_most m n k s h = by (leb k m) refl

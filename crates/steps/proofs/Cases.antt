@@ -1,9 +1,16 @@
 -- One law for each way through a definition.
-use Rattle.std.proofs.Common.{◌≡◌, ℕ, true, false, eq-eqb, ne_eqb}
+use Rattle.std.proofs.Common.{◌≡◌, ℕ, List, true, false, eq-eqb, ne_eqb}
 use Rattle.steps.specs.declared.Output.TheVariants.{Nothing}
+use Rattle.steps.specs.declared.Fed.{Fed}
 use Rattle.steps.specs.declared.Session.{Session}
-use Rattle.steps.specs.Machine.{World, world, with_output, grown, is_empty}
+use Rattle.steps.specs.Machine.{World, world, world_output, with_output, grown, is_empty}
+use Rattle.steps.specs.Inner.{fed_with}
 use Rattle.steps.specs.Machine.{with_line, line_done, fed, finished}
+
+-- nothing is said; docs/decisions/names.md names the law
+pub no_output : {s : Session} {f : Fed} (p m : List ℕ) → f ≡ fed_with s Nothing
+    → world_output f p m ≡ with_output Nothing (world s p m)
+no_output p m e = rw e
 
 -- ---- a byte
 pub over_fed : (w : World) (c : ℕ) → w.session.over ≡ true → with_output Nothing w ≡ fed w c

@@ -13,6 +13,11 @@ use Rattle.steps.specs.Text.{decimal_in, field, hex_line, bad_line, count_progra
 pub after : {b c u : List ℕ} (a s t : List ℕ) → b ≡ a ++ s → c ≡ b ++ t → s ++ t ≡ u → c ≡ a ++ u
 after a s t p q e = q ∙ rw (p, ← e) (append_assoc a s t)
 
+-- ---- counting; docs/decisions/names.md names the law
+count_cons : (b : ℕ) (bs : List ℕ) → count_programmed (b ∷ bs) ≡ pick (eqb b 255) 0 1 + count_programmed bs
+unfolding count_programmed
+count_cons b bs = refl
+
 -- ---- digits
 -- the fewest digits are those of the definition
 spelled : (f k n : ℕ) → IsDigitCount 10 1 n k → k ≤ f → last_digits 10 k n ≡ decimal_in f n
