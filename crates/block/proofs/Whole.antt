@@ -111,21 +111,21 @@ module _ (r : Registers) (ram sram gpio l : List ℕ) (first size : ℕ) (top : 
       ∙ ap (λ (y : ℕ). take n (drop y l)) (add-zero (a - first))
 
 module _ (r : Registers) (ram sram gpio : List ℕ) (a n : ℕ) {l : List ℕ} where
-  laid_ram : (lies_in FLASH_BASE RAM_SIZE (length ram) a n ≡ true) × (l ≡ take n (drop (a - FLASH_BASE) ram))
+  pub laid_ram : (lies_in FLASH_BASE RAM_SIZE (length ram) a n ≡ true) × (l ≡ take n (drop (a - FLASH_BASE) ram))
       → l ≡ block_of r ram sram gpio a n
   laid_ram h =
       h.1
       ∙ sym (block_part r ram sram gpio ram FLASH_BASE RAM_SIZE (omega arith)
       (λ x b c. peek_ram r ram sram gpio x b (omega arith)) a n (lies _ _ _ a n h.0))
 
-  laid_sram : (lies_in SRAM_BASE SRAM_SIZE (length sram) a n ≡ true) × (l ≡ take n (drop (a - SRAM_BASE) sram))
+  pub laid_sram : (lies_in SRAM_BASE SRAM_SIZE (length sram) a n ≡ true) × (l ≡ take n (drop (a - SRAM_BASE) sram))
       → l ≡ block_of r ram sram gpio a n
   laid_sram h =
       h.1
       ∙ sym (block_part r ram sram gpio sram SRAM_BASE SRAM_SIZE (omega arith)
       (λ x b c. peek_sram r ram sram gpio x b (omega arith)) a n (lies _ _ _ a n h.0))
 
-  laid_gpio : (lies_in GPIO_BASE GPIO_SIZE (length gpio) a n ≡ true) × (l ≡ take n (drop (a - GPIO_BASE) gpio))
+  pub laid_gpio : (lies_in GPIO_BASE GPIO_SIZE (length gpio) a n ≡ true) × (l ≡ take n (drop (a - GPIO_BASE) gpio))
       → l ≡ block_of r ram sram gpio a n
   laid_gpio h =
       h.1

@@ -64,10 +64,10 @@ pub struct Seen<'a> {
 impl<'a> Seen<'a> {
     // The memory byte, the stored register byte or 0 at an address.
     #[tactic(auto, unfolding(crate::specs::Block::peek_of))]
-    pub fn peek8(self, addr: u32) -> u8
+    pub fn peek8(&self, addr: u32) -> u8
         ensures { result
-            ≡ peek_of (held_in self.entry)
-            self.entry.ram.now self.entry.sram.now self.entry.gpio.now addr }
+            ≡ peek_of (held_in self.now)
+            self.now.ram.now self.now.sram.now self.now.gpio.now addr }
     {
         let place = memory::locate(addr);
         match place {
@@ -83,10 +83,10 @@ impl<'a> Seen<'a> {
     }
 
     // Four bytes, each by itself, the lowest first.
-    pub fn peek32(self, addr: u32) -> u32
+    pub fn peek32(&self, addr: u32) -> u32
         ensures { result
-            ≡ peeked32 (held_in self.entry)
-            self.entry.ram.now self.entry.sram.now self.entry.gpio.now addr }
+            ≡ peeked32 (held_in self.now)
+            self.now.ram.now self.now.sram.now self.now.gpio.now addr }
     {
         let a = self.peek8(along(addr, 0));
         let b = self.peek8(along(addr, 1));
@@ -95,10 +95,10 @@ impl<'a> Seen<'a> {
         u32::from_le_bytes([a, b, c, d])
     }
 
-    fn gather(self, addr: u32, buf: &mut [u8])
+    fn gather(&self, addr: u32, buf: &mut [u8])
         ensures { buf.new
-            ≡ block_of (held_in self.entry)
-            self.entry.ram.now self.entry.sram.now self.entry.gpio.now addr (length buf.old) }
+            ≡ block_of (held_in self.now)
+            self.now.ram.now self.now.sram.now self.now.gpio.now addr (length buf.old) }
     {
         for (i, b) in buf.iter_mut().enumerate() {
             *b = self.peek8(along(addr, i));
@@ -106,26 +106,26 @@ impl<'a> Seen<'a> {
     }
 
     // Byte by byte only where a block does not lie in one memory.
-    fn copy(self, addr: u32, buf: &mut [u8])
+    fn copy(&self, addr: u32, buf: &mut [u8])
         ensures { buf.new
-            ≡ block_of (held_in self.entry)
-            self.entry.ram.now self.entry.sram.now self.entry.gpio.now addr (length buf.old) }
+            ≡ block_of (held_in self.now)
+            self.now.ram.now self.now.sram.now self.now.gpio.now addr (length buf.old) }
     {
         let n = buf.len();
         let run = part(self.ram, map::FLASH_BASE, map::RAM_SIZE, addr, n)
             .or(part(self.sram, map::SRAM_BASE, map::SRAM_SIZE, addr, n))
             .or(part(self.gpio, map::GPIO_BASE, map::GPIO_SIZE, addr, n));
         match run {
-            Some(bytes) => buf.copy_from_slice(bytes),
+            Some(bytes) => memory::copy(buf, bytes),
             None => self.gather(addr, buf),
         }
     }
 
     // A block of the bus; the answer says whether it lies in one memory.
-    pub fn read_block(self, addr: u32, buf: &mut [u8]) -> bool
+    pub fn read_block(&self, addr: u32, buf: &mut [u8]) -> bool
         ensures { block result buf.new
-            ≡ read_of (held_in self.entry)
-            self.entry.ram.now self.entry.sram.now self.entry.gpio.now addr (length buf.old) }
+            ≡ read_of (held_in self.now)
+            self.now.ram.now self.now.sram.now self.now.gpio.now addr (length buf.old) }
     {
         let n = buf.len();
         self.copy(addr, buf);

@@ -76,7 +76,7 @@ module _ (slots : List ℕ) (d : Devices) (clock : ℕ) (full : Bool) where
   Spared x = Alone d x.wrote.devices
 
   sound_alone : (next : Devices) (word v : ℕ) → Alone d next → Spared (sound_written slots d next clock full word v)
-  sound_alone next word v h = by_sound Spared slots d clock full next word v (λ r e. (refl, refl)) (λ e. h)
+  sound_alone next word v h = by_sound Spared slots d clock full next word v (λ e. (refl, refl)) (λ e. h)
       (λ tone e. h)
 
   timer_alone : (n word old new : ℕ) → Spared (timer_written slots d clock full n word old new)

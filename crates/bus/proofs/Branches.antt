@@ -1,6 +1,6 @@
 -- What holds of every branch of a write holds of the write: each branch with the facts that lead to it.
 use Prim.Native.Nat.{ℕ}
-use mathlib.Core.Path.{◌≡◌, refl}
+use mathlib.Core.Path.{◌≡◌, refl, sym, ap, ◌∙◌}
 use mathlib.Core.Bool.{Bool, true, false, cond}
 use mathlib.Core.List.{List}
 use mathlib.Core.Logic.{◌≢◌}
@@ -10,8 +10,8 @@ use lib.Dec.{eqb}
 use borrow.Author.Tests.{eqb-true, eqb-false}
 use Rattle.std.specs.Prelude.{Err, None, Ok, Some}
 use Rattle.map.specs.declared.refusals.Refusal.{Refusal}
-use Rattle.map.specs.Refusals.{code_of}
-use Rattle.map.specs.Numbers.{DONE}
+use Rattle.map.specs.declared.refusals.Refusal.TheVariants.{SoundFull}
+use Rattle.map.specs.Numbers.{DONE, SOUND_FULL}
 use Rattle.whole.proofs.Choice.{by_cond}
 use Rattle.memory.specs.declared.Place.{Place}
 use Rattle.memory.specs.declared.Place.TheVariants.{Ram, Sram, Gpio, Register, Stray}
@@ -22,7 +22,7 @@ use Rattle.panel.specs.Entries.{screen}
 use Rattle.clock.specs.Rtc.{rtc_of}
 use Rattle.timer.specs.declared.Tone.{Tone}
 use Rattle.timer.specs.declared.Written.{Written}
-use Rattle.timer.specs.Sound.{Sounded}
+use Rattle.timer.specs.Sound.{Sounded, sounded_of, differ_of}
 use Rattle.timer.specs.Timers.{written_of}
 use Rattle.registers.specs.declared.Effect.{Effect}
 use Rattle.registers.specs.declared.Effect.TheVariants.{TimerControl, DayField, Sound, LcdStatus, Tick, AdcControl}
@@ -49,6 +49,23 @@ use Rattle.time.specs.Clocks.{clock_in}
 
 by_equal : {A : Type 0} (P : A → Type 0) (i k : ℕ) (x y : A) → (i ≡ k → P x) → (i ≢ k → P y) → P (cond (eqb i k) x y)
 by_equal P i k x y f g = by_cond P (eqb i k) x y (λ e. f (eqb-true i k e)) (λ e. g (eqb-false i k e))
+
+-- ---- the buzzer
+
+-- a refusal is for want of room
+abbrev refusal_in : Sounded → Refusal
+refusal_in (Err r) = r
+refusal_in (Ok x) = SoundFull
+
+full_alone : (slots : List ℕ) (tone : Tone) (clock : ℕ) (full : Bool) (word v : ℕ) (r : Refusal)
+    → sound_of slots tone clock full word v ≡ Err r → r ≡ SoundFull
+unfolding sound_of sounded_of
+full_alone slots tone clock full word v r e = sym (ap refusal_in e) ∙ by (differ_of _ tone) full _
+  where
+    by : (a b : Bool) (new : Tone) → refusal_in (cond a (cond b (Err SoundFull) (Ok (Some new))) (Ok None)) ≡ SoundFull
+    by true true new = refl
+    by true false new = refl
+    by false b new = refl
 
 -- ---- the ports whose words are only stored
 
@@ -143,8 +160,8 @@ module _ (P : OwnOut → Type 0) (slots : List ℕ) (d : Devices) (clock : ℕ) 
   by_word_lem Power word old new part timer day sound lcd tick adc power spi = power
   by_word_lem SpiSend word old new part timer day sound lcd tick adc power spi = spi
 
-  pub by_sound : (next : Devices) (word v : ℕ) → ((r : Refusal) → sound_of slots d.tone clock full word v ≡ Err r
-      → P (own_out slots (answer (code_of r) d)))
+  pub by_sound : (next : Devices) (word v : ℕ) → (sound_of slots d.tone clock full word v ≡ Err SoundFull
+      → P (own_out slots (answer SOUND_FULL d)))
       → (sound_of slots d.tone clock full word v ≡ (Ok None) → P (own_done (own_with slots word v) next))
       → ((tone : Tone) → sound_of slots d.tone clock full word v ≡ Ok (Some tone)
       → P (own_out (own_with slots word v) (record { refusal = DONE; event = true; devices = with_tone next tone })))
@@ -153,7 +170,8 @@ module _ (P : OwnOut → Type 0) (slots : List ℕ) (d : Devices) (clock : ℕ) 
   by_sound next word v refused same change = go (sound_of slots d.tone clock full word v) refl
     where
       go : (x : Sounded) → sound_of slots d.tone clock full word v ≡ x → P (sounding x slots d next word v)
-      go (Err r) e = refused r e
+      go (Err r) e = let f : r ≡ SoundFull = full_alone slots d.tone clock full word v r e in
+          rw f (refused (e ∙ ap Err f))
       go (Ok None) e = same e
       go (Ok (Some tone)) e = change tone e
 

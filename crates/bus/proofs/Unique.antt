@@ -1,10 +1,13 @@
 -- The contracts leave one outcome each.
 use Prim.Native.Nat.{ℕ}
 use mathlib.Core.Path.{◌≡◌, sym, ap, ◌∙◌}
-use mathlib.Core.Bool.{Bool}
+use mathlib.Core.Bool.{Bool, false}
 use mathlib.Core.List.{List}
 use lib.Ieee.{Float}
+use Rattle.std.specs.Prelude.{Result}
+use Rattle.map.specs.declared.refusals.Refusal.{Refusal}
 use Rattle.whole.proofs.Unique.{unique}
+use Rattle.whole.proofs.Answered.{answer_tells}
 use Rattle.timer.specs.declared.Queue.{Queue}
 use Rattle.timer.specs.Events.{queue_of}
 use Rattle.registers.specs.declared.Registers.{Registers}
@@ -13,8 +16,8 @@ use Rattle.state.specs.Parts.{parts}
 use Rattle.state.specs.Bank.{parts_in}
 use Rattle.state.specs.Packed.{Packed, Answered}
 use Rattle.state.proofs.Packs.{one_later}
-use Rattle.bus.specs.Answers.{Got}
-use Rattle.bus.specs.Answers.{WriteAnswer}
+use Rattle.bus.specs.Answers.{Got, got_of, WriteAnswer, answer_of}
+use Rattle.bus.specs.declared.Accepted.{Accepted}
 use Rattle.bus.specs.World.{World, world, out}
 use Rattle.bus.specs.Bank.{out_of}
 use Rattle.bus.specs.Write.{Noted, together}
@@ -63,6 +66,24 @@ one_write_words d {l₁ = l₁} {l₂ = l₂} {v₁ = v₁} {v₂ = v₂} x r₁
 pub one_read : (d : ReadOut) (v w : List ℕ) (g h : Got) → got v g ≡ d → got w h ≡ d → (v ≡ w) × (g ≡ h)
 one_read d v w g h i k = let z : got v g ≡ got w h = unique i k in
     (ap (λ (o : ReadOut). o.slots) z, ap (λ (o : ReadOut). o.got) z)
+
+-- and what answers so is one result, of a read and of a write
+pub one_read_result : (d : ReadOut) (v w : List ℕ) (r s : Result ℕ Refusal) → got v (got_of r) ≡ d
+    → got w (got_of s) ≡ d → (v ≡ w) × (r ≡ s)
+one_read_result d v w r s i k =
+    let z : got v (got_of r) ≡ got w (got_of s) = unique i k in (
+      ap (λ (o : ReadOut). o.slots) z,
+      answer_tells 0 r s (ap (λ (o : ReadOut). o.got.refusal) z) (ap (λ (o : ReadOut). o.got.value) z),
+    )
+
+pub one_write_result : (d : WriteAnswer) (r s : Result Accepted Refusal) → answer_of r ≡ d → answer_of s ≡ d → r ≡ s
+one_write_result d r s i k =
+    let z : answer_of r ≡ answer_of s = unique i k in
+    answer_tells (record { event = false }) r s (ap (λ (o : WriteAnswer). o.refusal) z)
+    (ap (λ (o : WriteAnswer). accepted o.event) z)
+  where
+    accepted : Bool → Accepted
+    accepted e = record { event = e }
 
 pub one_word : (d : Given) (v w : List ℕ) (m n : ℕ) → given v m ≡ d → given w n ≡ d → (v ≡ w) × (m ≡ n)
 one_word d v w m n i k = let z : given v m ≡ given w n = unique i k in

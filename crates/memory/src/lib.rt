@@ -4,7 +4,7 @@
 // Every size is taken: to refuse one is the caller's matter.
 #![tactic(auto)]
 
-ghost use Rattle.std.specs.Prelude.{◌≡◌, ◌+◌, ◌*◌, ◌%◌, ◌^◌, ◌≤◌, length, get_or};
+ghost use Rattle.std.specs.Prelude.{◌≡◌, ◌+◌, ◌*◌, ◌%◌, ◌^◌, ◌≤◌, ◌++◌, length, take, drop, get_or};
 ghost use Rattle.memory.specs.Places.{place_of};
 ghost use Rattle.memory.specs.Bytes.{le, loaded, bytes_of, stored_at};
 ghost use Rattle.memory.specs.Access.{good_size, shifted, mask_of, cut_of, written_of, merged_of};
@@ -43,6 +43,18 @@ pub fn byte(m: &[u8], at: usize) -> u8
     ensures { result ≡ get_or m.now at 0 }
 {
     m.get(at).copied().unwrap_or(0)
+}
+
+// Bytes laid over the first of as many, in a loop of its own: the library's copy_from_slice is a call of the C
+// library's memmove, which a host would have to have, and which leaves what it copies in registers that this code
+// does not use. Where one of the two is shorter, what has no counterpart stays.
+pub fn copy(to: &mut [u8], from: &[u8])
+    ensures { to.new ≡ take (length to.old) from.now ++ drop (length from.now) to.old }
+{
+    let n = to.len().min(from.len());
+    for (i, b) in to[..n].iter_mut().enumerate() {
+        *b = from[i];
+    }
 }
 
 // A byte below the value so far: the Rust's `v << 8 | b`, whose top byte is lost.

@@ -4,24 +4,11 @@ use crate::memories;
 use crate::script::{Script, TooLong};
 use lines::{Answer, Machine, Memories, Step, answered, digest, lent, refused};
 
-#[derive(Drop)]
+#[derive(Default, Drop)]
 pub struct Desk {
     memories: Memories,
     script: Script,
     out: [u8; 32768],
-}
-
-// The slice before a run, so that bytes that stay can be told from zeros.
-fn untouched() -> [u8; 32768] {
-    [0xA5; 32768]
-}
-
-pub(crate) fn fresh() -> Desk {
-    Desk {
-        memories: Memories::default(),
-        script: Script::default(),
-        out: untouched(),
-    }
 }
 
 // The number that bytes are, the lowest first.
@@ -33,18 +20,26 @@ fn word(bytes: &[u8]) -> u64 {
 }
 
 impl Desk {
+    // The slice before a run, so that bytes that stay can be told from zeros. It is filled where it stands: a desk that
+    // a function makes with it and returns would be on the stack twice.
+    pub(crate) fn clear_answers(&mut self) {
+        self.out.fill(0xA5);
+    }
+
     // A new script, where there is room for it.
     fn lay(&mut self, length: u64) -> Answer {
         match self.script.lay(length) {
             Ok(()) => {
-                self.out = untouched();
+                self.clear_answers();
                 answered(0, 0, 0)
             }
             Err(TooLong) => refused(1),
         }
     }
 
-    // The script, with so many bytes lent for its answers.
+    // The script, with so many bytes lent for its answers. Not inlined: the state that a script has on the stack is not
+    // every step's.
+    #[inline(never)]
     fn run(&mut self, room: u64) -> Answer {
         let out = &mut self.out[..];
         let m = lent(room, out);

@@ -7,5 +7,7 @@ mod memories;
 mod script;
 
 fn main(rt: HostRuntime) {
-    lines::serve(&mut desk::fresh(), &mut rt.stdin(), &mut rt.stdout());
+    let mut desk = desk::Desk::default();
+    desk.clear_answers();
+    lines::serve(&mut desk, &mut rt.stdin(), &mut rt.stdout());
 }

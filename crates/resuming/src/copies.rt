@@ -8,5 +8,5 @@ pub(crate) fn copy_in(bytes: &mut [u8], s: &[u8], at: usize)
     ensures { bytes.new ≡ part s.now at (length bytes.old) }
 {
     let end = at + bytes.len();
-    bytes.copy_from_slice(&s[at..end]);
+    memory::copy(bytes, &s[at..end]);
 }

@@ -12,20 +12,20 @@ use Rattle.session.specs.Sections.{used_from, used_of}
 
 -- ---- places that are used
 
-used_here : (values : List ℕ) (i n : ℕ) → i < n → get_or values i 0 ≡ 0 → used_from values i (n - i) ≡ i
+pub used_here : (values : List ℕ) (i n : ℕ) → i < n → get_or values i 0 ≡ 0 → used_from values i (n - i) ≡ i
 unfolding used_from
 used_here values i n below e =
     let more : n - i ≡ suc (n - (i + 1)) = omega arith in
     rw (more, eq-eqb (get_or values i 0) 0 e)
 
-used_on : (values : List ℕ) (i n : ℕ) → i < n → get_or values i 0 ≢ 0
+pub used_on : (values : List ℕ) (i n : ℕ) → i < n → get_or values i 0 ≢ 0
     → used_from values i (n - i) ≡ used_from values (i + 1) (n - (i + 1))
 unfolding used_from
 used_on values i n below e =
     let more : n - i ≡ suc (n - (i + 1)) = omega arith in
     rw (more, ne_eqb (get_or values i 0) 0 e)
 
-used_end : (values : List ℕ) (i n : ℕ) → n ≤ i → used_from values i (n - i) ≡ i
+pub used_end : (values : List ℕ) (i n : ℕ) → n ≤ i → used_from values i (n - i) ≡ i
 unfolding used_from
 used_end values i n past = let none : n - i ≡ 0 = omega arith in rw none
 

@@ -7,6 +7,6 @@ pub(crate) fn copy_out(out: &mut [u8], at: usize, bytes: &[u8]) -> usize
     ensures { Laid out.old out.new at result bytes.now }
 {
     let end = at + bytes.len();
-    out[at..end].copy_from_slice(bytes);
+    memory::copy(&mut out[at..end], bytes);
     end
 }

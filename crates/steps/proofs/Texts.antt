@@ -20,7 +20,7 @@ count_cons b bs = refl
 
 -- ---- digits
 -- the fewest digits are those of the definition
-spelled : (f k n : ℕ) → IsDigitCount 10 1 n k → k ≤ f → last_digits 10 k n ≡ decimal_in f n
+pub spelled : (f k n : ℕ) → IsDigitCount 10 1 n k → k ≤ f → last_digits 10 k n ≡ decimal_in f n
 unfolding decimal_in
 spelled f zero n h l = absurd (omega (arith, h.0))
 spelled zero (suc k) n h l = absurd (omega arith)
@@ -54,7 +54,7 @@ at_most b width m n k o l s h = by (leb k m) refl
         let q : b ^ (k - 1) ≤ n = h.2 (omega arith) in absurd (omega arith)
 
 -- a u64 has at most 20 digits
-twenty : (n k : ℕ) → n < 2 ^ 64 → IsDigitCount 10 1 n k → k ≤ 20
+pub twenty : (n k : ℕ) → n < 2 ^ 64 → IsDigitCount 10 1 n k → k ≤ 20
 twenty n k s h = let l : n < 10 ^ 20 = omega arith in at_most 10 1 20 n k (omega arith) (omega arith) l h
 
 -- a byte has two hex digits
@@ -62,7 +62,7 @@ two : (n k : ℕ) → n < 256 → IsDigitCount 16 2 n k → k ≡ 2
 two n k s h =
     let l : k ≤ 2 = at_most 16 2 2 n k (omega arith) (omega arith) s h in omega (arith, h.0)
 
-few : (f n : ℕ) → length (decimal_in f n) ≤ f
+pub few : (f n : ℕ) → length (decimal_in f n) ≤ f
 unfolding decimal_in
 few zero n = omega arith
 few (suc f) n = by (ltb n 10) (decimal_in f (n / 10)) (hex_digit_ascii n) (hex_digit_ascii (n % 10)) (few f (n / 10))

@@ -45,8 +45,9 @@ impl Desk {
 
     // Takes what is there, with one read, and writes every answer to it before the next read: a partner that waits for
     // an answer has it, where the writer keeps nothing back, as standard output does. A read that fails is the end of
-    // the input, since a bad line alone ends a session without its last line. What 4,096 bytes can say has room.
-    fn listen<R: Read, W: Write>(&mut self, input: &mut R, output: &mut W) -> Turn
+    // the input, since a bad line alone ends a session without its last line. What 4,096 bytes can say has room. The
+    // text is lent, so that the stack holds one, and what it held before is gone.
+    fn listen<R: Read, W: Write>(&mut self, input: &mut R, output: &mut W, out: &mut Text) -> Turn
         ensures { Reaches (world_of self.old) (world_of self.new) }
     {
         let mut chunk = [0u8; 4096];
@@ -54,8 +55,8 @@ impl Desk {
         if n == 0 {
             return Turn::End;
         }
-        let mut out = Text::new();
-        self.answer(&chunk[..n], &mut out);
+        out.clear();
+        self.answer(&chunk[..n], out);
         match output.write_all(out.as_slice()) {
             Err(_) => Turn::Lost,
             Ok(()) if self.session.over => Turn::End,
@@ -64,11 +65,11 @@ impl Desk {
     }
 
     // Nothing says that the input ends, so the turns are counted, up to a number that no run uses up.
-    fn converse<R: Read, W: Write>(&mut self, input: &mut R, output: &mut W) -> Turn
+    fn converse<R: Read, W: Write>(&mut self, input: &mut R, output: &mut W, out: &mut Text) -> Turn
         ensures { Reaches (world_of self.old) (world_of self.new) }
     {
         for _ in 0..u64::MAX {
-            let turn = self.listen(input, output);
+            let turn = self.listen(input, output, out);
             if turn != Turn::More {
                 return turn;
             }
@@ -124,8 +125,9 @@ pub fn serve<R: Read, W: Write>(mode: Mode, input: &mut R, output: &mut W) -> Se
         page,
         array: erase(),
     };
-    let turn = desk.converse(input, output);
     let mut out = Text::new();
+    let turn = desk.converse(input, output, &mut out);
+    out.clear();
     desk.close(&mut out);
     if turn != Turn::Lost {
         let _ = output.write_all(out.as_slice());

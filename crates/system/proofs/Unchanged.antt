@@ -76,7 +76,7 @@ SaidPlainly slots d x = x.wrote.refusal ≢ DONE → x ≡ own_out slots (answer
 module _ (slots : List ℕ) (d : Devices) (clock : ℕ) (full : Bool) where
   sound_plain : (next : Devices) (word v : ℕ) → SaidPlainly slots d (sound_written slots d next clock full word v)
   sound_plain next word v =
-      by_sound (SaidPlainly slots d) slots d clock full next word v (λ r e h. refl) (λ e h. absurd (h refl))
+      by_sound (SaidPlainly slots d) slots d clock full next word v (λ e h. refl) (λ e h. absurd (h refl))
       (λ tone e h. absurd (h refl))
 
   word_plain : (e : Effect) (word old new part : ℕ)

@@ -2,8 +2,13 @@
 use Prim.Native.Nat.{ℕ}
 use mathlib.Core.Path.{◌≡◌, ap}
 use mathlib.Core.List.{List}
+use Rattle.std.specs.Prelude.{Result}
+use Rattle.map.specs.declared.refusals.Refusal.{Refusal}
 use Rattle.whole.proofs.Unique.{unique}
-use Rattle.system.specs.Calls.{Changed}
+use Rattle.whole.proofs.Answered.{answer_tells}
+use Rattle.timer.specs.declared.Event.{Event}
+use Rattle.timer.specs.Events.{nothing}
+use Rattle.system.specs.Calls.{Changed, changed_by, Read, read_by, Taken, taken_by}
 use Rattle.system.specs.declared.System.{System}
 use Rattle.system.specs.System.{Machine, machine, Left, left}
 use Rattle.system.specs.Calls.{Moved, moved}
@@ -31,3 +36,22 @@ one_wipe d s t ram ram₁ sram sram₁ gpio gpio₁ fb fb₁ i k =
       ap (λ (o : Machine). o.gpio) e,
       ap (λ (o : Machine). o.fb) e,
     )
+
+-- and what answers so is one result: of a call that changes the state, of a read, and of an event that is taken
+pub one_changed_result : (d : Changed) (s : System) (r q : Result System Refusal) → changed_by s r ≡ d
+    → changed_by s q ≡ d → r ≡ q
+one_changed_result d s r q i k =
+    let e : changed_by s r ≡ changed_by s q = unique i k in
+    answer_tells s r q (ap (λ (o : Changed). o.refusal) e) (ap (λ (o : Changed). o.system) e)
+
+pub one_read_result : (d : Read) (s : System) (r q : Result (ℕ × System) Refusal) → read_by s r ≡ d
+    → read_by s q ≡ d → r ≡ q
+one_read_result d s r q i k =
+    let e : read_by s r ≡ read_by s q = unique i k in
+    answer_tells (0, s) r q (ap (λ (o : Read). o.refusal) e) (ap (λ (o : Read). (o.value, o.system)) e)
+
+pub one_taken_result : (d : Taken) (s : System) (r q : Result (Event × System) Refusal) → taken_by s r ≡ d
+    → taken_by s q ≡ d → r ≡ q
+one_taken_result d s r q i k =
+    let e : taken_by s r ≡ taken_by s q = unique i k in
+    answer_tells (nothing, s) r q (ap (λ (o : Taken). o.refusal) e) (ap (λ (o : Taken). (o.event, o.system)) e)

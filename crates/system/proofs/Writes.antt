@@ -162,7 +162,7 @@ module _ (r : Registers) (rtc : List ℕ) (d : Devices) (w : BusWithin r rtc d) 
     sound_kept : (next : Devices) (word v : ℕ) → Kept (own_with r.slots word v) next
         → SaidKept (sound_written r.slots d next clock full word v)
     sound_kept next word v h =
-        by_sound SaidKept r.slots d clock full next word v (λ n e. w) (λ e. h)
+        by_sound SaidKept r.slots d clock full next word v (λ e. w) (λ e. h)
         (λ tone e. record {
           registers = h.registers;
           others = h.others;

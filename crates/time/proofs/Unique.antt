@@ -1,11 +1,15 @@
 -- What meets a contract that is an equation is the only thing that does. The bank's later parts are one; from a
 -- packed bank the later words are then one too (crate state, one-later).
 use Rattle.std.proofs.Common.{◌≡◌, ℕ, List, ap}
+use Rattle.std.specs.Prelude.{Result, from_bits}
+use Rattle.std.specs.Float.{binary64}
 use lib.Ieee.{Float}
+use Rattle.map.specs.declared.refusals.Refusal.{Refusal}
 use Rattle.whole.proofs.Unique.{unique}
+use Rattle.whole.proofs.Answered.{answer_tells}
 use Rattle.timer.specs.declared.Event.{Event}
 use Rattle.state.specs.declared.Parts.{Parts}
-use Rattle.time.specs.Next.{NextTime}
+use Rattle.time.specs.Next.{NextTime, next_answer}
 use Rattle.time.specs.Bank.{MovedBank, moved_bank, Asked, asked, Pressed, pressed, Took, took}
 
 -- of an advance there is one answer, and the later words, lines and parts are one
@@ -23,6 +27,12 @@ one_advance d o p g h m n x y a b =
 -- of a next event there is one answer
 pub one_next : (d r s : NextTime) → r ≡ d → s ≡ d → r ≡ s
 one_next d r s x y = unique x y
+
+-- and what answers so is one result
+pub one_next_result : (d : NextTime) (r s : Result Float Refusal) → next_answer r ≡ d → next_answer s ≡ d → r ≡ s
+one_next_result d r s x y =
+    let e : next_answer r ≡ next_answer s = unique x y in
+    answer_tells (from_bits binary64 0) r s (ap (λ (z : NextTime). z.refusal) e) (ap (λ (z : NextTime). z.time) e)
 
 -- of a turbo, a live key and a tap; of a press; of an event that is taken
 pub one_asked : (d : Asked) (x y : Parts) (m n : ℕ) → asked x m ≡ d → asked y n ≡ d → (x ≡ y) × (m ≡ n)

@@ -1,7 +1,7 @@
 // The times and turbos that are accepted, of a float or of its bits; and what is finite.
 ghost use Rattle.std.specs.Prelude.{◌≡◌, from_bits, Float};
 ghost use Rattle.std.specs.Float.{binary64};
-ghost use Rattle.whole.specs.Limits.{finite, good_time, good_game, good_turbo, given_of};
+ghost use Rattle.whole.specs.Limits.{finite, good_time, good_game, good_turbo, given_of, time_of, turbo_of};
 
 use std::num::f64_to_bits_with_nan;
 
@@ -88,14 +88,18 @@ pub struct Bits(pub u64);
 impl Given for Bits {
     ghost float = { λ bits. from_bits binary64 bits.0 };
 
-    fn time(self) -> Option<f64> {
+    fn time(self) -> Option<f64>
+        ensures { result ≡ time_of self.0 }
+    {
         if time_bits(self.0) {
             return Some(f64::from_bits(self.0));
         }
         None
     }
 
-    fn turbo(self) -> Option<f64> {
+    fn turbo(self) -> Option<f64>
+        ensures { result ≡ turbo_of self.0 }
+    {
         if turbo_bits(self.0) {
             return Some(f64::from_bits(self.0));
         }

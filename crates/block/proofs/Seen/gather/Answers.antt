@@ -7,8 +7,8 @@ pub loop-i-preserved : goal.loop-i-preserved
 loop-i-preserved c =
     let a = c.args in
     let l = c.loop-i in
-    let f : ℕ → ℕ = (λ k. peek_on (held_in a.self) a.self.ram.now
-    a.self.sram.now a.self.gpio.now a.addr k) in
+    let f : ℕ → ℕ = (λ k. peek_on (held_in a.self.now) a.self.now.ram.now
+    a.self.now.sram.now a.self.now.gpio.now a.addr k) in
     let m : l.i < length a.buf.now = omega arith in
     rw (l.invariant, c.peek8.ensures, c.along.ensures, add-one)
     (table_step f l.i 0 l.i a.buf.now (omega arith) m)

@@ -5,8 +5,8 @@ use Rattle.block.proofs.Seen.peek32.Goals as goal
 pub returns : goal.returns
 returns c =
     let a = c.args in
-    let r = held_in a.self in
-    word_joined r a.self.ram.now a.self.sram.now a.self.gpio.now a.addr
+    let r = held_in a.self.now in
+    word_joined r a.self.now.ram.now a.self.now.sram.now a.self.now.gpio.now a.addr
     c.along.ensures
     c.peek8-a.ensures c.along-2.ensures
     c.peek8-b.ensures c.along-3.ensures
